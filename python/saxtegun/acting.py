@@ -1,10 +1,11 @@
 """A stage of a step in words and in the game's letters: what acted, what changed, and where pieces head."""
 from __future__ import annotations
 
+from functools import lru_cache
 from typing import Dict, List, Mapping, NamedTuple, Optional, Sequence, Tuple
 
 from saxtegun.commands import cut, plural
-from saxtegun.culprits import repeated_in
+from saxtegun.culprits import Repeated, repeated_in
 from saxtegun.explaining import CELLS_TOLD, STOPS, cell_told, input_told, source_line
 from saxtegun.games import Game, game_of
 from saxtegun.levels import Labels, in_rows, read_cells, width_of
@@ -50,10 +51,15 @@ def where_told(entry: Entry, at: int, tick: int = 0) -> str:
     return f"{where}, tick {tick}" if tick else where
 
 
+@lru_cache(maxsize=2)
+def loops_in(source: str) -> List[Repeated]:
+    return [it for it in repeated_in(source) if it.is_loop]
+
+
 def block_told(stage: Stage, source: str) -> str:
     """A group, a loop or a rule, by its lines."""
     first, last = min(stage.lines, default=0), max(stage.lines, default=0)
-    loop = next((it for it in repeated_in(source) if it.is_loop and it.first < first and last < it.last), None)
+    loop = next((it for it in loops_in(source) if it.first < first and last < it.last), None)
     if loop is not None:
         return f"{stage.name} loop of lines {loop.first} to {loop.last}"
     return f"{stage.name} rule on line {first}" if first == last else f"{stage.name} group of lines {first} to {last}"

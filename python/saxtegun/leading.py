@@ -25,6 +25,7 @@ MARKS = re.compile(r"[\[\]|]|->")
 MOST_MATCHED = 300
 # So many lines of rules are told below a sentence, of each text.
 LINES_TOLD = 3
+TOO_LONG = "not all stages were looked at, since that took too long"
 
 
 class Side(NamedTuple):
@@ -41,7 +42,7 @@ Sides = Tuple[Side, Side]
 @lru_cache(maxsize=2)
 def rules_of(source: str) -> Dict[int, str]:
     """The lines of the rules of a source by their numbers, however they are spaced, without comments."""
-    return {it.number: " ".join(words_of(MARKS.sub(r" \g<0> ", fold(it.text)))) for it in lines_of(source) if it.section == "rules"}
+    return {it.number: " ".join(words_of(MARKS.sub(r" \g<0> ", fold(it.text)))) for it in lines_of(source) if it.section == "rules" and it.text}
 
 
 def matched(one: Sequence[str], other: Sequence[str]) -> Iterator[Tuple[int, int]]:
@@ -102,9 +103,17 @@ def blocks_behind(told: Iterator[Told], tick: int) -> List[Stage]:
     return found
 
 
-def parted_at(sides: Sides, at: int, engine: Engine) -> Optional[Parted]:
-    """Where the stages of an input part over two texts; None where they are the same."""
-    one, other = (stages_of(it.entry, at, engine) for it in sides)
+def in_time(told: Iterator[Told], end: float) -> Iterator[Told]:
+    """Stages as long as there is time. Refused then: there may be more of them than are read soon."""
+    for it in told:
+        if monotonic() > end:
+            raise Unanswered(TOO_LONG)
+        yield it
+
+
+def parted_at(sides: Sides, at: int, engine: Engine, end: float) -> Optional[Parted]:
+    """Where the stages of an input part over two texts; None where they are the same. Refused where that isn't known in time."""
+    one, other = (in_time(stages_of(it.entry, at, engine), end) for it in sides)
     before: Optional[Stage] = None
     for left, right in zip_longest(one, other):
         if not is_same_stage(left, right):
@@ -237,13 +246,13 @@ def inputs_to_try(entry: Entry, runs: Tuple[Run, Run], parting: Optional[Parting
 
 
 def stage_parting(sides: Sides, runs: Tuple[Run, Run], parting: Optional[Parting], engine: Engine, seconds: float) -> Optional[Led]:
-    """At which stage two texts part; None where none does. Refused where not all that are to be looked at were, in so many seconds."""
-    begin = monotonic()
+    """At which stage two texts part; None where none does. Refused where that isn't known in so many seconds."""
+    end = monotonic() + min(seconds, EXPLAINING.left)
     for at in inputs_to_try(sides[1].entry, runs, parting):
-        if not EXPLAINING.is_left() or monotonic() - begin > seconds:
-            raise Unanswered("not all stages were looked at, since that took too long")
+        if monotonic() > end:
+            raise Unanswered(TOO_LONG)
         with EXPLAINING.spent():
-            parted = parted_at(sides, at, engine)
+            parted = parted_at(sides, at, engine, end)
         if parted is not None:
             return Telling(sides, at, parted).told()
     return None
