@@ -1,6 +1,7 @@
 """`saxtegun why`: the stages of an input, drawn; the stage at which two texts of a game part; and that `test` leads there."""
 import json
 import os
+import shutil
 import unittest
 from unittest import mock
 
@@ -182,6 +183,15 @@ class Programs(unittest.TestCase):
         words = {it: value for it, value in os.environ.items() if it != "SAXTEGUN_STAGES"}
         with mock.patch.dict(os.environ, words, clear=True), mock.patch.multiple(programs, STAGES=(), STAGES_IN_NODE=programs.TOP / "none", CHOSEN_FOR_STAGES=[]):
             self.assertRaisesRegex(Refused, "nothing here tells stages", programs.stages_words)
+
+
+    @unittest.skipUnless(shutil.which("node"), "there is no Node")
+    def test_without_a_program_it_is_the_module_in_node(self):
+        words = {it: value for it, value in os.environ.items() if it != "SAXTEGUN_STAGES"}
+        script = programs.TOP / "engine/replay.mjs"
+        with mock.patch.dict(os.environ, words, clear=True), mock.patch.multiple(programs, STAGES=(), STAGES_IN_NODE=script, CHOSEN_FOR_STAGES=[]):
+            self.assertEqual(programs.stages_words(), [shutil.which("node"), str(script)])
+            self.assertEqual(os.environ["SAXTEGUN_MODULE"], str(programs.RELEASED / programs.MODULE))
 
 
 class InWords(unittest.TestCase):

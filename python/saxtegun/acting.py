@@ -107,7 +107,7 @@ def picture(rows: Rows, changed: Sequence[Tuple[int, int]], headings: Sequence[H
     if headings:
         parts.append(("heading", map_of(rows, arrows_of(headings))))
     room = max(len(rows[0]), len("changed")) + 4
-    return ["| " + "".join(it.ljust(room) for it in line).rstrip() for line in zip(*([name, *drawn] for name, drawn in parts))]
+    return ["| " + "".join(it.ljust(room) for it in line).rstrip() for line in zip(*([name, *map_rows] for name, map_rows in parts))]
 
 
 def heading_told(it: Heading) -> str:

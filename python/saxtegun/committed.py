@@ -117,9 +117,8 @@ def leads(found: Sequence[Broken], path: str, engine: Engine) -> Dict[int, List[
     told: Dict[int, List[str]] = {}
     try:
         for it in found:
-            limit = min(SECONDS_TO_LEAD, max(EXPLAINING.left, 0))
             sides = Side("the committed text", it.old, Text(it.old.source, "", engine.order)), Side("the new text", it.new, Text(it.new.source, path, engine.order))
-            led = stage_parting(sides, it.runs, it.parting, engine._replace(seconds=limit), limit) if limit else None
+            led = stage_parting(sides, it.runs, it.parting, engine, SECONDS_TO_LEAD)
             if led is not None:
                 told[it.new.number] = [led.sentence, *led.rules]
     except Refused:

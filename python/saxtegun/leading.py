@@ -249,10 +249,11 @@ def stage_parting(sides: Sides, runs: Tuple[Run, Run], parting: Optional[Parting
     """At which stage two texts part; None where none does. Refused where that isn't known in so many seconds."""
     end = monotonic() + min(seconds, EXPLAINING.left)
     for at in inputs_to_try(sides[1].entry, runs, parting):
-        if monotonic() > end:
+        left = end - monotonic()
+        if left <= 0:
             raise Unanswered(TOO_LONG)
         with EXPLAINING.spent():
-            parted = parted_at(sides, at, engine, end)
+            parted = parted_at(sides, at, engine._replace(seconds=min(left, engine.seconds or left)), end)
         if parted is not None:
             return Telling(sides, at, parted).told()
     return None
