@@ -70,11 +70,7 @@ class Mutated(OnSessions):
         # a program that shows the same whatever it is given
         self.program = self.write("program", f"#!/bin/sh\ncat {self.room}/shown\nexit 1\n")
         self.program.chmod(0o755)
-        stager = self.write("stager", f"#!/bin/sh\ncat {self.room}/stages\n")
-        stager.chmod(0o755)
-        named = mock.patch.dict(os.environ, {"SAXTEGUN_STAGES": str(stager)})
-        named.start()
-        self.addCleanup(named.stop)
+        self.tell_stages(STAGES)
 
     def answer(self, *words):
         """The status of a verb, called within this process; a refusal is 2, and anything else that it raises fails the test."""

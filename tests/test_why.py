@@ -217,6 +217,10 @@ class InWords(unittest.TestCase):
         self.assertEqual(counterparts(old, new), {20: {22}, 21: {23}, 22: {24}})
         self.assertEqual(rules_of(new)[22], "[ a ] -> [ b ]")
         self.assertEqual(sorted(matched(["a", "b", "z"], ["a", "z"])), [(0, 0), (2, 1)])
+        # the second was edited, and moved before the first
+        self.assertEqual(sorted(matched(["[ x ] -> [ y ]", "late [ crate mark ] -> [ spike ] win"], ["late [ crate mark ] -> [ spike ]", "[ x ] -> [ y ]"])), [(0, 1), (1, 0)])
+        long = [f"{it} {it}" for it in range(1000)]
+        self.assertEqual(sorted(matched(["a", *long, "z"], ["b", *reversed(long), "z"])), [(1001, 1001)])
 
 
 @plays
@@ -238,6 +242,25 @@ class DayOfWhy(OfAGame):
                 self.assertEqual(first, f"session 0, a: {where.partition(', tick')[0]}")
                 self.assertIn("(loop-limit)", last)
                 self.assertEqual("tick 1" in answer.out, "tick 1" in where)
+
+    def test_a_text_that_stops_says_what_acts_there_in_the_other(self):
+        source = json.loads((CASES / "walk-two-steps-right-against-a-wall/input.json").read_text(encoding="utf-8"))[0][1][0].replace("#p.#", "p.c")
+        old, new = (self.write(name, source.replace("RULES\n", f"RULES\n{rules}\n")) for name, rules in (("o.txt", "[ Crate ] -> [ Spike ]"), ("n.txt", "[ Crate ] -> [ Spike ]\n+ [ Spike ] -> [ Crate ]")))
+        lines = run("why", new, self.write_entries([["a", ["", [3], ""]]]), "--session", "a", "--old", old).out.splitlines()
+        self.assertEqual(lines[0].partition(", and")[0], "session 0, a: input 0 (right): behind the same stages the new text stops: a group of rules or a loop still changed something in its 200th pass (loop-limit)")
+        self.assertEqual(lines[2:], [f"    in the old text, {old}:26: [ Crate ] -> [ Spike ]"])
+
+    def test_a_checkpoint_that_is_gone_is_found_before_the_frames_part(self):
+        """The first press sets it and the third input goes back to it; the rule was also moved."""
+        source = json.loads((CASES / "walk-two-steps-right-against-a-wall/input.json").read_text(encoding="utf-8"))[0][1][0].replace("#p.#", "p..")
+        rules = "[ Crate ] -> [ Spike ]\n[ > Player | no Crate ] -> [ > Player | ] {}\n", "[ > Player | no Crate ] -> [ > Player | ]\n[ Crate ] -> [ Spike ]\n"
+        old, new = (self.write(name, source.replace("RULES\n", f"RULES\n{it.format('checkpoint')}")) for name, it in zip(("o.txt", "n.txt"), rules))
+        answer = run("why", new, self.write_entries([["a", ["", [3, 3, "restart"], ""]]]), "--session", "a", "--old", old)
+        self.assertEqual(answer.out.splitlines()[:2], [
+            "session 0, a: input 0 (right), early rule on line 27: gives checkpoint in the old text, not in the new text",
+            "    the frames part at frame 3, after input 2 (restart)",
+        ])  # fmt: skip
+        self.assertIn(f"    in the new text, {new}:26: [ > Player | no Crate ] -> [ > Player | ]\n", answer.out)
 
     def test_commands_and_ends_are_told(self):
         source = json.loads((CASES / "walk-two-steps-right-against-a-wall/input.json").read_text(encoding="utf-8"))[0][1][0]

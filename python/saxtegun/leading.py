@@ -2,7 +2,7 @@
 from __future__ import annotations
 
 import re
-from difflib import SequenceMatcher
+from difflib import SequenceMatcher, get_close_matches
 from functools import lru_cache
 from itertools import zip_longest
 from time import monotonic
@@ -23,6 +23,9 @@ from saxtegun.stages import NAMES, Stage, Stop, Told, stages_of
 MARKS = re.compile(r"[\[\]|]|->")
 # So many rule lines that differ are matched with one another, of each text.
 MOST_MATCHED = 300
+# Of those that then belong to none so many are compared with one another, by so many of their letters.
+MOST_COMPARED = 30
+MOST_LETTERS = 200
 # So many lines of rules are told below a sentence, of each text.
 LINES_TOLD = 3
 TOO_LONG = "not all stages were looked at, since that took too long"
@@ -45,8 +48,28 @@ def rules_of(source: str) -> Dict[int, str]:
     return {it.number: " ".join(words_of(MARKS.sub(r" \g<0> ", fold(it.text)))) for it in lines_of(source) if it.section == "rules" and it.text}
 
 
-def matched(one: Sequence[str], other: Sequence[str]) -> Iterator[Tuple[int, int]]:
+def in_place(one: Sequence[str], other: Sequence[str]) -> Iterator[Tuple[int, int]]:
     """The places of two lists of lines that belong together: the same lines, and those that stand in the place of others."""
+    for kind, begin, end, at, to in SequenceMatcher(None, one, other, False).get_opcodes():
+        if kind == "equal" or (kind == "replace" and end - begin == to - at):
+            yield from zip(range(begin, end), range(at, to))
+        elif kind == "replace":
+            yield from ((it, there) for it in range(begin, end) for there in range(at, to))
+
+
+def by_likeness(one: Sequence[str], other: Sequence[str], left: Sequence[int], others: Sequence[int]) -> Iterator[Tuple[int, int]]:
+    """Of lines that belong to none as yet each with the likest: one that was edited and moved."""
+    free = {it: other[it][:MOST_LETTERS] for it in others}
+    for it in left:
+        near = get_close_matches(one[it][:MOST_LETTERS], free.values(), 1)
+        if near:
+            there = next(number for number, line in free.items() if line == near[0])
+            del free[there]
+            yield it, there
+
+
+def matched(one: Sequence[str], other: Sequence[str]) -> Iterator[Tuple[int, int]]:
+    """The places of two lists of lines that belong together."""
     first = next((at for at, (left, right) in enumerate(zip(one, other)) if left != right), min(len(one), len(other)))
     rest = min(len(one), len(other)) - first
     last = next((at for at in range(rest) if one[len(one) - 1 - at] != other[len(other) - 1 - at]), rest)
@@ -55,11 +78,11 @@ def matched(one: Sequence[str], other: Sequence[str]) -> Iterator[Tuple[int, int
     middle, others = one[first : len(one) - last], other[first : len(other) - last]
     if max(len(middle), len(others)) > MOST_MATCHED:
         return
-    for kind, begin, end, at, to in SequenceMatcher(None, middle, others, False).get_opcodes():
-        if kind == "equal" or (kind == "replace" and end - begin == to - at):
-            yield from zip(range(first + begin, first + end), range(first + at, first + to))
-        elif kind == "replace":
-            yield from ((first + it, first + there) for it in range(begin, end) for there in range(at, to))
+    found = list(in_place(middle, others))
+    left, right = ([it for it in range(len(lines)) if it not in taken] for lines, taken in ((middle, {it for it, _ in found}), (others, {it for _, it in found})))
+    if max(len(left), len(right)) <= MOST_COMPARED:
+        found += by_likeness(middle, others, left, right)
+    yield from ((first + it, first + there) for it, there in found)
 
 
 @lru_cache(maxsize=2)
@@ -166,7 +189,8 @@ class Telling:
 
     def alone(self, number: int, stage: Stage) -> Led:
         """That a group acts in one text and not in the other."""
-        sentence = f"{self.named(number, stage)}: acts in {self.name(number)}, not in {self.name(1 - number)}"
+        does = "acts" if stage.is_changed else f"gives {', '.join(stage.commands)}"
+        sentence = f"{self.named(number, stage)}: {does} in {self.name(number)}, not in {self.name(1 - number)}"
         return Led(sentence, self.rules(number, stage), drawn(stage, self.parted.before, self.sides[number].text))
 
     def both(self, one: Stage, other: Stage) -> Led:
@@ -177,8 +201,10 @@ class Telling:
         return Led(f"{self.named(0, one)}: {acts}{self.difference(one, other)}", self.rules(0, one) if one.is_block else [], drawing)
 
     def stopped(self, number: int, stop: Stop) -> Led:
-        where = where_told(self.sides[number].entry, self.at, stop.tick)
-        return Led(f"{where}: behind the same stages {self.name(number)} stops: {cause_told(stop.cause)} ({stop.cause})", [], [])
+        """That a step stops in one text, with the group that acts there in the other."""
+        where, there = where_told(self.sides[number].entry, self.at, stop.tick), self.parted[1 - number]
+        rules = self.rules(1 - number, there) if isinstance(there, Stage) and there.is_block else []
+        return Led(f"{where}: behind the same stages {self.name(number)} stops: {cause_told(stop.cause)} ({stop.cause})", rules, [])
 
     def name(self, number: int) -> str:
         return self.sides[number].name
