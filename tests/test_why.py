@@ -48,6 +48,8 @@ levels
 #####
 """
 LINE = 20
+# A game without rules, whose level is `#p.#`, and whose first rule would stand on line 26.
+WALK = json.loads((CASES / "walk-two-steps-right-against-a-wall/input.json").read_text(encoding="utf-8"))[0][1][0]
 PRESSED = "the press\n    | level      heading\n    | #####      .....\n    | #.pc.      ..>..\n    | #####      .....\n    column 3, row 2: player heads right\n"
 HEADED = "    | level      heading\n    | #####      .....\n    | #.pc.      ..>>.\n    | #####      .....\n    column 4, row 2: crate heads right\n"
 MOVED = """\
@@ -228,7 +230,7 @@ class InWords(unittest.TestCase):
 class DayOfWhy(OfAGame):
     def test_the_stop_is_the_input_in_whose_step_it_is(self):
         """A tick that changes nothing shows nothing; behind it the third input stops. And a stop in a tick that again has asked for."""
-        source = json.loads((CASES / "walk-two-steps-right-against-a-wall/input.json").read_text(encoding="utf-8"))[0][1][0]
+        source = WALK
         for rules, level, inputs, where in (
             ("[ > Player | Wall ] -> [ > Player | Wall Mark ]\n[ Mark ] -> [ ]\n+ [ Wall ] -> [ Wall Mark ]", "p.#", [3, "tick", 3], "input 0 (right)"),
             ("late [ Player Mark ] -> [ Player ]\n+ [ Player | | Wall ] -> [ Player Mark | | Wall ]", "p..#", [3, "tick", 3], "input 0 (right)"),
@@ -244,7 +246,7 @@ class DayOfWhy(OfAGame):
                 self.assertEqual("tick 1" in answer.out, "tick 1" in where)
 
     def test_a_text_that_stops_says_what_acts_there_in_the_other(self):
-        source = json.loads((CASES / "walk-two-steps-right-against-a-wall/input.json").read_text(encoding="utf-8"))[0][1][0].replace("#p.#", "p.c")
+        source = WALK.replace("#p.#", "p.c")
         old, new = (self.write(name, source.replace("RULES\n", f"RULES\n{rules}\n")) for name, rules in (("o.txt", "[ Crate ] -> [ Spike ]"), ("n.txt", "[ Crate ] -> [ Spike ]\n+ [ Spike ] -> [ Crate ]")))
         lines = run("why", new, self.write_entries([["a", ["", [3], ""]]]), "--session", "a", "--old", old).out.splitlines()
         self.assertEqual(lines[0].partition(", and")[0], "session 0, a: input 0 (right): behind the same stages the new text stops: a group of rules or a loop still changed something in its 200th pass (loop-limit)")
@@ -252,7 +254,7 @@ class DayOfWhy(OfAGame):
 
     def test_a_checkpoint_that_is_gone_is_found_before_the_frames_part(self):
         """The first press sets it and the third input goes back to it; the rule was also moved."""
-        source = json.loads((CASES / "walk-two-steps-right-against-a-wall/input.json").read_text(encoding="utf-8"))[0][1][0].replace("#p.#", "p..")
+        source = WALK.replace("#p.#", "p..")
         rules = "[ Crate ] -> [ Spike ]\n[ > Player | no Crate ] -> [ > Player | ] {}\n", "[ > Player | no Crate ] -> [ > Player | ]\n[ Crate ] -> [ Spike ]\n"
         old, new = (self.write(name, source.replace("RULES\n", f"RULES\n{it.format('checkpoint')}")) for name, it in zip(("o.txt", "n.txt"), rules))
         answer = run("why", new, self.write_entries([["a", ["", [3, 3, "restart"], ""]]]), "--session", "a", "--old", old)
@@ -262,8 +264,15 @@ class DayOfWhy(OfAGame):
         ])  # fmt: skip
         self.assertIn(f"    in the new text, {new}:26: [ > Player | no Crate ] -> [ > Player | ]\n", answer.out)
 
+    def test_an_input_that_only_one_text_takes_leads_to_why(self):
+        """In the old text the first press wins, which shows the same frame, and play is over."""
+        source = WALK.replace("#p.#", "p..")
+        old, new = self.write("o.txt", source.replace("RULES\n", "RULES\n[ > Player ] -> win\n")), self.write("n.txt", source)
+        answer = run("why", new, self.write_entries([["a", ["", [3, 3], ""]]]), "--session", "a", "--old", old)
+        self.assertEqual(answer.out.splitlines()[0], "session 0, a: input 0 (right), early rule on line 26: gives win in the old text, not in the new text")
+
     def test_commands_and_ends_are_told(self):
-        source = json.loads((CASES / "walk-two-steps-right-against-a-wall/input.json").read_text(encoding="utf-8"))[0][1][0]
+        source = WALK
         text = source.replace("RULES\n", "RULES\n[ > Player ] -> cancel checkpoint\n")
         answer = run("why", self.write("game.txt", text), self.write_entries([["a", ["", [3], ""]]]), "--session", "a")
         self.assertIn("early rule on line 26: changes nothing, gives cancel, checkpoint\n", answer.out)

@@ -105,6 +105,11 @@ class Parted(NamedTuple):
     before: Optional[Stage]
     later: Tuple[List[Stage], List[Stage]]
 
+    @property
+    def is_of_all(self) -> bool:
+        """Whether only one text has stages."""
+        return self.before is None and (self.one is None or self.other is None)
+
 
 def is_same_stage(one: Optional[Told], other: Optional[Told]) -> bool:
     """Whether two stages do the same, by whichever rules."""
@@ -262,27 +267,36 @@ class Telling:
         return "; ".join(differs)
 
 
-def inputs_to_try(entry: Entry, runs: Tuple[Run, Run], parting: Optional[Parting]) -> Iterator[int]:
-    """Behind which inputs two runs may part in their stages: from where their frames first do or one may have stopped, and then those before it."""
+def inputs_to_try(entry: Entry, runs: Tuple[Run, Run], parting: Optional[Parting]) -> Tuple[range, range]:
+    """Behind which inputs two runs may part in their stages: from where their frames first do or one may have stopped, and else those before it."""
     last = min((it.at for it in (parting.one, parting.other) if it is not None), default=len(entry.inputs)) if parting else len(entry.inputs)
     # behind its last frame a run may stop in a step that shows none
     first = min([last, *(run.frames[-1].at for run in runs if run.close == "stopped")]) if parting else 0
-    yield from range(first, last + 1)
-    yield from range(first)
+    return range(first, last + 1), range(first)
 
 
-def stage_parting(sides: Sides, runs: Tuple[Run, Run], parting: Optional[Parting], engine: Engine, seconds: float) -> Optional[Led]:
-    """At which stage two texts part; None where none does. Refused where that isn't known in so many seconds."""
-    end = monotonic() + min(seconds, EXPLAINING.left)
-    for at in inputs_to_try(sides[1].entry, runs, parting):
+def first_parted(sides: Sides, inputs: range, engine: Engine, end: float) -> Optional[Tuple[int, Parted]]:
+    """The first of these inputs whose stages part, and where. Refused where that isn't known in time."""
+    for at in inputs:
         left = end - monotonic()
         if left <= 0:
             raise Unanswered(TOO_LONG)
         with EXPLAINING.spent():
             parted = parted_at(sides, at, engine._replace(seconds=min(left, engine.seconds or left)), end)
         if parted is not None:
-            return Telling(sides, at, parted).told()
+            return at, parted
     return None
+
+
+def stage_parting(sides: Sides, runs: Tuple[Run, Run], parting: Optional[Parting], engine: Engine, seconds: float) -> Optional[Led]:
+    """At which stage two texts part; None where none does. Refused where that isn't known in so many seconds."""
+    end = monotonic() + min(seconds, EXPLAINING.left)
+    likely, before = inputs_to_try(sides[1].entry, runs, parting)
+    found = first_parted(sides, likely, engine, end)
+    if found is None or found[1].is_of_all:
+        # an input that only one text takes follows from what the texts did before it
+        found = first_parted(sides, before, engine, end) or found
+    return Telling(sides, *found).told() if found else None
 
 
 NO_STAGE = "no stage parts: what differs is in no rule (win conditions, levels, objects)"
