@@ -222,7 +222,7 @@ class InWords(unittest.TestCase):
         # the second was edited, and moved before the first
         self.assertEqual(sorted(matched(["[ x ] -> [ y ]", "late [ crate mark ] -> [ spike ] win"], ["late [ crate mark ] -> [ spike ]", "[ x ] -> [ y ]"])), [(0, 1), (1, 0)])
         long = [f"{it} {it}" for it in range(1000)]
-        self.assertEqual(sorted(matched(["a", *long, "z"], ["b", *reversed(long), "z"])), [(1001, 1001)])
+        self.assertEqual(sorted(matched(["a", *long, "z"], ["b", *reversed(long), "z"])), [*((it, 1001 - it) for it in range(1, 1001)), (1001, 1001)])
 
 
 @plays

@@ -21,7 +21,7 @@ from saxtegun.sources import lines_of, words_of
 from saxtegun.stages import NAMES, Stage, Stop, Told, stages_of
 
 MARKS = re.compile(r"[\[\]|]|->")
-# So many rule lines that differ are matched with one another, of each text.
+# So many rule lines that differ are matched with one another by their places, of each text.
 MOST_MATCHED = 300
 # Of those that then belong to none so many are compared with one another, by so many of their letters.
 MOST_COMPARED = 30
@@ -48,8 +48,11 @@ def rules_of(source: str) -> Dict[int, str]:
     return {it.number: " ".join(words_of(MARKS.sub(r" \g<0> ", fold(it.text)))) for it in lines_of(source) if it.section == "rules" and it.text}
 
 
+Pairs = List[Tuple[int, int]]
+
+
 def in_place(one: Sequence[str], other: Sequence[str]) -> Iterator[Tuple[int, int]]:
-    """The places of two lists of lines that belong together: the same lines, and those that stand in the place of others."""
+    """The same lines of two lists, and those that stand in the place of others."""
     for kind, begin, end, at, to in SequenceMatcher(None, one, other, False).get_opcodes():
         if kind == "equal" or (kind == "replace" and end - begin == to - at):
             yield from zip(range(begin, end), range(at, to))
@@ -57,10 +60,24 @@ def in_place(one: Sequence[str], other: Sequence[str]) -> Iterator[Tuple[int, in
             yield from ((it, there) for it in range(begin, end) for there in range(at, to))
 
 
-def by_likeness(one: Sequence[str], other: Sequence[str], left: Sequence[int], others: Sequence[int]) -> Iterator[Tuple[int, int]]:
-    """Of lines that belong to none as yet each with the likest: one that was edited and moved."""
+def left_by(pairs: Pairs, one: Sequence[str], other: Sequence[str]) -> Tuple[List[int], List[int]]:
+    """The places of the lines that belong to none."""
+    taken, there = {it for it, _ in pairs}, {it for _, it in pairs}
+    return [it for it in range(len(one)) if it not in taken], [it for it in range(len(other)) if it not in there]
+
+
+def moved(pairs: Pairs, one: Sequence[str], other: Sequence[str]) -> Iterator[Tuple[int, int]]:
+    """Of the lines that belong to none those that are the same."""
+    left, others = left_by(pairs, one, other)
+    there = {other[it]: it for it in reversed(others)}
+    yield from ((it, there.pop(one[it])) for it in left if one[it] in there)
+
+
+def moved_and_edited(pairs: Pairs, one: Sequence[str], other: Sequence[str]) -> Iterator[Tuple[int, int]]:
+    """Of the lines that belong to none each with the likest, unless there are many."""
+    left, others = left_by(pairs, one, other)
     free = {it: other[it][:MOST_LETTERS] for it in others}
-    for it in left:
+    for it in left if max(len(left), len(others)) <= MOST_COMPARED else []:
         near = get_close_matches(one[it][:MOST_LETTERS], free.values(), 1)
         if near:
             there = next(number for number, line in free.items() if line == near[0])
@@ -68,21 +85,17 @@ def by_likeness(one: Sequence[str], other: Sequence[str], left: Sequence[int], o
             yield it, there
 
 
-def matched(one: Sequence[str], other: Sequence[str]) -> Iterator[Tuple[int, int]]:
+def matched(one: Sequence[str], other: Sequence[str]) -> Pairs:
     """The places of two lists of lines that belong together."""
-    first = next((at for at, (left, right) in enumerate(zip(one, other)) if left != right), min(len(one), len(other)))
-    rest = min(len(one), len(other)) - first
-    last = next((at for at in range(rest) if one[len(one) - 1 - at] != other[len(other) - 1 - at]), rest)
-    yield from ((at, at) for at in range(first))
-    yield from ((len(one) - 1 - at, len(other) - 1 - at) for at in range(last))
+    most = min(len(one), len(other))
+    first = next((at for at in range(most) if one[at] != other[at]), most)
+    last = next((at for at in range(most - first) if one[-1 - at] != other[-1 - at]), most - first)
     middle, others = one[first : len(one) - last], other[first : len(other) - last]
-    if max(len(middle), len(others)) > MOST_MATCHED:
-        return
-    found = list(in_place(middle, others))
-    left, right = ([it for it in range(len(lines)) if it not in taken] for lines, taken in ((middle, {it for it, _ in found}), (others, {it for _, it in found})))
-    if max(len(left), len(right)) <= MOST_COMPARED:
-        found += by_likeness(middle, others, left, right)
-    yield from ((first + it, first + there) for it, there in found)
+    pairs = list(in_place(middle, others)) if max(len(middle), len(others)) <= MOST_MATCHED else []
+    for more in (moved, moved_and_edited):
+        pairs += list(more(pairs, middle, others))
+    ends = [(len(one) - 1 - at, len(other) - 1 - at) for at in range(last)]
+    return [*((at, at) for at in range(first)), *((first + it, first + there) for it, there in pairs), *ends]
 
 
 @lru_cache(maxsize=2)
