@@ -3,6 +3,7 @@ import json
 import os
 import shutil
 import unittest
+from time import monotonic
 from unittest import mock
 
 from day import OnSessions
@@ -11,11 +12,16 @@ from test_committed import STUCK, InAGitFolder
 from test_stages import tells_stages
 from test_test import OfAGame
 from tool import CASES, plays, run
-from saxtegun import programs
+from saxtegun import committed, programs
 from saxtegun.acting import Text, block_told, drawn, picture
+from saxtegun.budget import EXPLAINING
 from saxtegun.commands import Refused
 from saxtegun.games import game_of
 from saxtegun.leading import counterparts, matched, rules_of
+from saxtegun.lines import Frame, Run
+from saxtegun.parting import parting_of
+from saxtegun.playing import Engine
+from saxtegun.sessions import Entry
 from saxtegun.stages import Heading, Stage, Stop, stages_of, told_in
 
 PUSH = "[ > player | crate ] -> [ > player | > crate ]"
@@ -162,6 +168,17 @@ class Guarded(OfAYard):
             answer = self.why("--input", "0", *words)
             self.assertEqual((answer.status, "\x1b" in answer.out + answer.errors), (2, False))
             self.assertIn("line 1 of what the program of stages wrote is no stage of its input", answer.errors)
+
+    def test_a_program_that_has_no_answer_is_not_waited_for(self):
+        (self.room / "saxtegun_stages").write_text("#!/bin/sh\nsleep 100\n", encoding="utf-8")
+        shown = [[Frame(0, "start", "background:0,"), Frame(1, "move", it)] for it in ("background:0,", "player:0,")]
+        runs = Run(0, "a", "passed", None, shown[0]), Run(0, "a", "differs", None, shown[1])
+        old, new = (Entry(0, "a", source, [3], "", 0, {}, False) for source in ("one", "other"))
+        left, begin = EXPLAINING.left, monotonic()
+        with mock.patch.object(committed, "SECONDS_TO_LEAD", 0.2):
+            self.assertEqual(committed.leads([committed.Broken(old, new, runs, parting_of(*runs))] * 20, "game.txt", Engine()), {})
+        self.assertLess(monotonic() - begin, 10)
+        self.assertLess(EXPLAINING.left, left)
 
     def test_letters_that_a_terminal_obeys_are_told_by_their_numbers(self):
         self.game = self.text(PUSH, title="forged " + json.dumps(line_of(level="back\x1b[2J:0,\n", headings=[[200, 200, "p\x9b2J", "up"], [0, 0, "p\x9b2J", "up"]]) + "\n"))

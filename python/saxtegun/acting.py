@@ -69,7 +69,7 @@ def stage_told(stage: Told, source: str) -> str:
     """What a stage is called."""
     if isinstance(stage, Stop):
         return "the stop"
-    return block_told(stage, source) if stage.is_block else {INPUT: "the press", MOVEMENT: "the movement", END: "the end"}[stage.name]
+    return block_told(stage, source) if stage.is_block else {INPUT: "before any rule", MOVEMENT: "the movement", END: "the end"}[stage.name]
 
 
 def rule_lines(lines: Sequence[int], text: Text, most: int = LINES_TOLD) -> List[str]:
