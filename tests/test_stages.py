@@ -1,24 +1,29 @@
 """The cases of conformance/stages, each worked out by hand, on what tells stages here."""
 import json
+import os
 import subprocess
 import unittest
+from unittest import mock
 
 from tool import TOP
+from saxtegun import programs
 from saxtegun.commands import Refused
-from saxtegun.programs import stages_words
 
 CASES = sorted((TOP / "conformance/stages").glob("*.json"))
 
 
-def words():
-    """How what tells stages is called here, or nothing where there is none."""
-    try:
-        return stages_words()
-    except Refused:
-        return []
+def what_tells_stages():
+    """How what tells stages is called here, and in which environment; nothing where there is none, or only a module of before there were stages."""
+    with mock.patch.dict(os.environ), mock.patch.object(programs, "CHOSEN_FOR_STAGES", []):
+        try:
+            words, names = programs.stages_words(), dict(os.environ)
+        except Refused:
+            return [], {}
+    ran = subprocess.run([*words, "0", "1"], input=b"[]", stdout=subprocess.DEVNULL, stderr=subprocess.DEVNULL, env=names)
+    return (words, names) if ran.returncode == 0 else ([], {})
 
 
-STAGES = words()
+STAGES, ENVIRONMENT = what_tells_stages()
 
 
 def tells_stages(tests):
@@ -38,7 +43,7 @@ class DayOfStages(unittest.TestCase):
             with self.subTest(path.stem):
                 case = json.loads(path.read_text(encoding="utf-8"))
                 asked = [str(case["session"]), str(case["input"]), *(["columns"] if case["order"] == "columns" else [])]
-                ran = subprocess.run([*STAGES, *asked], input=json.dumps(case["sessions"]).encode(), stdout=subprocess.PIPE, stderr=subprocess.PIPE)
+                ran = subprocess.run([*STAGES, *asked], input=json.dumps(case["sessions"]).encode(), stdout=subprocess.PIPE, stderr=subprocess.PIPE, env=ENVIRONMENT)
                 self.assertEqual((ran.returncode, ran.stderr), (0, b""))
                 self.assertEqual(ran.stdout.decode(), "".join(map(compact, case["lines"])))
 

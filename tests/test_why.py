@@ -17,7 +17,7 @@ from saxtegun.acting import Text, block_told, drawn, picture
 from saxtegun.budget import EXPLAINING
 from saxtegun.commands import Refused
 from saxtegun.games import game_of
-from saxtegun.leading import counterparts, matched, rules_of
+from saxtegun.leading import counterparts, inputs_to_try, matched, rules_of
 from saxtegun.lines import Frame, Run
 from saxtegun.parting import parting_of
 from saxtegun.playing import Engine
@@ -229,6 +229,20 @@ class InWords(unittest.TestCase):
     def test_a_level_that_can_t_be_read_back_is_told_as_that(self):
         stage = Stage(0, "end", None, (), True, (), (), "a,b:0,\n")
         self.assertIn("holds a comma", drawn(stage, None, Text("", "", "rows"))[0])
+
+    def test_inputs_are_tried_from_where_frames_part_or_one_may_have_stopped(self):
+        entry = Entry(0, "a", "", [3] * 9, "", 0, {}, False)
+        frames = [Frame(it, "move", "background:0,") for it in range(4)]
+        other = Frame(3, "move", "player:0,")
+        run_of = lambda close, *frames: Run(0, "a", close, None, list(frames))  # noqa: E731
+        for one, two, wanted in (
+            (run_of("passed", *frames), run_of("differs", *frames[:3], other), (range(3, 4), range(3))),
+            (run_of("passed", *frames), run_of("stopped", *frames[:2]), (range(1, 3), range(1))),
+            (run_of("passed", *frames), run_of("stopped", *frames), (range(3, 10), range(3))),
+            (run_of("passed", *frames), run_of("stopped"), (range(1), range(0))),
+            (run_of("passed", *frames), run_of("passed", *frames), (range(10), range(0))),
+        ):
+            self.assertEqual(inputs_to_try(entry, (one, two), parting_of(one, two)), wanted)
 
     def test_rules_are_matched_by_their_text_wherever_they_stand(self):
         old = GAME.replace("RULE", "[ a ] -> [ b ]\n[ c ] -> [ d ]\n[ e ] -> [ f ]")

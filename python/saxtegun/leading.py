@@ -282,9 +282,11 @@ class Telling:
 
 def inputs_to_try(entry: Entry, runs: Tuple[Run, Run], parting: Optional[Parting]) -> Tuple[range, range]:
     """Behind which inputs two runs may part in their stages: from where their frames first do or one may have stopped, and else those before it."""
-    last = min((it.at for it in (parting.one, parting.other) if it is not None), default=len(entry.inputs)) if parting else len(entry.inputs)
+    if parting is None:
+        return range(len(entry.inputs) + 1), range(0)
+    last = min([len(entry.inputs), *(it.at for it in (parting.one, parting.other) if it is not None)])
     # behind its last frame a run may stop in a step that shows none
-    first = min([last, *(run.frames[-1].at for run in runs if run.close == "stopped")]) if parting else 0
+    first = min([last, *(run.frames[-1].at if run.frames else 0 for run in runs if run.close == "stopped")])
     return range(first, last + 1), range(first)
 
 
