@@ -107,7 +107,7 @@ def picture(rows: Rows, changed: Sequence[Tuple[int, int]], headings: Sequence[H
     if headings:
         parts.append(("heading", map_of(rows, arrows_of(headings))))
     room = max(len(rows[0]), len("changed")) + 4
-    return ["| " + "".join(it.ljust(room) for it in line).rstrip() for line in zip(*([name, *map_rows] for name, map_rows in parts))]
+    return ["| " + "".join(it.ljust(room) for it in line).rstrip() for line in zip(*([name, *letters] for name, letters in parts))]
 
 
 def heading_told(it: Heading) -> str:
@@ -125,7 +125,7 @@ def headings_told(stage: Stage, before: Optional[Stage]) -> List[str]:
 
 def cells_told(before: Rows, after: Rows, changed: Sequence[Tuple[int, int]]) -> List[str]:
     """The first cells that changed, a line each."""
-    lines = [f"column {column + 1}, row {row + 1}: {cell_told(after[row][column])}; before: {cell_told(before[row][column])}" for column, row in changed[:CELLS_TOLD]]
+    lines = [f"column {x + 1}, row {y + 1}: {cell_told(after[y][x])}; before: {cell_told(before[y][x])}" for x, y in changed[:CELLS_TOLD]]
     more = len(changed) - CELLS_TOLD
     return [*lines, f"and {plural(more, 'more cell')}"] if more > 0 else lines
 

@@ -265,7 +265,8 @@ class Telling:
 
     def headings(self, one: Stage, other: Stage) -> List[str]:
         """The pieces that head somewhere in one text alone, a line each."""
-        alone = [(it, number) for number, (here, there) in enumerate(((one, other), (other, one))) for it in here.headings if it not in set(there.headings)]
+        both = set(one.headings) & set(other.headings)
+        alone = [(it, number) for number, stage in enumerate((one, other)) for it in stage.headings if it not in both]
         told = [f"{heading_told(it)} in {self.name(number)}, not in {self.name(1 - number)}" for it, number in alone[:CELLS_TOLD]]
         return [*told, f"and {plural(len(alone) - CELLS_TOLD, 'more heading')}"] if len(alone) > CELLS_TOLD else told
 

@@ -21,7 +21,7 @@ from __future__ import annotations
 import re
 import sys
 from argparse import ArgumentParser, ArgumentTypeError, Namespace
-from typing import List, NamedTuple, Optional
+from typing import NamedTuple, Optional
 
 from saxtegun.acting import Text, told_of, where_told
 from saxtegun.commands import Refused, add_playing, add_ticks, cut, plural, printable
