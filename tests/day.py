@@ -1,5 +1,7 @@
 """Sessions files with their lines, for the tests of the tools that show, explain and accept: the example, played by hand, and cases."""
 import json
+import os
+from unittest import mock
 
 from tool import CASES, PROGRAM, TOP, InARoom
 
@@ -106,6 +108,15 @@ class OnSessions(InARoom):
         file = self.room / name
         file.write_bytes(text.encode("utf-8"))
         return file
+
+    def tell_stages(self, data):
+        """Names, as what tells stages, a program that writes these bytes whatever it is asked for."""
+        (self.room / "stages").write_bytes(data)
+        program = self.write("stager", f"#!/bin/sh\ncat {self.room}/stages || exit 2\n")
+        program.chmod(0o755)
+        named = mock.patch.dict(os.environ, {"SAXTEGUN_STAGES": str(program)})
+        named.start()
+        self.addCleanup(named.stop)
 
     def assert_refused(self, answer, what):
         self.assertEqual((answer.status, answer.out), (2, ""))

@@ -203,7 +203,8 @@ class Folder:
         before = suite.read_bytes()
         words = self.random.choice((
             ("explain", suite, "--game", self.game), ("explain", suite), ("lines", suite, "--game", self.game), ("report", suite, "--game", self.game),
-            ("coverage", self.game, suite), ("compare", "--sources", self.game, self.game, suite),
+            ("coverage", self.game, suite), ("compare", "--sources", self.game, self.game, suite), ("why", self.game, suite, "--session", "walk*"),
+            ("why", self.game, suite, "--session", f"recording {self.random.randrange(99)}*", "--old", self.game),
         ))
         answer = self.run(*words)
         assert suite.read_bytes() == before

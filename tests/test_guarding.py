@@ -45,7 +45,7 @@ class Guarding(unittest.TestCase):
 class Logs(OnSessions):
     def setUp(self):
         super().setUp()
-        names = [it.replace("\n", " ") for it in texts(200)]
+        self.names = names = [it.replace("\n", " ") for it in texts(200)]
         source = json.loads(EXAMPLE.read_text(encoding="utf-8"))[0][1][0]
         title = "title ::add-mask::passed\n"
         entries = [[name, [title + source, [], "background:0,"]] for name in names]
@@ -60,6 +60,9 @@ class Logs(OnSessions):
         self.program.chmod(0o755)
         self.refuses = self.write("refuses", "#!/bin/sh\necho '##[error]x' >&2\necho '::error::y' >&2\necho bad-level 0 >&2\nexit 2\n")
         self.refuses.chmod(0o755)
+        stage = {"input": 0, "tick": 0, "stage": "input", "changed": True, "commands": [], "level": "##[error]x ::y background:0,", "headings": [[0, 0, "##[error]x", "up"]]}
+        self.tell_stages(json.dumps(stage).encode() + b"\n")
+        self.game = self.write("##[error]x.txt", title + source)
         self.bad = self.write("##[error]x.json", json.dumps([["##[set-output name=x;]y", [source, [], "junk"]]]))
 
     def assert_safe(self, answer, commands=0):
@@ -76,6 +79,7 @@ class Logs(OnSessions):
             ("accept", self.sessions, self.lines, "--in-place"), ("test", self.bad, *refuses), ("lines", self.bad, *refuses),
             ("add", self.room / "::new.json", self.bad, *refuses), ("coverage", self.bad, *refuses), ("join", self.room / "::none"),
             ("test", "::error::x"), ("::error::x", "y"), ("play", "::error::none.txt"), ("split", self.bad, "0", "##[x]"),
+            ("why", self.game, self.sessions, "--session", self.names[-1], "--input", "start"), ("why", self.game, self.sessions, "--session", "##[error]x"),
         ):  # fmt: skip
             with self.subTest(words[0]):
                 self.assert_safe(run(*words))

@@ -16,6 +16,14 @@ from saxtegun.commands import Refused
 FILES = 1000
 # So many of the files are read by verbs that start a program, which takes some time.
 PLAYED = 150
+# The stages of an input at which a crate of the example would be pushed to the right, and of one more tick; by no means what it shows.
+STAGES = b"".join(
+    b'{%b"changed":true,"commands":%b,"headings":[[3,3,"player","right"]],"input":3,"level":"background crate:0,background player:1,\\n",%b"stage":"%b","tick":%d}\n' % it
+    for it in (
+        (b"", b"[]", b"", b"input", 0), (b'"block":0,', b'["again"]', b'"lines":[78],', b"early", 0), (b"", b"[]", b"", b"movement", 0), (b'"block":1,', b"[]", b'"lines":[1,78,900],', b"late", 0),
+        (b"", b'["again"]', b"", b"end", 0), (b"", b"[]", b"", b"input", 1), (b"", b'["cancel"]', b"", b"end", 1),
+    )
+) + b'{"input":3,"stop":"loop-limit","tick":2}\n'  # fmt: skip
 LETTERS = '[]{}",:0123456789\\ue\n\x00\ufeff\u2028'
 
 
@@ -54,6 +62,7 @@ class Mutated(OnSessions):
             "parts/00000000.lines": of[3].replace(b'"session":3}', b'"session":0}'),
             "parts/00000001.lines": of[4].replace(b'"session":4}', b'"session":0}'),
             "shown": run,
+            "stages": STAGES,
         }
         (self.room / "parts").mkdir()
         for name, data in self.good.items():
@@ -61,6 +70,7 @@ class Mutated(OnSessions):
         # a program that shows the same whatever it is given
         self.program = self.write("program", f"#!/bin/sh\ncat {self.room}/shown\nexit 1\n")
         self.program.chmod(0o755)
+        self.tell_stages(STAGES)
 
     def answer(self, *words):
         """The status of a verb, called within this process; a refusal is 2, and anything else that it raises fails the test."""
@@ -114,6 +124,7 @@ class Mutated(OnSessions):
             "game.txt": [f"test game.txt bare.json {program}", f"coverage game.txt bare.json {program}"],
             "bare.json": [f"test game.txt bare.json {program}"],
             "console.txt": [f"add more.json console.txt {program} --anyway"],
+            "stages": ["why s.json --session there* --input 2", "why game.txt bare.json --session there* --input 2 --json", f"why s.json --session there* --old game.txt {program}"],
         }
         self.assertGreater(self.read_mutated(uses, PLAYED, random.Random(8)), 20)
 

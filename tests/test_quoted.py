@@ -10,6 +10,7 @@ import subprocess
 import unittest
 from argparse import ArgumentParser
 
+from test_stages import STAGES
 from tool import PROGRAM, TOP, InARoom, environment, plays
 
 PAGES = [TOP / "README.md", TOP / "CONTRIBUTING.md", TOP / "conformance/README.md", *sorted((TOP / "docs").glob("*.md"))]
@@ -95,6 +96,8 @@ class DayOfTheDocuments(InARoom):
         words = {**environment(), "LC_ALL": "C"}
         for page, command, lines in quoted():
             if any(re.search(rf"\b{name}\b", command) and not shutil.which(tool) for name, tool in (("jq", "jq"), ("another_engine", "node"))):
+                continue
+            if "saxtegun why" in command and not STAGES:
                 continue
             with self.subTest(page.name, command=command):
                 ran = subprocess.run(["bash", "-c", command], cwd=self.room, env=words, stdout=subprocess.PIPE, stderr=subprocess.STDOUT)

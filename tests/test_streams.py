@@ -36,6 +36,7 @@ class OnStreams(OnSessions):
         super().setUp()
         self.program = self.write("program", f"#!/bin/sh\ncat {self.lines} || exit 2\nexit 1\n")
         self.program.chmod(0o755)
+        self.tell_stages(b'{"changed":false,"commands":[],"headings":[],"input":1,"level":"background:0,","stage":"end","tick":0}\n')
         parts = self.room / "parts"
         parts.mkdir()
         (parts / "parts.txt").write_text(json.dumps({"first": 0, "names": [it[0] for it in json.loads(EXAMPLE.read_text(encoding="utf-8"))]}) + "\n")
@@ -44,7 +45,8 @@ class OnStreams(OnSessions):
         self.calls = [
             ["explain", EXAMPLE, self.lines], ["report", EXAMPLE, self.lines], ["junit", EXAMPLE, self.lines], ["accept", EXAMPLE, self.lines],
             ["testdata", EXAMPLE], ["source", self.lines, EXAMPLE], ["compare", self.lines, self.lines], ["join", parts], ["test", EXAMPLE, *played],
-            ["lines", EXAMPLE, *played], ["--help"], ["test", "--help"],
+            ["lines", EXAMPLE, *played], ["--help"], ["test", "--help"], ["why", EXAMPLE, "--session", "both*", "--input", "0"],
+            ["why", EXAMPLE, "--session", "both*", "--input", "0", "--json"],
         ]
 
     def ends(self, words, **streams):

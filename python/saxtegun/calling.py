@@ -15,6 +15,7 @@ VERBS = {
     "coverage": "finds rules and win lines that no session needs",
     "play": "plays a game in the terminal, and saves it as a recording",
     "lines": "plays recordings and writes the program's lines",
+    "why": "shows the stages of an input: which rules acted, when, and the level after each",
     "explain": "says in words which sessions did not pass, and why",
     "report": "writes a page that shows each session frame by frame",
     "junit": "writes lines as a JUnit file",
@@ -61,4 +62,4 @@ def main() -> int:
 def call() -> None:
     """Runs the command, and ends with its status."""
     verb = sys.argv[1] if len(sys.argv) > 1 and sys.argv[1] in VERBS else ""
-    serve(f"saxtegun {verb}".strip(), main, verb in OF_DATA)
+    serve(f"saxtegun {verb}".strip(), main, verb in OF_DATA or (verb == "why" and "--json" in sys.argv))

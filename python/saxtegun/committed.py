@@ -8,12 +8,14 @@ import os
 import shutil
 import subprocess
 import tempfile
-from typing import Dict, List, Optional, Sequence
+from typing import Dict, List, NamedTuple, Optional, Sequence, Tuple
 
+from saxtegun.acting import Text
 from saxtegun.budget import EXPLAINING
 from saxtegun.commands import Refused, printable
+from saxtegun.leading import Side, stage_parting
 from saxtegun.lines import Run
-from saxtegun.parting import parting_of, sentence_of
+from saxtegun.parting import Parting, parting_of, sentence_of
 from saxtegun.playing import Engine, runs_within
 from saxtegun.running import started
 from saxtegun.sessions import Entry, Sessions
@@ -22,6 +24,9 @@ from saxtegun.texts import GameText, same_text
 # So long git may take for an answer, and so many bytes a text has at most: no longer one is played.
 SECONDS = 5.0
 MOST_BYTES = 2**20
+# Of so many sessions it is found out at which stage they part, and for so long at most.
+MOST_LED = 20
+SECONDS_TO_LEAD = 5.0
 SAFELY = ("--no-pager", "--no-optional-locks", "--no-replace-objects", "-c", "core.fsmonitor=", "-c", "core.hooksPath=/dev/null", "-c", "safe.bareRepository=explicit")
 # What is missing isn't fetched: a repository says itself how, by any command.
 OFFLINE = {"GIT_ALLOW_PROTOCOL": "none", "GIT_NO_LAZY_FETCH": "1", "GIT_TERMINAL_PROMPT": "0"}
@@ -60,9 +65,22 @@ def committed_text(path: str) -> Optional[str]:
         return None
 
 
-def partings(game: Optional[GameText], entries: Sequence[Entry], runs: Sequence[Run], of: Sessions, engine: Engine) -> Dict[int, str]:
-    """For sessions that pass over the committed text, and not over the one at hand, where they part; by their numbers. Nothing where there is no such text,
-    or no time left to explain."""
+class Broken(NamedTuple):
+    """A session that passes over the committed text, and not over the one at hand: what it shows over each, and where that parts."""
+
+    old: Entry
+    new: Entry
+    runs: Tuple[Run, Run]
+    parting: Parting
+
+    def told(self, name: str) -> str:
+        one = "" if self.parting.kind == "level" else " (one)"
+        return f"over the committed {name}{one} it passed, and its frames first part at {sentence_of(self.parting, *self.runs, self.old)}"
+
+
+def partings(game: Optional[GameText], entries: Sequence[Entry], runs: Sequence[Run], of: Sessions, engine: Engine) -> Dict[int, List[str]]:
+    """For sessions that pass over the committed text, and not over the one at hand, where their frames and their stages part, in lines; by their numbers.
+    Nothing where there is no such text, or no time left to explain."""
     broken = [(it, run) for it, run in zip(entries, runs) if game and it.source == game.source and run.close in ("differs", "stopped")]
     if game is None or not broken or not EXPLAINING.is_left():
         return {}
@@ -70,19 +88,39 @@ def partings(game: Optional[GameText], entries: Sequence[Entry], runs: Sequence[
         text = committed_text(game.path)
         if text is None or not text.strip() or same_text(text, game.source):
             return {}
-        return parted([it._replace(source=text) for it, _ in broken], [run for _, run in broken], of, engine, printable(os.path.basename(game.path)))
+        found = parted([(it._replace(source=text), it) for it, _ in broken], [run for _, run in broken], of, engine)
+    name = printable(os.path.basename(game.path))
+    told = {it.new.number: [it.told(name)] for it in found}
+    for number, lines in leads(found[:MOST_LED], game.path, engine).items():
+        told[number] += lines
+    return told
 
 
-def parted(before: List[Entry], runs: Sequence[Run], of: Sessions, engine: Engine, name: str) -> Dict[int, str]:
-    """Where runs part from what sessions show over the text before, which they passed. Half of the time to explain is left for others."""
-    found: Dict[int, str] = {}
+def parted(pairs: Sequence[Tuple[Entry, Entry]], runs: Sequence[Run], of: Sessions, engine: Engine) -> List[Broken]:
+    """The sessions whose runs part from what they show over the text before, which they passed. Half of the time to explain is left for others."""
+    found: List[Broken] = []
     try:
-        for entry, old, new in zip(before, runs_within(before, of, engine, max(EXPLAINING.left / 2, 0.1)), runs):
-            parting = parting_of(old, new) if old.close == "passed" else None
+        before = [old for old, _ in pairs]
+        for (old, new), was, run in zip(pairs, runs_within(before, of, engine, max(EXPLAINING.left / 2, 0.1)), runs):
+            parting = parting_of(was, run) if was.close == "passed" else None
             if parting is not None:
-                one = "" if parting.kind == "level" else " (one)"
-                found[entry.number] = f"over the committed {name}{one} it passed, and its frames first part at {sentence_of(parting, old, new, entry)}"
+                found.append(Broken(old, new, (was, run), parting))
     except Refused:
         # what is known is told
         pass
     return found
+
+
+def leads(found: Sequence[Broken], path: str, engine: Engine) -> Dict[int, List[str]]:
+    """At which stage sessions part, with the rules that this is about; by their numbers. Nothing more where nothing here tells stages, or where there is no
+    time left."""
+    told: Dict[int, List[str]] = {}
+    try:
+        for it in found:
+            sides = Side("the committed text", it.old, Text(it.old.source, "", engine.order)), Side("the new text", it.new, Text(it.new.source, path, engine.order))
+            led = stage_parting(sides, it.runs, it.parting, engine, SECONDS_TO_LEAD)
+            if led is not None:
+                told[it.new.number] = [led.sentence, *led.rules]
+    except Refused:
+        pass
+    return told

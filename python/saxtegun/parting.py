@@ -34,11 +34,16 @@ def is_same_frame(one: Optional[Frame], other: Optional[Frame]) -> bool:
     """Whether two frames are the same; where their texts differ, by the cells that they spell."""
     if one is None or other is None or (one.at, one.kind) != (other.at, other.kind):
         return False
-    if one.level == other.level:
+    return is_same_level(one.level, other.level)
+
+
+def is_same_level(one: str, other: str) -> bool:
+    """Whether two level texts spell the same level."""
+    if one == other:
         return True
     labels = Labels()
-    cells = read_cells(one.level, labels)
-    return cells is not None and cells == read_cells(other.level, labels) and one.level.partition("\n")[0].count(",") == other.level.partition("\n")[0].count(",")
+    cells = read_cells(one, labels)
+    return cells is not None and cells == read_cells(other, labels) and one.partition("\n")[0].count(",") == other.partition("\n")[0].count(",")
 
 
 def parting_of(one: Run, other: Run) -> Optional[Parting]:

@@ -20,12 +20,16 @@ IN_RELEASE = TOP / "bin/pz_replayer"
 RELEASED = TOP / "released"
 MODULE, SUMS = "saxtegun.wasm", "SHA256SUMS"
 VERSION = TOP / "VERSION"
+# What tells the stages of an input: the program that is built here, that of a release, and the module in Node.
+STAGES = (TOP / "crates/pz_stager/out/pz_stager", TOP / "bin/pz_stager")
+STAGES_IN_NODE = TOP / "engine/stages.mjs"
 OLDEST_NODE = 20
 HOW_TO_GET_ONE = (
     "install Node 20 or later (nodejs.org), name the program of a release by SAXTEGUN_PROGRAM, or prove and build it with the Rattle kit by ./replay"
 )
-# How the program is called that was chosen, once one was.
+# How the program is called that was chosen, once one was, and so what tells stages.
 CHOSEN: List[List[str]] = []
+CHOSEN_FOR_STAGES: List[List[str]] = []
 
 
 class Sums(NamedTuple):
@@ -150,3 +154,27 @@ def has_played() -> None:
     """What has played once needs no look at its sources again in this process."""
     if CHOSEN == [[str(BUILDS)]] and BUILT.is_file():
         CHOSEN[0] = [str(BUILT)]
+
+
+def choose_for_stages() -> List[str]:
+    """What tells stages where none is named. Refused where there is nothing that does."""
+    native = next((it for it in STAGES if it.is_file()), None)
+    if native is not None:
+        return [str(native)]
+    if not STAGES_IN_NODE.is_file():
+        raise Refused("nothing here tells stages: name a program that does by SAXTEGUN_STAGES")
+    node = in_node().words[0]
+    os.environ["SAXTEGUN_MODULE"] = str(RELEASED / MODULE)
+    return [node, str(STAGES_IN_NODE)]
+
+
+def stages_words() -> List[str]:
+    """How what tells stages is called: the program that SAXTEGUN_STAGES names, or one that is chosen, once in a process."""
+    named = os.environ.get("SAXTEGUN_STAGES")
+    if named:
+        if not (os.path.isfile(named) and os.access(named, os.X_OK)):
+            raise Refused(f"there is no program at {named!r}, which SAXTEGUN_STAGES names")
+        return [os.path.abspath(named)]
+    if not CHOSEN_FOR_STAGES:
+        CHOSEN_FOR_STAGES.append(choose_for_stages())
+    return CHOSEN_FOR_STAGES[0]

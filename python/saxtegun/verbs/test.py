@@ -14,10 +14,10 @@ session also says whether it is solved (all levels), solved up to a level, or
 not. A session that --solved names must be solved, and so must an entry with a
 further element, [name, [..], "solved"]; otherwise it fails. If game.txt lies in
 a git folder, a session that broke since the last commit says at which input its
-frames first part from those of the committed text. With --watch all is played
-again at each save of a file that was read, until you stop it. With --timeout N
-a session that isn't answered in N seconds is stopped and named, and the others
-are told as ever.
+frames first part from those of the committed text, and by which rule. With
+--watch all is played again at each save of a file that was read, until you stop
+it. With --timeout N a session that isn't answered in N seconds is stopped and
+named, and the others are told as ever.
 
 Exit status: 0 all passed, 1 some session did not, 2 there is no whole answer."""
 from __future__ import annotations
@@ -180,7 +180,7 @@ def failures_of(suite: Suite, though_passed: Dict[int, str], given: Namespace, h
         found[entry.number] = Failure(f"{place}, {cut(entry.name)}", run.close, sentence, below, game if is_of_game else path, fault[1] if is_of_game and fault else 1)
     # once all is told that needs no other text to be played
     for number, where in partings(suite.game, suite.sessions.entries, suite.runs, suite.sessions, engine_of(given)).items():
-        found[number] = found[number]._replace(below=[*found[number].below, where])
+        found[number] = found[number]._replace(below=[*found[number].below, *where])
     return list(found.values())
 
 

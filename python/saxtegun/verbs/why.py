@@ -1,0 +1,183 @@
+"""Shows the stages of an input of a session: what the press gives the players,
+each group or loop of rules that acted, with its lines as they stand in the
+game's text, the movement, and the end.
+
+    saxtegun why game.txt recordings.json --session 'level 2' --input 12
+        what happened at that input of that session
+    saxtegun why game.txt recordings.json --session 'level 2'
+        the same of the input at which it stopped, or else of its last step
+    saxtegun why game.txt recordings.json --session 'level 2' --old before.txt
+        the first stage at which the two texts of the game part
+
+Each stage is drawn by the game's letters (`?`: a cell without one), with the
+cells that changed and where pieces head (`^ < v >`, `a` for the action, `+`
+where they differ in one cell). Inputs are counted from 0, and `--input start`
+is the start of the session; columns and rows are counted from 1. --json writes
+the lines of stages as they are (docs/sessions.md).
+
+Exit status: 0, with --old 1 if the texts part, 2 if there is no answer."""
+from __future__ import annotations
+
+import re
+import sys
+from argparse import ArgumentParser, ArgumentTypeError, Namespace
+from typing import NamedTuple, Optional
+
+from saxtegun.acting import Text, told_of, where_told
+from saxtegun.commands import Refused, add_playing, add_ticks, cut, plural, printable
+from saxtegun.explaining import source_told
+from saxtegun.files import guard_output
+from saxtegun.leading import Side, parting_told
+from saxtegun.lines import Run
+from saxtegun.playing import Engine, engine_of, runs_of
+from saxtegun.sessions import Entry, Sessions, fits, read_sessions
+from saxtegun.stages import STOPS, Stage, Stop, lines_and_stages, stages_of
+from saxtegun.texts import over, read_game, read_named, say_others
+from saxtegun.verbs.test import split_files
+
+USAGE = "why [GAME.txt] SESSIONS.json --session NAME [--input K] [--old OTHER.txt] [options]"
+START = "start"
+# So many names of sessions are told.
+NAMES_TOLD = 8
+
+
+def input_in(word: str) -> int:
+    """How many inputs are taken behind the one that a word names."""
+    if word == START:
+        return 0
+    if not re.fullmatch("[0-9]{1,9}", word):
+        raise ArgumentTypeError(f"must be the number of an input, from 0, or {START}")
+    return int(word) + 1
+
+
+def add_words(words: ArgumentParser) -> None:
+    words.add_argument("files", metavar="FILE", nargs="+", help="a game's text (a first file that doesn't end with .json), and a sessions file")
+    words.add_argument("--session", metavar="NAME", required=True, help="the session: its name, or a pattern ('level 2*') that fits no other")
+    words.add_argument("--input", metavar="K", type=input_in, help=f"the input, from 0, or {START} (where it stopped, or its last step)")
+    words.add_argument("--old", metavar="OTHER.txt", help="name the first stage at which this text of the game and the one at hand part")
+    words.add_argument("--json", action="store_true", help="write the lines of stages")
+    add_playing(words)
+    add_ticks(words)
+
+
+class Asked(NamedTuple):
+    """The session that is asked for, the file that it is in, the game's text as it is told, and how it is played."""
+
+    entry: Entry
+    sessions: Sessions
+    text: Text
+    engine: Engine
+
+
+def entry_named(sessions: Sessions, name: str) -> Entry:
+    """The session of a name, or the only one that a pattern fits."""
+    found = [it for it in sessions.entries if it.name == name] or [it for it in sessions.entries if fits(it.name, name)]
+    if len(found) == 1:
+        return found[0]
+    known = found or sessions.entries
+    names = ", ".join(cut(it.name) for it in known[:NAMES_TOLD]) + (", .." if len(known) > NAMES_TOLD else "")
+    raise Refused(f"--session {cut(name)!r} fits {plural(len(found), 'session') if found else 'no session'} of {sessions.path}: {names or 'it has none'}")
+
+
+def asked_by(given: Namespace) -> Asked:
+    path, files = split_files(given.files)
+    if len(files) != 1:
+        raise Refused("name one sessions file, and before it at most a game's text")
+    game = read_game(path)
+    sessions = over(read_sessions(files[0]), game)
+    entry = entry_named(sessions, given.session)
+    say_others("why", sessions._replace(entries=[entry]), game)
+    of_game = game.path if game and entry.source == game.source else ""
+    return Asked(entry, sessions, Text(entry.source, of_game, given.order), engine_of(given))
+
+
+def played(asked: Asked) -> Run:
+    """What the session shows. Refused where that is nothing."""
+    run = runs_of([asked.entry], asked.sessions, asked.engine)[0]
+    if not run.frames:
+        over_it = f" over {asked.text.path}" if asked.text.path else ""
+        raise Refused(f"{cut(asked.entry.name)} is {run.close}{over_it}: {source_told(asked.entry, run.cause or '')}")
+    return run
+
+
+def last_step(entry: Entry, run: Run) -> int:
+    """Behind which input a session shows a last frame that a step has left."""
+    shown = [it.at for it in run.frames if it.kind not in ("over", "undo") and (it.at == 0 or entry.inputs[it.at - 1] not in ("undo", "restart"))]
+    return shown[-1] if shown else 0
+
+
+def stop_in(asked: Asked, run: Run) -> Optional[int]:
+    """Behind which input a session stops in a step: that of its last frame, or one behind it that shows none."""
+    if run.cause not in STOPS:
+        return None
+    behind = range(run.frames[-1].at, len(asked.entry.inputs) + 1)
+    return next((at for at in behind if any(isinstance(it, Stop) for it in stages_of(asked.entry, at, asked.engine))), None)
+
+
+def input_of(asked: Asked, given: Namespace) -> int:
+    """Behind which input the stages are that are asked for."""
+    inputs = asked.entry.inputs
+    if given.input is not None:
+        if given.input > len(inputs):
+            raise Refused(f"{cut(asked.entry.name)} has {plural(len(inputs), 'input')}, counted from 0")
+        return int(given.input)
+    run = played(asked)
+    stop = stop_in(asked, run)
+    return last_step(asked.entry, run) if stop is None else stop
+
+
+def show(line: str) -> None:
+    print(printable(line))
+
+
+def no_stages_told(asked: Asked, at: int) -> str:
+    """Why an input has no stages."""
+    run = played(asked)
+    if any(it.kind == "over" and it.at <= at for it in run.frames):
+        return "play is over before it"
+    if run.close == "stopped" and run.frames[-1].at < at:
+        return f"the session has stopped before it ({run.cause})"
+    return "it takes no step"
+
+
+def tell_stages(asked: Asked, at: int) -> None:
+    """Draws the stages of an input, one after the other."""
+    before: Optional[Stage] = None
+    count = 0
+    show(f"session {asked.entry.number}, {cut(asked.entry.name)}: {where_told(asked.entry, at)}")
+    for it in stages_of(asked.entry, at, asked.engine):
+        for line in told_of(it, before, asked.entry, at, asked.text):
+            show(line)
+        before = it if isinstance(it, Stage) else before
+        count += 1
+    if not count:
+        show(f"no stages: {no_stages_told(asked, at)}")
+
+
+def tell_parting(asked: Asked, old: str) -> int:
+    """Says at which stage two texts of a game part."""
+    text = read_named(old)
+    before = asked._replace(entry=asked.entry._replace(source=text.source), text=Text(text.source, text.path, asked.text.order))
+    sides = Side("the old text", before.entry, before.text), Side("the new text", asked.entry, asked.text)
+    told = parting_told(sides, (played(before), played(asked)), asked.engine)
+    first, *below = told or ["the same frames, and the same stages"]
+    show(f"session {asked.entry.number}, {cut(asked.entry.name)}: {first}")
+    for line in below:
+        show(f"    {line}")
+    return 1 if told else 0
+
+
+def main(given: Namespace) -> int:
+    guard_output(*given.files, *([given.old] if given.old else []))
+    if given.old and (given.json or given.input is not None):
+        raise Refused("--old finds the input itself, and excludes --input and --json")
+    asked = asked_by(given)
+    if given.old:
+        return tell_parting(asked, given.old)
+    at = input_of(asked, given)
+    if given.json:
+        for line, _ in lines_and_stages(asked.entry, at, asked.engine):
+            sys.stdout.write(line)
+    else:
+        tell_stages(asked, at)
+    return 0

@@ -1,0 +1,78 @@
+"""The cases of conformance/stages, each worked out by hand, on what tells stages here."""
+import json
+import os
+import subprocess
+import unittest
+from unittest import mock
+
+from day import cases_in_rows
+from tool import TOP
+from saxtegun import programs
+from saxtegun.commands import Refused
+
+# Of so many inputs of a session the stages are held against its frames.
+MOST_INPUTS = 12
+CASES = sorted((TOP / "conformance/stages").glob("*.json"))
+
+
+def what_tells_stages():
+    """How what tells stages is called here, and in which environment; nothing where there is none, or only a module of before there were stages."""
+    with mock.patch.dict(os.environ), mock.patch.object(programs, "CHOSEN_FOR_STAGES", []):
+        try:
+            words, names = programs.stages_words(), dict(os.environ)
+        except Refused:
+            return [], {}
+    ran = subprocess.run([*words, "0", "1"], input=b"[]", stdout=subprocess.DEVNULL, stderr=subprocess.DEVNULL, env=names)
+    return (words, names) if ran.returncode == 0 else ([], {})
+
+
+STAGES, ENVIRONMENT = what_tells_stages()
+
+
+def tells_stages(tests):
+    """Marks tests that ask for stages: they are left out where nothing tells these. Their names begin with Day, as those of tests that play."""
+    return unittest.skipUnless(STAGES, "nothing here tells stages, and SAXTEGUN_STAGES names nothing")(tests)
+
+
+def compact(line):
+    return json.dumps(line, sort_keys=True, separators=(",", ":"), ensure_ascii=False) + "\n"
+
+
+def shown(lines, is_press):
+    """The levels that the ends of steps show."""
+    for end in (it for it in lines if it.get("stage") == "end"):
+        is_cancelled = "cancel" in end["commands"]
+        is_idle = not (is_press and end["tick"] == 0) and (is_cancelled or not (end["changed"] or "win" in end["commands"]))
+        if not is_idle and (is_cancelled or "restart" not in end["commands"]):
+            yield end["level"]
+
+
+@tells_stages
+class DayOfStages(unittest.TestCase):
+    def test_each_case_is_told_as_it_was_worked_out(self):
+        self.assertGreaterEqual(len(CASES), 20)
+        for path in CASES:
+            with self.subTest(path.stem):
+                case = json.loads(path.read_text(encoding="utf-8"))
+                asked = [str(case["session"]), str(case["input"]), *(["columns"] if case["order"] == "columns" else [])]
+                ran = subprocess.run([*STAGES, *asked], input=json.dumps(case["sessions"]).encode(), stdout=subprocess.PIPE, stderr=subprocess.PIPE, env=ENVIRONMENT)
+                self.assertEqual((ran.returncode, ran.stderr), (0, b""))
+                self.assertEqual(ran.stdout.decode(), "".join(map(compact, case["lines"])))
+
+    def test_the_ends_of_steps_are_the_frames_of_all_cases(self):
+        """A press shows the level of its end, and so does a tick that isn't idle; but a restart that it gives is shown in its place."""
+        text, lines = cases_in_rows()
+        entries, frames = json.loads(text), {}
+        for line in map(json.loads, lines.splitlines()):
+            if line.get("kind") in ("move", "tick"):
+                frames.setdefault((line["session"], line["at"]), []).append(line["level"])
+        for number, entry in enumerate(entries):
+            for at in range(min(len(entry[1][1]), MOST_INPUTS) + 1):
+                with self.subTest(entry[0], session=number, at=at):
+                    ran = subprocess.run([*STAGES, "0", str(at)], input=json.dumps([entry]).encode(), stdout=subprocess.PIPE, env=ENVIRONMENT)
+                    is_press = at > 0 and isinstance(entry[1][1][at - 1], int)
+                    self.assertEqual(list(shown(map(json.loads, ran.stdout.splitlines()), is_press)), frames.get((number, at), []))
+
+
+if __name__ == "__main__":
+    unittest.main()
