@@ -1,18 +1,25 @@
-// The game's text with the numbers of its lines, and the fault at its line.
+// The game's text with the numbers of its lines, the fault at its line, and the lines that are marked: those of the rules that acted in the stage that is
+// looked at, and those that never acted.
 import { at, makeButton } from "./elements.mjs";
+import { linesAsBands, rowsMarked } from "./marked-lines.mjs";
 
-// The numbers of so many lines, a line each.
-const numbersOf = (count) => Array.from({ length: count }, (_, place) => String(place + 1)).join("\n");
+const LEADING = new Set(["ArrowUp", "ArrowDown", "ArrowLeft", "ArrowRight", "Home", "End", "PageUp", "PageDown"]);
 
 export class SourcePanel {
-  constructor(change) {
+  // change(text) is told what is typed, and point(line) on which line the text was clicked, or the cursor led to.
+  constructor(change, point) {
     this.text = at("source");
     this.numbers = at("numbers");
-    this.count = 0;
-    this.line = null;
+    Object.assign(this, { count: 0, line: null, lit: [], never: [] });
     this.text.addEventListener("input", () => change(this.text.value));
     this.text.addEventListener("scroll", () => { this.numbers.scrollTop = this.text.scrollTop; });
     this.text.addEventListener("keydown", (event) => { if (event.key === "Escape") at("stage").focus(); });
+    this.text.addEventListener("click", () => point(this.lineAtCursor));
+    this.text.addEventListener("keyup", (event) => { if (LEADING.has(event.key)) point(this.lineAtCursor); });
+  }
+
+  get lineAtCursor() {
+    return this.text.value.slice(0, this.text.selectionStart).split("\n").length;
   }
 
   set(source) {
@@ -31,19 +38,33 @@ export class SourcePanel {
     this.mark(this.line);
   }
 
-  // Marks the number of a line, or of none.
+  // Marks the number of a line as faulty, or of none.
   mark(line) {
     this.line = line;
-    const isThere = line !== null && line <= this.count;
-    const here = document.createElement("mark");
-    const rows = numbersOf(this.count).split("\n");
-    if (!isThere) {
-      this.numbers.textContent = rows.join("\n");
-    } else {
-      here.textContent = rows[line - 1];
-      this.numbers.replaceChildren(rows.slice(0, line - 1).map((row) => `${row}\n`).join(""), here, rows.slice(line).map((row) => `\n${row}`).join(""));
-    }
+    this.drawNumbers();
+  }
+
+  drawNumbers() {
+    const kinds = new Map([...this.never.map((line) => [line, "never"]), ...this.lit.map((line) => [line, "lit"]), ...(this.line === null ? [] : [[this.line, "faulty"]])]);
+    this.numbers.replaceChildren(...rowsMarked(this.count, kinds));
     this.numbers.scrollTop = this.text.scrollTop;
+  }
+
+  // Marks the lines of the rules that acted, and those that never did. The first that acted is scrolled to, where it isn't seen.
+  light(lit, never) {
+    const isSame = (one, other) => one.length === other.length && one.every((line, place) => line === other[place]);
+    if (isSame(lit, this.lit) && isSame(never, this.never)) return;
+    const isNew = !isSame(lit, this.lit);
+    Object.assign(this, { lit, never });
+    this.drawNumbers();
+    const { lineHeight, paddingTop } = getComputedStyle(this.text), height = parseFloat(lineHeight);
+    Object.assign(this.text.style, linesAsBands([[never, "var(--chosen)"], [lit, "var(--lit)"]], { height, top: parseFloat(paddingTop) }));
+    if (isNew && lit.length > 0) this.scrollTo(lit[0], height);
+  }
+
+  scrollTo(line, height) {
+    const top = (line - 1) * height, isSeen = top >= this.text.scrollTop && top + height <= this.text.scrollTop + this.text.clientHeight;
+    if (!isSeen) this.text.scrollTop = Math.max(0, top - this.text.clientHeight / 2);
   }
 
   // Shows why the game is not played, with a button that leads to the line, where one is named.
