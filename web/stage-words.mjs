@@ -1,8 +1,6 @@
 // Stages, and where the rules of a line acted, in words. Lines are counted from 1; inputs from 0, as the page counts them.
-import { whereTold } from "./cells.mjs";
 import { plural } from "./elements.mjs";
 import { inputTold } from "./faults.mjs";
-import { numberAt } from "./levels.mjs";
 import { refusalTold } from "./session-file.mjs";
 import { chosenStage, coverageOf, inputsOfLine, isComplete, levelsAround, lineNow, stagesNow } from "./staging.mjs";
 
@@ -31,9 +29,9 @@ export function stageTold(stage) {
 }
 
 // What heads somewhere in a stage, in words.
-export function headingsTold({ headings = [] }, level) {
+export function headingsTold({ headings = [] }) {
   if (headings.length === 0) return "";
-  const told = headings.slice(0, MOST_HEADINGS).map(([column, row, name, direction]) => `${name} at ${whereTold(level, numberAt(level, column, row))}: ${direction}`);
+  const told = headings.slice(0, MOST_HEADINGS).map(([column, row, name, direction]) => `${name} at column ${column + 1}, row ${row + 1}: ${direction}`);
   const more = headings.length - told.length;
   return `Heads somewhere: ${told.join("; ")}${more > 0 ? `; and ${more} more` : ""}.`;
 }

@@ -1,10 +1,9 @@
 // The stages of the input that is looked at as a list, and the inputs in which the rules of a line acted.
 import { at, make, makeButton, reveal } from "./elements.mjs";
-import { readLevel, Labels } from "./level-text.mjs";
 import { windowAround } from "./recording.mjs";
 import { say } from "./saying.mjs";
 import { coverageTold, headingsTold, inputCalled, stageTold, stagesTold } from "./stage-words.mjs";
-import { chosenStage, coverageOf, inputsOfLine, levelsAround, lineNow, linesMarked, stagesNow } from "./staging.mjs";
+import { chosenStage, coverageOf, inputsOfLine, lineNow, linesMarked, stagesNow } from "./staging.mjs";
 
 const MOST_STAGES = 240; // that are listed at once,
 const MOST_INPUTS_LISTED = 240; // and inputs of a line
@@ -18,8 +17,9 @@ export class StagesPanel {
   draw(state) {
     at("stages-panel").open = state.staging.isOpen;
     say("stages-told", stagesTold(state));
-    this.drawStages(stagesNow(state)?.stages ?? [], chosenStage(state));
-    say("headings", this.headings(state));
+    const stages = stagesNow(state)?.stages ?? [], chosen = chosenStage(state);
+    this.drawStages(stages, chosen);
+    say("headings", headingsTold(stages[chosen] ?? {}));
   }
 
   drawStages(stages, chosen) {
@@ -43,13 +43,6 @@ export class StagesPanel {
     button.tabIndex = number === (chosen ?? 0) ? 0 : -1;
     if (number === chosen) button.setAttribute("aria-current", "true");
     return button;
-  }
-
-  headings(state) {
-    const number = chosenStage(state);
-    if (number === null) return "";
-    const level = readLevel(levelsAround(state, number).text, new Labels(), state.order);
-    return level === null ? "" : headingsTold(stagesNow(state).stages[number], level);
   }
 
   drawInputs(state) {
