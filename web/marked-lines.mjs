@@ -1,5 +1,4 @@
 // Lines of a text that are marked: in the column of their numbers, and as bands of colour behind the text.
-const MOST_BANDS = 400;
 
 // The numbers of so many lines, of which some are marked by the kinds of their marks.
 export function rowsMarked(count, kinds) {
@@ -30,14 +29,15 @@ function runsOfLines(lines) {
   return runs;
 }
 
-// The style of a text with bands behind its lines; of two on one line the later is seen. Bands scroll with the text.
-export function linesAsBands(marked, { height, top }) {
-  const bands = marked.flatMap(([lines, colour]) => runsOfLines(lines).map(([first, last]) => ({ colour, at: top + (first - 1) * height, side: (last - first + 1) * height }))).reverse().slice(0, MOST_BANDS);
+// The style of a text that is scrolled so far, with bands behind those of its lines that are seen; of two on one line the later is seen. A browser need not
+// scroll them with the text, so they are placed anew where it is scrolled.
+export function linesAsBands(marked, { height, top, scrolled, seen }) {
+  const bands = marked.flatMap(([lines, colour]) => runsOfLines(lines).map(([first, last]) => ({ colour, at: top + (first - 1) * height - scrolled, side: (last - first + 1) * height })));
+  const shown = bands.filter(({ at, side }) => at < seen && at + side > 0).reverse();
   return {
-    backgroundImage: bands.map(({ colour }) => `linear-gradient(${colour}, ${colour})`).join(", "),
-    backgroundPosition: bands.map(({ at }) => `0 ${at}px`).join(", "),
-    backgroundSize: bands.map(({ side }) => `100% ${side}px`).join(", "),
+    backgroundImage: shown.map(({ colour }) => `linear-gradient(${colour}, ${colour})`).join(", "),
+    backgroundPosition: shown.map(({ at }) => `0 ${at}px`).join(", "),
+    backgroundSize: shown.map(({ side }) => `100% ${side}px`).join(", "),
     backgroundRepeat: "no-repeat",
-    backgroundAttachment: "local",
   };
 }

@@ -10,9 +10,10 @@ export class SourcePanel {
   constructor(change, point) {
     this.text = at("source");
     this.numbers = at("numbers");
-    Object.assign(this, { count: 0, line: null, lit: [], never: [] });
+    Object.assign(this, { count: 0, line: null, lit: [], never: [], isShown: false });
     this.text.addEventListener("input", () => change(this.text.value));
-    this.text.addEventListener("scroll", () => { this.numbers.scrollTop = this.text.scrollTop; });
+    this.text.addEventListener("scroll", () => { this.numbers.scrollTop = this.text.scrollTop; this.drawBands(); });
+    new ResizeObserver(() => this.resized()).observe(this.text);
     this.text.addEventListener("keydown", (event) => { if (event.key === "Escape") at("stage").focus(); });
     this.text.addEventListener("click", () => point(this.lineAtCursor));
     this.text.addEventListener("keyup", (event) => { if (LEADING.has(event.key)) point(this.lineAtCursor); });
@@ -57,13 +58,29 @@ export class SourcePanel {
     const isNew = !isSame(lit, this.lit);
     Object.assign(this, { lit, never });
     this.drawNumbers();
-    const { lineHeight, paddingTop } = getComputedStyle(this.text), height = parseFloat(lineHeight);
-    Object.assign(this.text.style, linesAsBands([[never, "var(--chosen)"], [lit, "var(--lit)"]], { height, top: parseFloat(paddingTop) }));
-    if (isNew && lit.length > 0) this.scrollTo(lit[0], height);
+    this.drawBands();
+    if (isNew && lit.length > 0) this.scrollTo(lit[0]);
   }
 
-  scrollTo(line, height) {
-    const top = (line - 1) * height, isSeen = top >= this.text.scrollTop && top + height <= this.text.scrollTop + this.text.clientHeight;
+  // Where the text comes to be seen, a line that acted is scrolled to.
+  resized() {
+    const isShown = this.text.clientHeight > 0, isNew = isShown && !this.isShown;
+    this.isShown = isShown;
+    this.drawBands();
+    if (isNew && this.lit.length > 0) this.scrollTo(this.lit[0]);
+  }
+
+  get heightOfLine() {
+    return parseFloat(getComputedStyle(this.text).lineHeight);
+  }
+
+  drawBands() {
+    const place = { height: this.heightOfLine, top: parseFloat(getComputedStyle(this.text).paddingTop), scrolled: this.text.scrollTop, seen: this.text.clientHeight };
+    Object.assign(this.text.style, linesAsBands([[this.never, "var(--chosen)"], [this.lit, "var(--lit)"]], place));
+  }
+
+  scrollTo(line) {
+    const height = this.heightOfLine, top = (line - 1) * height, isSeen = top >= this.text.scrollTop && top + height <= this.text.scrollTop + this.text.clientHeight;
     if (!isSeen) this.text.scrollTop = Math.max(0, top - this.text.clientHeight / 2);
   }
 
