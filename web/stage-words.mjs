@@ -20,12 +20,15 @@ const rulesTold = ({ stage, lines }) => `${stage === "late" ? "late rules" : "ru
 
 const STAGES_TOLD = { input: "the press", movement: "the movement", end: "the end of the step" };
 
+// Of a step that takes no press, such as a tick, the first stage is told as its begin.
+const partTold = (stage) => (stage.stage === "input" && stage.headings.length === 0 ? "the step begins" : STAGES_TOLD[stage.stage] ?? rulesTold(stage));
+
 // A stage by what it is: the press, the rules of lines, the movement, the end, or a stop.
 export function stageTold(stage) {
   const tick = stage.tick > 0 ? `tick ${stage.tick}: ` : "";
   if (stage.stop !== undefined) return `${tick}stopped: ${stage.stop}`;
   const commands = stage.commands.length > 0 ? ` (${stage.commands.join(", ")})` : "";
-  return `${tick}${STAGES_TOLD[stage.stage] ?? rulesTold(stage)}${commands}`;
+  return `${tick}${partTold(stage)}${commands}`;
 }
 
 // What heads somewhere in a stage, in words.

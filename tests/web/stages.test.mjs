@@ -166,6 +166,8 @@ it("stages and headings in words", () => {
   const early = { stage: "early", block: 0, lines: [3, 4, 5, 9], commands: ["again", "cancel"], tick: 2 };
   assert.equal(stageTold(early), "tick 2: rules of lines 3 to 5, 9 (again, cancel)");
   assert.equal(stageTold({ ...early, stage: "late", lines: [7], commands: [], tick: 0 }), "late rules of line 7");
+  const press = { stage: "input", headings: [[0, 0, "player", "up"]], commands: [], tick: 0 };
+  assert.deepEqual([press, { ...press, headings: [], tick: 1 }].map(stageTold), ["the press", "tick 1: the step begins"]);
   assert.equal(headingsTold({ headings: [[1, 0, "crate", "right"]] }), "Heads somewhere: crate at column 2, row 1: right.");
   assert.equal(headingsTold({}), "");
 });
