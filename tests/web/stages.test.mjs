@@ -1,6 +1,7 @@
 // The stages of an input on the page, without a browser: the recording is played by the module in Node, and the stages are written by hand.
 import assert from "node:assert/strict";
 import test from "node:test";
+import { linesAsBands } from "../../web/marked-lines.mjs";
 import { actedBy, stagesBy } from "../../web/page-engine.mjs";
 import { framesOf, shownOf } from "../../web/replaying.mjs";
 import { coverageTold, headingsTold, stageShown, stageTold, stagesTold } from "../../web/stage-words.mjs";
@@ -170,4 +171,9 @@ it("stages and headings in words", () => {
   assert.deepEqual([press, { ...press, headings: [], tick: 1 }].map(stageTold), ["the press", "tick 1: the step begins"]);
   assert.equal(headingsTold({ headings: [[1, 0, "crate", "right"]] }), "Heads somewhere: crate at column 2, row 1: right.");
   assert.equal(headingsTold({}), "");
+});
+
+it("lines that follow one another are one band, those out of sight have none, and the later mark of a line is seen", () => {
+  const style = linesAsBands([[[9, 2, 3], "grey"], [[3], "gold"]], { height: 20, top: 8, scrolled: 10, seen: 100 });
+  assert.deepEqual(style, { backgroundImage: "linear-gradient(gold, gold), linear-gradient(grey, grey)", backgroundPosition: "0 38px, 0 18px", backgroundSize: "100% 20px, 100% 40px", backgroundRepeat: "no-repeat" });
 });
