@@ -2,7 +2,7 @@
 import { plural } from "./elements.mjs";
 import { inputTold } from "./faults.mjs";
 import { refusalTold } from "./session-file.mjs";
-import { chosenStage, coverageOf, inputsOfLine, isComplete, levelsAround, lineNow, stagesNow } from "./staging.mjs";
+import { chosenStage, coverageOf, inputsOfLine, isComplete, levelsAround, lineNow, linesNeverActed, stagesNow } from "./staging.mjs";
 
 const MOST_HEADINGS = 12; // that are told in words
 
@@ -59,14 +59,21 @@ export function stagesTold(state) {
   return came.stages.length === 0 ? `No rule runs at ${where}.` : `Stages of ${where}:`;
 }
 
+// What is said of lines that never acted: those of the text on the left are grey.
+function neverTold(state) {
+  const never = linesNeverActed(state);
+  if (never.length === 0) return "Each line of rules acted, by itself or with its group or loop.";
+  const where = state.work.own === null ? "(grey)" : `in this recording's own text: ${rangesTold(never)}`;
+  return `${plural(never.length, "line")} of rules never acted ${where}.`;
+}
+
 // What is said of the inputs that are looked through.
-export function coverageTold(state, neverCount) {
+export function coverageTold(state) {
   const { isCovered, fault, isStopped } = state.staging, line = lineNow(state), coverage = coverageOf(state);
   if (!isCovered && line === null) return "";
   if (fault !== null) return faultTold(fault);
   const count = inputsOfLine(state).length;
   const where = line === null ? "" : ` The group or loop of line ${line} acted ${count === 0 ? "nowhere" : `in ${plural(count, "input")}`}${isComplete(coverage) ? "" : " so far"}.`;
   if (!isComplete(coverage)) return `${isStopped ? "Stopped" : "Looked through"}: ${coverage.done} of ${plural(coverage.total, "input")}.${where}`;
-  const never = neverCount === 0 ? "Each line of rules acted, by itself or with its group or loop." : `${plural(neverCount, "line")} of rules never acted (grey).`;
-  return `${isCovered ? never : ""}${where}`.trim();
+  return `${isCovered ? neverTold(state) : ""}${where}`.trim();
 }

@@ -65,7 +65,7 @@ export class StagesPanel {
     at("covering").hidden = isDone;
     at("covering").max = Math.max(1, total);
     at("covering").value = done;
-    say("covered", coverageTold(state, never.length));
+    say("covered", coverageTold(state));
     this.drawInputs(state);
   }
 }

@@ -134,8 +134,16 @@ export const covered = (state) => withStaging(state, { isCovered: !state.staging
 
 export const coverageStopped = (state) => withStaging(state, { isStopped: true });
 
+const rulesRead = { source: null, lines: [] }; // of the source that was read last
+
 // The lines of a source that have rules.
-const ruleLinesOf = (source) => linesOf(source).filter(({ section, text }) => section === "rules" && text.includes("->")).map(({ number }) => number);
+function ruleLinesOf(source) {
+  if (rulesRead.source !== source) {
+    const lines = linesOf(source).filter(({ section, text }) => section === "rules" && text.includes("->")).map(({ number }) => number);
+    Object.assign(rulesRead, { source, lines });
+  }
+  return rulesRead.lines;
+}
 
 // Asks where the rule on a line acted; on another line nothing is asked.
 export function linePointedAt(state, number) {
@@ -150,10 +158,17 @@ export const inputsOfLine = (state) => actedLines(state).flatMap((lines, input) 
 // Goes to an input in which the line acted.
 export const lookedAtActed = (state, input) => withStaging(lookedAtInput(state, input), { came: null, sought: lineNow(state) });
 
-// The lines of the text that are marked: those of the stage that is chosen, and those that never acted, once all inputs are looked through.
+// The lines of rules that never acted, once it is asked for them and all inputs are looked through.
+export function linesNeverActed(state) {
+  const { isOpen, isCovered } = state.staging;
+  if (!isOpen || !isCovered || !isComplete(coverageOf(state))) return [];
+  const acted = new Set(actedLines(state).flat());
+  return ruleLinesOf(sourceOf(state)).filter((line) => !acted.has(line));
+}
+
+// The lines that are marked in the text on the left, where it is what is played: those of the stage that is chosen, and those that never acted.
 export function linesMarked(state) {
-  const number = chosenStage(state), isOver = state.work.own === null && state.staging.isOpen;
-  if (!isOver) return { lit: [], never: [] };
-  const acted = new Set(actedLines(state).flat()), isWanted = state.staging.isCovered && isComplete(coverageOf(state));
-  return { lit: number === null ? [] : stagesNow(state).stages[number].lines ?? [], never: isWanted ? ruleLinesOf(state.text).filter((line) => !acted.has(line)) : [] };
+  const number = chosenStage(state);
+  if (state.work.own !== null) return { lit: [], never: [] };
+  return { lit: number === null ? [] : stagesNow(state).stages[number].lines ?? [], never: linesNeverActed(state) };
 }

@@ -94,7 +94,7 @@ it("a line of RULES leads to the inputs in which it acted, and to its stage ther
   assert.equal(lineNow(bench.state), null, "there is no rule on the line");
   await bench.act(linePointedAt, RULE);
   await lookedThrough(bench);
-  assert.deepEqual([inputsOfLine(bench.state), coverageTold(bench.state, 0)], [[3], `The group or loop of line ${RULE} acted in 1 input.`]);
+  assert.deepEqual([inputsOfLine(bench.state), coverageTold(bench.state)], [[3], `The group or loop of line ${RULE} acted in 1 input.`]);
   await bench.act(lookedAtActed, 3);
   assert.deepEqual([shownOf(bench.state), chosenStage(bench.state), linesMarked(bench.state)], [3, 1, { lit: [RULE], never: [] }]);
   await bench.act(edited, `${GAME}\n`);
@@ -107,9 +107,18 @@ it("lines that never acted are grey once all inputs are looked through", async (
   assert.deepEqual(linesMarked(bench.state).never, []);
   await bench.act(covered);
   await lookedThrough(bench);
-  assert.deepEqual([coverageOf(bench.state), linesMarked(bench.state).never, coverageTold(bench.state, 1)], [{ done: 4, total: 4 }, [RULE + 1], "1 line of rules never acted (grey)."]);
+  assert.deepEqual([coverageOf(bench.state), linesMarked(bench.state).never, coverageTold(bench.state)], [{ done: 4, total: 4 }, [RULE + 1], "1 line of rules never acted (grey)."]);
   await bench.act(covered);
-  assert.deepEqual([linesMarked(bench.state).never, coverageTold(bench.state, 0)], [[], ""]);
+  assert.deepEqual([linesMarked(bench.state).never, coverageTold(bench.state)], [[], ""]);
+});
+
+it("of a recording over its own text the lines that never acted are told by their numbers, and none is grey", async () => {
+  const bench = await staged(new Told(), [], GAME);
+  await bench.act((state) => ({ ...state, work: { ...state.work, own: `\n${TWO_RULES}`, inputs: [2] } }));
+  await bench.act(opened, true);
+  await bench.act(covered);
+  await lookedThrough(bench);
+  assert.deepEqual([coverageTold(bench.state), linesMarked(bench.state)], [`2 lines of rules never acted in this recording's own text: ${RULE + 1} to ${RULE + 2}.`, { lit: [], never: [] }]);
 });
 
 it("of a longer recording only what is new is looked through", async () => {
@@ -130,7 +139,7 @@ it("looking through inputs is stopped, told, and goes on when it is asked for ag
   bench.engine.acted = () => new Promise(() => {});
   await bench.act(covered);
   await bench.act(coverageStopped);
-  assert.deepEqual([bench.runner.doing.coverage, coverageTold(bench.state, 0), linesMarked(bench.state).never], [null, "Stopped: 0 of 4 inputs.", []]);
+  assert.deepEqual([bench.runner.doing.coverage, coverageTold(bench.state), linesMarked(bench.state).never], [null, "Stopped: 0 of 4 inputs.", []]);
   bench.engine.acted = ask;
   await bench.act(covered);
   await bench.act(covered);
@@ -157,7 +166,7 @@ it("an engine without stages, or one that breaks, is told, and asked no more", a
     await lookedThrough(bench);
     await bench.act((state) => state);
     assert.equal(asked, 2);
-    for (const words of [stagesTold(bench.state), coverageTold(bench.state, 0)]) typeof told === "string" ? assert.equal(words, told) : assert.match(words, told);
+    for (const words of [stagesTold(bench.state), coverageTold(bench.state)]) typeof told === "string" ? assert.equal(words, told) : assert.match(words, told);
     await bench.act(stageStepped, 1);
     assert.equal(chosenStage(bench.state), null);
   }
