@@ -47,13 +47,13 @@ export class Drawn {
 
   draw(state, doing, isBusy) {
     const when = (...words) => this.changes.when(...words);
-    const frames = framesOf(state), shown = shownOf(state), isNow = isPlayed(state);
+    const frames = framesOf(state), shown = shownOf(state), isNow = isPlayed(state), isStage = chosenStage(state) !== null;
     this.drawTabs(state);
     this.panel.set(state.text);
     when("fault", [state.played, state.text, isNow], () => this.panel.showFault(faultOfText(state)));
     when("levels", [sourceOf(state), state.work.index], () => this.drawLevels(state));
     when("recording", [frames, shown, state.work.inputs, state.played], () => this.drawRecording(state));
-    when("level", [frames, shown, state.order, state.suite, state.comparison, state.file, state.work, state.staging.came, chosenStage(state), window.innerWidth, window.innerHeight, at("stage").clientWidth], () => this.level.draw(state));
+    when("level", [frames, shown, state.order, state.suite, state.comparison, state.file, state.work, isStage && state.staging.came, chosenStage(state), window.innerWidth, window.innerHeight, at("stage").clientWidth], () => this.level.draw(state));
     when("likely", [sourceOf(state), state.work, state.suite, state.played, state.file], () => this.level.drawLikely(state));
     when("stages", [state.staging.isOpen, stagesNow(state), chosenStage(state)], () => this.stages.draw(state));
     when("acted", [state.staging, state.played, shown, state.work, state.order, state.text, doing.coverage], () => this.stages.drawActed(state, doing.coverage, this.panel));
