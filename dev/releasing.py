@@ -29,7 +29,7 @@ NOTICES = "NOTICES"
 MOST_RELEASED = 1_000_000
 GATE_ENDED = "The gate, ./check, passed on that commit; so its parts ended:"
 # The engine for Node and for pages, beside its module.
-GLUE = ["engine/saxtegun.mjs", "engine/saxtegun.d.ts", "engine/replay.mjs"]
+GLUE = ["engine/saxtegun.mjs", "engine/saxtegun.d.ts", "engine/replay.mjs", "engine/stages.mjs", "engine/streams.mjs"]
 # What stands in a release as it stands here: the command with its package, the examples, and the documents for users.
 TAKEN = ["saxtegun", "VERSION", "README.md", "CHANGELOG.md", "CONTRIBUTING.md", "SECURITY.md", NOTICES, "python", "web", "examples", "docs", "adapters", "HANDLES", *GLUE]
 
@@ -202,7 +202,7 @@ def engine_files(top: Path, files: Dict[str, File], version: str) -> Dict[str, F
         "type": "module",
         "exports": {".": {"types": "./saxtegun.d.ts", "default": "./saxtegun.mjs"}, "./out/saxtegun.wasm": "./out/saxtegun.wasm"},
         "types": "./saxtegun.d.ts",
-        "bin": {"saxtegun-replay": "replay.mjs"},
+        "bin": {"saxtegun-replay": "replay.mjs", "saxtegun-stages": "stages.mjs"},
         "engines": {"node": ">=20"},
     }
     packed = {path.partition("/")[2]: files[path] for path in [*GLUE, MODULE]}

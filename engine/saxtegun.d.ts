@@ -8,7 +8,8 @@ export interface Answer {
   lines: Uint8Array;
   /**
    * Why the file was refused, and else null: `not-json`, `bad-entry N`, `bad-level N`, `too-many` as docs/sessions.md has them; `memory`, where memory was
-   * refused; `broken`, where the module stopped at a fault, its own or that of what it was built by, or a worker could not be started.
+   * refused; `broken`, where the module stopped at a fault, its own or that of what it was built by, or a worker could not be started; `no-stages`, where
+   * stages were asked of an older module, which gives none.
    */
   fault: string | null;
 }
@@ -46,6 +47,31 @@ export interface Close {
   session: 0;
 }
 
+/**
+ * A stage of a step, as its line has it: the level behind the press, a group or loop of rules that acted, the movement, or the end of the step. Block
+ * and lines, the source lines of the block's rules from 1, are those of `early` and `late` alone. A step that stops has its stop behind its stages.
+ */
+export interface Stage {
+  /** 0 for the start of the session, 1 for its first input. */
+  input: number;
+  /** 0 for the step of the input itself; then the ticks of `again`. */
+  tick: number;
+  stage: 'input' | 'early' | 'movement' | 'late' | 'end';
+  changed: boolean;
+  commands: string[];
+  /** What heads somewhere: column and row, from 0, object, direction. */
+  headings: [number, number, string, string][];
+  level: string;
+  block?: number;
+  lines?: number[];
+}
+
+export interface Stop {
+  input: number;
+  tick: number;
+  stop: string;
+}
+
 export interface WorkerOptions extends Options {
   /** How many workers play at once, 1 to 64; where it is left out, one fewer than there are processors. */
   workers?: number;
@@ -63,6 +89,12 @@ export interface Engine {
    * more; all, where that is left out. `from` is a whole number from 0 on. The module itself leaves the others out. Where there is a fault, there are neither.
    */
   frames(session: Session, options?: Options & { from?: number }): { frames: Frame[]; close: Close | null; fault: string | null };
+  /** Whether the module gives stages. */
+  readonly hasStages: boolean;
+  /** The stages of an input of a session, which is played from its start: none for an input that it doesn't have. Where there is a fault, there are none. */
+  stages(session: Session, input: number, options?: Options): { stages: (Stage | Stop)[]; fault: string | null };
+  /** The lines of the stages of an input, of a session of a file that is numbered from 0. The status of an answer is 0 or 2. */
+  stagesOf(text: string | ArrayBuffer | ArrayBufferView, session: number, input: number, options?: Options): Answer;
   /** Plays a file in workers of its own, cut into files of consecutive sessions. The answer is that of `replay`. */
   replayInWorkers(text: string | ArrayBuffer | ArrayBufferView, options?: WorkerOptions): Promise<Answer>;
 }

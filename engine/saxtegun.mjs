@@ -13,12 +13,14 @@ const ROOM = 256 * MIB - 16;
 const LEAST_ROOM = MIB;
 /** The bytes from which on the memory of an instance, which never shrinks, is given back after a call. */
 const LARGE = 1024 * MIB;
-/** The bytes of lines of which frames are made; those of more would take a page's memory. */
+/** The bytes of lines of which frames or stages are made; those of more would take a page's memory. */
 const MOST_OF_FRAMES = 512 * MIB;
 const OUTCOME_BYTES = 24;
 const MOST_WORKERS = 64;
 const PARTS_OF_A_WORKER = 8;
 const WORKER = 'saxtegun-worker';
+const STAGES = 'saxtegun_stages'; // an export that older modules don't have
+const MOST_NUMBER = 0xffff_ffff; // that the module is told; no file has so many sessions or inputs
 
 const isNode = typeof process === 'object' && typeof process.versions?.node === 'string';
 
@@ -58,6 +60,14 @@ function inputOf(from) {
   if (!Number.isSafeInteger(from) || from < 0) throw new TypeError('inputs are numbered from 0');
   return BigInt(from);
 }
+
+/** The number of a session, or of an input whose stages are wanted, as the module is told it. */
+function smallNumberOf(number) {
+  if (!Number.isSafeInteger(number) || number < 0) throw new TypeError('sessions and inputs are numbered from 0');
+  return Math.min(number, MOST_NUMBER);
+}
+
+const fileOfOne = ({ source, inputs, level = '', index = 0 }) => JSON.stringify([['', [source, inputs, level, index]]]);
 
 /** An instance of the module, with the room into which it writes lines. */
 class Instance {
@@ -129,10 +139,25 @@ class Engine {
       exports.saxtegun_lines(input.at, BigInt(input.size), number, room.at, BigInt(room.size), outcome));
   }
 
-  frames({ source, inputs, level = '', index = 0 }, { order = 'columns', from = 0 } = {}) {
+  frames(session, { order = 'columns', from = 0 } = {}) {
     const number = numberOf(order), first = inputOf(from);
-    return framesOf(this.#ask(JSON.stringify([['', [source, inputs, level, index]]]), (exports, input, room, outcome) =>
+    return framesOf(this.#ask(fileOfOne(session), (exports, input, room, outcome) =>
       exports.saxtegun_frames(input.at, BigInt(input.size), number, first, room.at, BigInt(room.size), outcome)));
+  }
+
+  get hasStages() {
+    return WebAssembly.Module.exports(this.#module).some(({ name }) => name === STAGES);
+  }
+
+  stagesOf(text, session, input, { order = 'columns' } = {}) {
+    const number = numberOf(order), [of, at] = [session, input].map(smallNumberOf);
+    if (!this.hasStages) return refused('no-stages');
+    return this.#ask(text, (exports, file, room, outcome) =>
+      exports[STAGES](file.at, BigInt(file.size), number, of, at, room.at, BigInt(room.size), outcome));
+  }
+
+  stages(session, input, options) {
+    return valuesOf('stages', this.stagesOf(fileOfOne(session), 0, input, options));
   }
 
   async replayInWorkers(text, { order = 'columns', workers = idleProcessors(), progress = () => {}, signal } = {}) {
@@ -198,16 +223,21 @@ export function parse(lines) {
   return values;
 }
 
-/** The frames and the close of the one session that was played. */
-function framesOf({ lines, fault }) {
-  if (fault !== null) return { frames: [], close: null, fault };
-  if (lines.length > MOST_OF_FRAMES) return { frames: [], close: null, fault: 'memory' };
+/** The objects of an answer's lines by a name, with its fault. */
+function valuesOf(name, { lines, fault }) {
+  if (fault !== null) return { [name]: [], fault };
+  if (lines.length > MOST_OF_FRAMES) return { [name]: [], fault: 'memory' };
   try {
-    const frames = parse(lines), close = frames.pop() ?? null;
-    return { frames, close, fault };
+    return { [name]: parse(lines), fault };
   } catch (error) {
-    return { frames: [], close: null, fault: faultOf(error) };
+    return { [name]: [], fault: faultOf(error) };
   }
+}
+
+/** The frames and the close of the one session that was played. */
+function framesOf(answer) {
+  const { frames, fault } = valuesOf('frames', answer);
+  return { frames, close: frames.pop() ?? null, fault };
 }
 
 // A file in parts.

@@ -1,5 +1,6 @@
 """engine/: the C of the module, the rewriting to 32 bits, and the glue over the module where that is built."""
 import gzip
+import json
 import os
 import shutil
 import subprocess
@@ -99,6 +100,37 @@ class To32(InARoom):
         ran = subprocess.run([sys.executable, "-B", ENGINE / "to32.py", "from.ll", "to.ll"], cwd=self.room, stdout=subprocess.PIPE, stderr=subprocess.PIPE, check=False)
         self.assertEqual((ran.returncode, ran.stderr.decode()), (1, "to32: a form that isn't known:   what is this\n"))
         self.assertFalse((self.room / "to.ll").exists())
+
+
+@unittest.skipUnless(NODE, "there is no node")
+class TheStages(InARoom):
+    """The stages of an input, as far as the module that is there gives them, and the command line of engine/stages.mjs."""
+
+    def tell(self, *words, module="", file=b"[]"):
+        ran = subprocess.run([NODE, ENGINE / "stages.mjs", *words], input=file, env={**os.environ, "SAXTEGUN_MODULE": str(module)}, stdout=subprocess.PIPE, stderr=subprocess.PIPE, check=False)
+        return ran.returncode, ran.stdout.decode(), ran.stderr.decode()
+
+    def test_the_glue(self):
+        module = {} if IS_BUILT else {"SAXTEGUN_MODULE": str(self.room / "none")}
+        ran = subprocess.run([NODE, "--test", "--test-reporter=tap", OWN / "stages.test.mjs"], env={**os.environ, **module}, stdout=subprocess.PIPE, stderr=subprocess.STDOUT, check=False)
+        self.assertEqual(ran.returncode, 0, ran.stdout.decode(errors="replace"))
+
+    def test_words_that_are_no_command_line(self):
+        for words in ([], ["0"], ["0", "x"], ["-1", "0"], ["0", "1.0"], ["0", ""], ["0", "0", "rows"], ["0", "0", "columns", "more"], ["18446744073709551616", "0"]):
+            with self.subTest(words):
+                self.assertEqual(self.tell(*words), (2, "", "bad command line\n"))
+
+    def test_a_module_without_stages(self):
+        (self.room / "empty.wasm").write_bytes(b"\0asm\1\0\0\0")
+        self.assertEqual(self.tell("0", "1", module=self.room / "empty.wasm"), (2, "", "no-stages\n"))
+
+    @unittest.skipUnless(IS_BUILT and b"saxtegun_stages" in (ENGINE / "out" / "saxtegun.wasm").read_bytes(), "the module is not built, or gives no stages")
+    def test_the_lines_and_the_exit_status(self):
+        self.assertEqual(self.tell("0", "+18446744073709551615", "columns"), (0, "", ""))
+        self.assertEqual(self.tell("0", "1", file=b"[0]"), (2, "", "bad-entry 0\n"))
+        walk = TOP / "conformance/cases/walk-two-steps-right-against-a-wall/input.json"
+        status, lines, errors = self.tell("0", "1", file=walk.read_bytes())
+        self.assertEqual((status, errors, [json.loads(it)["stage"] for it in lines.splitlines()]), (0, "", ["input", "movement", "end"]))
 
 
 @unittest.skipUnless(NODE and IS_BUILT, "there is no node, or the module is not built")

@@ -195,12 +195,12 @@ class Release(unittest.TestCase):
     def test_the_package_for_node_has_what_npm_wants(self):
         with tarfile.open(self.release / f"saxtegun-engine-{self.version}.tgz") as tar:
             content = {info.name: tar.extractfile(info).read() for info in tar}
-        wanted = ["NOTICES", "out/saxtegun.wasm", "package.json", "replay.mjs", "saxtegun.d.ts", "saxtegun.mjs"]
+        wanted = ["NOTICES", "out/saxtegun.wasm", "package.json", "replay.mjs", "saxtegun.d.ts", "saxtegun.mjs", "stages.mjs", "streams.mjs"]
         self.assertEqual(sorted(content), [f"package/{it}" for it in wanted])
         said = json.loads(content["package/package.json"])
         self.assertEqual((said["name"], said["version"]), ("saxtegun-engine", self.version))
         self.assertEqual(content["package/out/saxtegun.wasm"], STAND_IN.module)
-        for path in (said["types"], said["exports"]["."]["default"], said["exports"]["./out/saxtegun.wasm"], said["bin"]["saxtegun-replay"]):
+        for path in (said["types"], said["exports"]["."]["default"], said["exports"]["./out/saxtegun.wasm"], *said["bin"].values()):
             self.assertIn(os.path.normpath(f"package/{path}"), content)
 
     @unittest.skipUnless(shutil.which("node"), "there is no Node")

@@ -1,28 +1,20 @@
 // Draws the state of the playground: draw(state, doing, isBusy) shows all of it, and nothing else changes what the page shows. It reads the state and never
 // changes it.
-import { shapeOf } from "./closes.mjs";
-import { Ending } from "./comparing.mjs";
-import { likelyTold } from "./differences.mjs";
 import { at, make, plural, readable } from "./elements.mjs";
 import { levelsOf } from "./game.mjs";
-import { Labels, readLevel } from "./level-text.mjs";
-import { clockTold, faultOfText, othersTold, ownTold, putBackTold, statusOf, stepTold, tabTold, toldOfLevel, unlikenessTold, verdictOf } from "./page-words.mjs";
-import { Stage } from "./stage.mjs";
+import { LevelDrawn } from "./level-drawn.mjs";
+import { clockTold, faultOfText, othersTold, ownTold, putBackTold, statusOf, stepTold, tabTold, verdictOf } from "./page-words.mjs";
+import { say, tell } from "./saying.mjs";
+import { StagesPanel } from "./stages-panel.mjs";
+import { chosenStage, stagesNow } from "./staging.mjs";
 import { Strip } from "./strip.mjs";
 import { SessionList } from "./session-list.mjs";
 import { SourcePanel } from "./source-panel.mjs";
 import { isSavable, namesakeOf } from "./filing.mjs";
 import { framesOf, gameOf, isAtEnd, isPlayed, shownOf, sourceOf, takenOf } from "./replaying.mjs";
-import { countOfOthers, differenceOf, rowsOf, runsOfNow, seenOf, sessionOf } from "./suite.mjs";
+import { countOfOthers, differenceOf, rowsOf, runsOfNow, seenOf } from "./suite.mjs";
 
 const TABS = ["game", "sessions"];
-
-function say(id, stranger) {
-  const text = readable(stranger);
-  if (at(id).textContent !== text) at(id).textContent = text;
-}
-
-const tell = (id, { text, close }) => at(id).replaceChildren(...(close === null ? [] : [shapeOf(close)]), make("span", "", readable(text)));
 
 // Calls a function only where something of what it reads has changed.
 class Changes {
@@ -39,26 +31,32 @@ class Changes {
 }
 
 export class Drawn {
-  // acts: open(number), input(taken), frame(number), type(text)
+  // acts: open(number), input(taken), frame(number), type(text), stage(number), acted(input), point(line)
   constructor(acts) {
-    this.panel = new SourcePanel(acts.type);
-    this.stage = new Stage();
+    this.panel = new SourcePanel(acts.type, acts.point);
+    this.level = new LevelDrawn();
+    this.stages = new StagesPanel(acts);
     this.strip = new Strip(acts);
     this.list = new SessionList(acts.open);
     this.changes = new Changes();
-    this.look = null;
+  }
+
+  get stage() {
+    return this.level.stage;
   }
 
   draw(state, doing, isBusy) {
     const when = (...words) => this.changes.when(...words);
-    const frames = framesOf(state), shown = shownOf(state), isNow = isPlayed(state);
+    const frames = framesOf(state), shown = shownOf(state), isNow = isPlayed(state), isStage = chosenStage(state) !== null;
     this.drawTabs(state);
     this.panel.set(state.text);
     when("fault", [state.played, state.text, isNow], () => this.panel.showFault(faultOfText(state)));
     when("levels", [sourceOf(state), state.work.index], () => this.drawLevels(state));
     when("recording", [frames, shown, state.work.inputs, state.played], () => this.drawRecording(state));
-    when("level", [frames, shown, state.order, state.suite, state.comparison, state.file, state.work, window.innerWidth, window.innerHeight, at("stage").clientWidth], () => this.drawLevel(state));
-    when("likely", [sourceOf(state), state.work, state.suite, state.played, state.file], () => this.drawLikely(state));
+    when("level", [frames, shown, state.order, state.suite, state.comparison, state.file, state.work, isStage && state.staging.came, chosenStage(state), window.innerWidth, window.innerHeight, at("stage").clientWidth], () => this.level.draw(state));
+    when("likely", [sourceOf(state), state.work, state.suite, state.played, state.file], () => this.level.drawLikely(state));
+    when("stages", [state.staging.isOpen, stagesNow(state), chosenStage(state)], () => this.stages.draw(state));
+    when("acted", [state.staging, state.played, shown, state.work, state.order, state.text, doing.coverage], () => this.stages.drawActed(state, doing.coverage, this.panel));
     tell("status", statusOf(state));
     say("own", ownTold(state));
     at("take-text").hidden = state.work.own === null;
@@ -96,49 +94,6 @@ export class Drawn {
     at("summary").replaceChildren(make("span", "", plural(inputs.length, "input")), make("span", "", plural(frames.length, "frame")), end);
     this.strip.show({ inputs, taken: frames.length === 0 ? 0 : frames[shownOf(state)].at, frames, shown: shownOf(state) });
     say("step", stepTold(state));
-  }
-
-  // The frame that is looked at, beside what it is compared with: the recorded level at the end, or another engine's frame.
-  comparedWith(state) {
-    const parting = state.comparison?.partings[state.work.opened] ?? null;
-    if (sessionOf(state) === null || runsOfNow(state) === null) return null;
-    if (parting === null) return differenceOf(state) && { text: differenceOf(state).recorded, caption: "recorded" };
-    const other = state.comparison.others[state.work.opened].frames[shownOf(state)];
-    return other === undefined ? null : { text: other.level, caption: `the other engine's frame ${shownOf(state)}`, isOfEngines: true };
-  }
-
-  drawLevel(state) {
-    const frame = framesOf(state)[shownOf(state)];
-    if (frame === undefined) return this.drawRefused(state);
-    if (this.look?.source !== sourceOf(state)) this.look = { source: sourceOf(state), labels: new Labels() };
-    const { labels } = this.look, game = gameOf(sourceOf(state)), other = this.comparedWith(state);
-    this.stage.use(game.look(), labels);
-    this.kept = { title: game.title, index: state.work.index };
-    const ending = other && new Ending(frame.level, other.text, state.order, labels);
-    const level = ending ? ending.reached : readLevel(frame.level, labels, state.order);
-    const unread = level === null ? "This level can't be drawn: a name of an object in it holds a comma." : "";
-    this.stage.show({ level, other: ending?.recorded ?? null, framed: ending?.cells ?? [], caption: other && level ? "reached" : unread, otherCaption: other?.caption ?? "", told: readable(toldOfLevel(state)) });
-    return say("difference", ending ? unlikenessTold(state, ending, other.isOfEngines) : "");
-  }
-
-  // Where a session differs: what the site may decide otherwise.
-  drawLikely(state) {
-    const source = sourceOf(state), isDiffering = sessionOf(state) !== null && isPlayed(state) && runsOfNow(state)?.[state.work.opened].close === "differs";
-    const told = isDiffering ? likelyTold({ source, game: gameOf(source), inputs: state.work.inputs, frames: framesOf(state) }) : null;
-    say("likely", told === null ? "" : `${told[0].toUpperCase()}${told.slice(1)}.`);
-  }
-
-  // Where the text that is written can't be played, what the last one showed stays.
-  drawRefused(state) {
-    const { title } = gameOf(sourceOf(state));
-    if (this.kept?.title === title && this.kept.index === state.work.index && sourceOf(state).trim() !== "") return this.drawKept();
-    this.stage.show({ level: null, other: null, framed: [], caption: "", otherCaption: "", told: "" });
-    return say("difference", "");
-  }
-
-  drawKept() {
-    this.stage.keep("as the last text showed it that could be played");
-    say("difference", "");
   }
 
   drawClock(clock) {

@@ -4,6 +4,7 @@ import { download, fileNameOf } from "./handing.mjs";
 import { meaningOf, swipeOf } from "./keys.mjs";
 import { accepted, followed, namesakeOf, removed, withOtherFile } from "./filing.mjs";
 import { gameOf } from "./replaying.mjs";
+import { coverageStopped, covered, opened, stageStepped } from "./staging.mjs";
 import { differenceOf, playedAgain, seenOf } from "./suite.mjs";
 import { ACTION, begunAnew, cutBack, fromLevel, inOrder, named, putBack, released, ticked, withOwnText } from "./work.mjs";
 
@@ -12,6 +13,7 @@ function movesOf(page) {
     back: () => page.step(-1), on: () => page.step(1), first: () => page.step(-Infinity), last: () => page.step(Infinity), cut: () => page.act(cutBack), play: () => page.playFrames(),
     next: () => page.openNext(1, false), previous: () => page.openNext(-1, false), "next-failure": () => page.openNext(1, true), "previous-failure": () => page.openNext(-1, true),
     larger: () => page.page.stage.zoomBy(1), smaller: () => page.page.stage.zoomBy(-1), fit: () => page.page.stage.fit(),
+    "stage-back": () => page.act(stageStepped, -1), "stage-on": () => page.act(stageStepped, 1),
   };
 }
 
@@ -77,6 +79,9 @@ function listenToButtons(page, moves) {
   click("stop-play", () => page.runner.stopPlay());
   click("begin-play", () => page.act(released));
   click("save-game", () => download(fileNameOf(gameOf(page.state.text).title), page.state.text));
+  click("cover", () => page.act(covered));
+  click("stop-cover", () => page.act(coverageStopped));
+  at("stages-panel").addEventListener("toggle", () => page.act(opened, at("stages-panel").open));
   click("play-all", () => page.act(playedAgain));
   click("stop", () => page.runner.stopSuite());
   click("follow", () => page.act(followed));

@@ -10,6 +10,7 @@ export const PLAYER = "saxtegun-player"; // the name of the workers that play fo
 
 const FEW = 131_072; // bytes of a sessions file that one worker plays
 const SOON = 400; // milliseconds that it may take for it
+const MOMENT = 30; // milliseconds for which inputs are looked through before it is told what came of it
 const GRACE = 100; // milliseconds that a worker has to end what isn't wanted any more
 
 // The module, which stands in the page compressed.
@@ -29,6 +30,24 @@ export function playedBy(engine, { source, index, order, inputs, from, isTicked 
   const { frames, close, fault } = engine.frames({ source: playedText(source, isTicked), index, inputs: isFull ? inputs : [...inputs, ONE_MORE] }, { order, from });
   if (fault !== null) return refusedPlay(fault);
   return { frames: frames.filter((frame) => frame.at <= inputs.length), cause: close.cause ?? null, isSolved: frames.at(-1)?.kind === "over" };
+}
+
+// The stages of some inputs of a recording: { stages, fault }.
+export function stagesBy(engine, { source, index, order, inputs, isTicked, numbers }) {
+  const session = { source: playedText(source, isTicked), index, inputs }, answers = numbers.map((number) => engine.stages(session, number, { order }));
+  const fault = answers.find((answer) => answer.fault !== null)?.fault ?? null;
+  return { stages: fault === null ? answers.flatMap(({ stages }) => stages) : [], fault };
+}
+
+// The lines of rules that acted, for each of some inputs from one on, as many as are looked through in a moment: { lines, fault }.
+export function actedBy(engine, { source, index, order, inputs, isTicked, from, count }) {
+  const played = playedText(source, isTicked), lines = [];
+  for (const begin = performance.now(); from + lines.length < count && (lines.length === 0 || performance.now() - begin < MOMENT);) {
+    const number = from + lines.length, { stages, fault } = engine.stages({ source: played, index, inputs: inputs.slice(0, number) }, number, { order });
+    if (fault !== null) return { lines, fault };
+    lines.push([...new Set(stages.flatMap((stage) => stage.lines ?? []))]);
+  }
+  return { lines, fault: null };
 }
 
 // A worker that answers one question at a time. One whose answer isn't wanted any more is given a moment, and then ended, whatever it does.
@@ -85,7 +104,12 @@ class PlayerThread {
 // What the worker does: it answers whatever it is asked, also where it can't.
 export function servePlayer() {
   let engine = null;
-  const answerTo = async ({ wanted, bytes, order }) => (wanted ? playedBy(await engine, wanted) : (await engine).replay(bytes, { order }));
+  const answerTo = async ({ wanted, staged, covered, bytes, order }) => {
+    const module = await engine;
+    if (wanted) return playedBy(module, wanted);
+    if (staged) return stagesBy(module, staged);
+    return covered ? actedBy(module, covered) : module.replay(bytes, { order });
+  };
   globalThis.addEventListener("message", async ({ data }) => {
     if (data.module) engine = load(data.module);
     else globalThis.postMessage(await answerTo(data).catch(() => BROKEN));
@@ -114,5 +138,6 @@ export async function startEngine() {
     const answer = bytes.length > FEW ? null : await soon(few, { bytes, order: options.order }, options.signal);
     return answer ?? engine.replayInWorkers(bytes, options);
   };
-  return { play: (wanted, signal) => player.ask({ wanted }, signal), playAll };
+  const asked = (kind) => (question, signal) => player.ask({ [kind]: question }, signal);
+  return { play: asked("wanted"), stages: asked("staged"), acted: asked("covered"), playAll };
 }

@@ -13,6 +13,7 @@ import { Refusal, SessionFile } from "./session-file.mjs";
 import { following, isFailure } from "./session-list.mjs";
 import { RECORDINGS, comparedWithLines, filed, savedAs, withOtherFile, withRecordings } from "./filing.mjs";
 import { framesOf, isAtEnd, shownOf } from "./replaying.mjs";
+import { linePointedAt, lookedAtActed, stageChosen } from "./staging.mjs";
 import { rowsOf, sessionOpened } from "./suite.mjs";
 import { RECORDED_ORDER, edited, inOrder, lookedAt, lookedAtInput, pressed, released, withGame } from "./work.mjs";
 
@@ -25,6 +26,7 @@ class Playground {
     this.kept = null;
     const acts = {
       open: (number) => this.act(sessionOpened, number), input: (taken) => this.act(lookedAtInput, taken), frame: (frame) => this.act(lookedAt, frame),
+      stage: (number) => this.act(stageChosen, number), acted: (input) => this.act(lookedAtActed, input), point: (line) => this.act(linePointedAt, line),
       type: (text) => this.runner.type((now) => edited(now, text)),
     };
     this.page = new Drawn(acts);

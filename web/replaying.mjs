@@ -20,7 +20,8 @@ export function gameOf(source) {
   return games.get(source);
 }
 
-const isPlayOf = (played, { source, index, order, isTicked }) => played !== null && played.source === source && played.index === index && played.order === order && played.isTicked === isTicked;
+// Whether something was played of this source, entry of LEVELS and order.
+export const isPlayOf = (played, { source, index, order, isTicked }) => played !== null && played.source === source && played.index === index && played.order === order && played.isTicked === isTicked;
 
 // Whether what was played is what is worked on now.
 export function isPlayed(state) {

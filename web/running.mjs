@@ -1,6 +1,7 @@
 // Runs the page: after each change of the state the engine is asked for what is wanted of it, the state is drawn, and it is kept.
 import { playedInParts } from "./parts.mjs";
 import { answered, isWanted, wantedPlay } from "./replaying.mjs";
+import { coverageCame, isCoverageWanted, isStagesWanted, stagesCame, wantedCoverage, wantedStages } from "./staging.mjs";
 import { seeing, suiteCame, wantedSuite } from "./suite.mjs";
 import { playedText } from "./ticks.mjs";
 import { held } from "./work.mjs";
@@ -9,11 +10,11 @@ const SLOW = 500; // milliseconds, after which it is said that something is bein
 const TYPING_PAUSE = 250; // milliseconds without a letter, after which what was typed is played
 
 export class Runner {
-  // engine.play(request, signal) and engine.playAll(bytes, { order, signal, progress }) are asked; draw(state, doing, isBusy) shows what there
+  // engine.play, engine.stages and engine.acted, each of (request, signal), and engine.playAll(bytes, { order, signal, progress }) are asked; draw(state, doing, isBusy) shows what there
   // is, and keep(state, isPlaying) keeps it.
   constructor(state, { engine, draw, keep, pause = TYPING_PAUSE }) {
     Object.assign(this, { state, engine, draw, keep, pause });
-    this.doing = { play: null, suite: null }; // what is asked now: { wanted, controller, done, total, isSlow }
+    this.doing = { play: null, suite: null, stages: null, coverage: null }; // what is asked now: { wanted, controller, done, total, isSlow }
     this.typing = 0;
     this.waiting = [];
   }
@@ -42,7 +43,8 @@ export class Runner {
   }
 
   get isBusy() {
-    return this.typing !== 0 || this.doing.play !== null || this.doing.suite !== null;
+    const { play, suite, stages } = this.doing;
+    return this.typing !== 0 || play !== null || suite !== null || stages !== null;
   }
 
   // Settles once nothing is typed, asked or wanted.
@@ -54,6 +56,16 @@ export class Runner {
     if (this.typing !== 0) return;
     this.askPlay();
     this.askSuite();
+    this.askFor("stages", wantedStages, isStagesWanted, (...words) => this.engine.stages(...words), stagesCame);
+    this.askFor("coverage", wantedCoverage, isCoverageWanted, (...words) => this.engine.acted(...words), coverageCame);
+  }
+
+  // Asks the engine what a state wants of it, and takes the answer to the state.
+  askFor(name, wantedOf, isStillWanted, ask, came) {
+    this.begin(name, wantedOf(this.state), (wanted) => isStillWanted(this.state, wanted), async ({ wanted, controller }) => {
+      const answer = await ask(wanted, controller.signal);
+      return (state) => came(state, wanted, answer);
+    });
   }
 
   // Begins what is wanted where something else is asked now, which is ended.
@@ -87,10 +99,7 @@ export class Runner {
   }
 
   askPlay() {
-    this.begin("play", wantedPlay(this.state), (wanted) => isWanted(this.state, wanted), async ({ wanted, controller }) => {
-      const answer = await this.engine.play(wanted, controller.signal);
-      return (state) => answered(state, wanted, answer);
-    });
+    this.askFor("play", wantedPlay, isWanted, (...words) => this.engine.play(...words), answered);
   }
 
   askSuite() {

@@ -1,18 +1,26 @@
-// The game's text with the numbers of its lines, and the fault at its line.
+// The game's text with the numbers of its lines, the fault at its line, and the lines that are marked: those of the rules that acted in the stage that is
+// looked at, and those that never acted.
 import { at, makeButton } from "./elements.mjs";
+import { linesAsBands, rowsMarked } from "./marked-lines.mjs";
 
-// The numbers of so many lines, a line each.
-const numbersOf = (count) => Array.from({ length: count }, (_, place) => String(place + 1)).join("\n");
+const LEADING = new Set(["ArrowUp", "ArrowDown", "ArrowLeft", "ArrowRight", "Home", "End", "PageUp", "PageDown"]);
 
 export class SourcePanel {
-  constructor(change) {
+  // change(text) is told what is typed, and point(line) on which line the text was clicked, or the cursor led to.
+  constructor(change, point) {
     this.text = at("source");
     this.numbers = at("numbers");
-    this.count = 0;
-    this.line = null;
+    Object.assign(this, { count: 0, line: null, lit: [], never: [], isShown: false });
     this.text.addEventListener("input", () => change(this.text.value));
-    this.text.addEventListener("scroll", () => { this.numbers.scrollTop = this.text.scrollTop; });
+    this.text.addEventListener("scroll", () => { this.numbers.scrollTop = this.text.scrollTop; this.drawBands(); });
+    new ResizeObserver(() => this.resized()).observe(this.text);
     this.text.addEventListener("keydown", (event) => { if (event.key === "Escape") at("stage").focus(); });
+    this.text.addEventListener("click", () => point(this.lineAtCursor));
+    this.text.addEventListener("keyup", (event) => { if (LEADING.has(event.key)) point(this.lineAtCursor); });
+  }
+
+  get lineAtCursor() {
+    return this.text.value.slice(0, this.text.selectionStart).split("\n").length;
   }
 
   set(source) {
@@ -31,19 +39,49 @@ export class SourcePanel {
     this.mark(this.line);
   }
 
-  // Marks the number of a line, or of none.
+  // Marks the number of a line as faulty, or of none.
   mark(line) {
     this.line = line;
-    const isThere = line !== null && line <= this.count;
-    const here = document.createElement("mark");
-    const rows = numbersOf(this.count).split("\n");
-    if (!isThere) {
-      this.numbers.textContent = rows.join("\n");
-    } else {
-      here.textContent = rows[line - 1];
-      this.numbers.replaceChildren(rows.slice(0, line - 1).map((row) => `${row}\n`).join(""), here, rows.slice(line).map((row) => `\n${row}`).join(""));
-    }
+    this.drawNumbers();
+  }
+
+  drawNumbers() {
+    const kinds = new Map([...this.never.map((line) => [line, "never"]), ...this.lit.map((line) => [line, "lit"]), ...(this.line === null ? [] : [[this.line, "faulty"]])]);
+    this.numbers.replaceChildren(...rowsMarked(this.count, kinds));
     this.numbers.scrollTop = this.text.scrollTop;
+  }
+
+  // Marks the lines of the rules that acted, and those that never did. The first that acted is scrolled to, where it isn't seen.
+  light(lit, never) {
+    const isSame = (one, other) => one.length === other.length && one.every((line, place) => line === other[place]);
+    if (isSame(lit, this.lit) && isSame(never, this.never)) return;
+    const isNew = !isSame(lit, this.lit);
+    Object.assign(this, { lit, never });
+    this.drawNumbers();
+    this.drawBands();
+    if (isNew && lit.length > 0) this.scrollTo(lit[0]);
+  }
+
+  // Where the text comes to be seen, a line that acted is scrolled to.
+  resized() {
+    const isShown = this.text.clientHeight > 0, isNew = isShown && !this.isShown;
+    this.isShown = isShown;
+    this.drawBands();
+    if (isNew && this.lit.length > 0) this.scrollTo(this.lit[0]);
+  }
+
+  get heightOfLine() {
+    return parseFloat(getComputedStyle(this.text).lineHeight);
+  }
+
+  drawBands() {
+    const place = { height: this.heightOfLine, top: parseFloat(getComputedStyle(this.text).paddingTop), scrolled: this.text.scrollTop, seen: this.text.clientHeight };
+    Object.assign(this.text.style, linesAsBands([[this.never, "var(--chosen)"], [this.lit, "var(--lit)"]], place));
+  }
+
+  scrollTo(line) {
+    const height = this.heightOfLine, top = (line - 1) * height, isSeen = top >= this.text.scrollTop && top + height <= this.text.scrollTop + this.text.clientHeight;
+    if (!isSeen) this.text.scrollTop = Math.max(0, top - this.text.clientHeight / 2);
   }
 
   // Shows why the game is not played, with a button that leads to the line, where one is named.

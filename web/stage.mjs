@@ -1,10 +1,12 @@
 // The level in the middle, drawn as the game draws it, and beside or below it the one that it is compared with.
 import { DifferingCells, InWords, cellTold, whereTold } from "./cells.mjs";
+import { drawArrows } from "./arrows.mjs";
 import { Pictures, SIDE, cellBelow, drawLevel, scaleFor } from "./drawing.mjs";
 import { at } from "./elements.mjs";
 import { differing, heightOf, isDrawn, numberAt, placeOf } from "./levels.mjs";
 
 const MARK = "#ff85ad";
+const ACTED = "#35c3ff"; // of what a stage changed
 const MOST_SCALE = 64; // pixels for one of a sprite, at most
 const MOST_PIXELS = 12_000; // of a side of a level
 const LEAST_HEIGHT = 180; // of the room for levels
@@ -29,7 +31,8 @@ export class Stage {
     this.pictures = new Pictures(look, labels.names);
   }
 
-  // Shows a level, with another beside it where one is handed in, and the cells framed in which they differ.
+  // Shows a level, with another beside it where one is handed in, and the cells framed in which they differ. Of a stage the cells are framed that it
+  // changed, and what heads somewhere has an arrow: `headings` are [column, row, object, direction].
   show(shown) {
     const { level, other, framed } = shown, before = this.level;
     Object.assign(this, { shown, level, other });
@@ -77,8 +80,9 @@ export class Stage {
   drawOne(id, level, framed, told) {
     at(id).hidden = !isDrawn(level);
     if (!isDrawn(level)) return;
-    const { chosen } = this.differing;
-    drawLevel(at(id), level, this.pictures, this.scale, [{ cells: framed, colour: MARK }, { cells: chosen === null ? [] : [chosen], colour: MARK, weight: 1.5 }]);
+    const { chosen } = this.differing, { changed = [], headings = [] } = this.shown;
+    drawLevel(at(id), level, this.pictures, this.scale, [{ cells: framed, colour: MARK }, { cells: changed, colour: ACTED }, { cells: chosen === null ? [] : [chosen], colour: MARK, weight: 1.5 }]);
+    if (headings.length > 0) drawArrows(at(id), headings, SIDE * this.scale);
     at(id).setAttribute("aria-label", `${told}; ${level.width} wide, ${heightOf(level)} high`);
   }
 

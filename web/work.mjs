@@ -12,6 +12,19 @@ export const RECORDED_ORDER = "columns"; // the one of the published level texts
 // A recording of a text that has nothing in it yet. Where `own` is null it is one over the text at hand.
 const workOn = (text, more = {}) => ({ own: null, index: levelsOf(text)[0]?.index ?? 0, inputs: [], name: "", opened: null, ...more });
 
+// The stages of the input that is looked at, which are asked for where their list is open.
+const UNSTAGED = {
+  isOpen: false,
+  came: null, // the stages that came last: { wanted, stages, fault }
+  chosen: null, // the one whose level is shown: { came, looked, number }
+  sought: null, // a line of the text, of which a stage is chosen once they come
+  line: null, // the line of the text of which it is listed where it acted: { source, number }
+  isCovered: false, // whether the lines that never acted are grey
+  isStopped: false, // whether no more inputs are looked through
+  fault: null, // why the last of them could not be
+  acted: null, // the lines that acted, input by input: { source, index, order, isTicked, inputs, lines }
+};
+
 export function beginning(example) {
   return {
     example, // the text of the example
@@ -36,6 +49,7 @@ export function beginning(example) {
     messages: [], // of LEVELS, which are shown one after another before play goes on
     told: null, // what was said of the last act
     saved: "",
+    staging: UNSTAGED,
   };
 }
 

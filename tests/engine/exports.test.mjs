@@ -1,4 +1,5 @@
-// The two exports of the module: the frames from an input on beside the lines of the whole, and both with what they ask of the heap refused.
+// The exports of the module: the frames from an input on beside the lines of the whole, the stages of an input, and all with what they ask of the heap
+// refused.
 import assert from 'node:assert/strict';
 import { existsSync, readFileSync, readdirSync } from 'node:fs';
 import test from 'node:test';
@@ -10,6 +11,7 @@ const MEMORY = { status: 2, fault: 1, entry: 0, count: 0, text: '' };
 const LAST = 2n ** 64n - 1n;
 
 const compiled = async name => WebAssembly.compile(readFileSync(new URL(name, OUT)));
+const hasStages = module => WebAssembly.Module.exports(module).some(({ name }) => name === 'saxtegun_stages');
 const linesOf = text => text.match(/.*\n/g) ?? [];
 
 /** What the lines of the items from an input on are, by the objects that the lines say. */
@@ -40,12 +42,13 @@ class Host {
     return new Uint8Array(this.exports.memory.buffer, at, count);
   }
 
-  /** Plays the file, from an input on where one is named, and tells all that is answered. */
+  /** Plays the file, from an input on where one is named, or tells stages, [session, input], and gives all that is answered. */
   ask(from) {
     this.bytes(this.room, this.size).fill(MARK);
-    const { saxtegun_lines: lines, saxtegun_frames: frames } = this.exports;
+    const { saxtegun_lines: lines, saxtegun_frames: frames, saxtegun_stages: stages } = this.exports;
     const [file, order, rest] = [[this.file, BigInt(this.length)], this.order, [this.room, BigInt(this.size), this.outcome]];
-    const count = Number(from === undefined ? lines(...file, order, ...rest) : frames(...file, order, BigInt(from), ...rest));
+    const told = () => (Array.isArray(from) ? stages(...file, order, ...from, ...rest) : frames(...file, order, BigInt(from), ...rest));
+    const count = Number(from === undefined ? lines(...file, order, ...rest) : told());
     const [status, fault, entry] = new BigUint64Array(this.bytes(this.outcome, OUTCOME).slice().buffer).values();
     const held = count <= this.size ? count : 0;
     assert.ok(this.bytes(this.room + held, this.size - held).every(byte => byte === MARK), 'the room keeps what no line takes');
@@ -82,12 +85,22 @@ test('a room that is too small stays as it is', async () => {
 /** Cases that are played in a moment: a session, one that has most kinds of frames, three of which one has a source that is refused, and a file that is refused. */
 const SMALL = ['walk-two-steps-right-against-a-wall', 'win-load-win-again-over', 'the-second-of-three-sessions-has-a-refused-source', 'a-second-entry-that-is-a-number'];
 
+test('stages are told where there is room for them, and else the room stays as it is', async () => {
+  const module = await compiled('saxtegun.wasm');
+  if (!hasStages(module)) return;
+  for (const { name, order, file, status } of [...cases()].filter(it => SMALL.includes(it.name))) {
+    const whole = new Host(module, file, order, ROOM * 4).ask([0, 1]), [small, fitting] = [Math.max(0, whole.count - 1), whole.count].map(size => new Host(module, file, order, size).ask([0, 1]));
+    assert.deepEqual([whole.status, fitting.text, small.text, small.count], [status === 2 ? 2 : 0, whole.text, '', whole.count], name);
+    assert.ok(linesOf(whole.text).every(line => JSON.parse(line).input === 1), name);
+  }
+});
+
 test('whatever is refused of the heap, an answer is that of ample memory or tells the want of it', async () => {
   const module = await compiled('refusing.wasm');
   for (const { name, file, order } of [...cases()].filter(it => SMALL.includes(it.name))) {
     const host = new Host(module, file, order, ROOM);
     const { refuse, requests, blocks_out: blocksOut } = host.exports;
-    for (const from of [undefined, 0, 1]) {
+    for (const from of [undefined, 0, 1, ...(hasStages(module) ? [[0, 1]] : [])]) {
       refuse(1n, 0n);
       const ample = host.ask(from), most = requests(), out = blocksOut();
       let refusals = 0;

@@ -2,7 +2,7 @@
 import { existsSync, readFileSync } from "node:fs";
 import { load } from "../../engine/saxtegun.mjs";
 import { keptOf, stateOfVisit } from "../../web/kept-work.mjs";
-import { playedBy } from "../../web/page-engine.mjs";
+import { actedBy, playedBy, stagesBy } from "../../web/page-engine.mjs";
 import { Runner } from "../../web/running.mjs";
 import { beginning } from "../../web/work.mjs";
 
@@ -22,7 +22,8 @@ export function closesOf(entries, order) {
 
 export class Bench {
   constructor(state = beginning(GAME)) {
-    this.engine = { play: async (wanted) => playedBy(module, wanted), playAll: async (bytes, { order }) => module.replay(bytes, { order }) };
+    const [stages, acted] = [stagesBy, actedBy].map((answer) => async (wanted) => answer(module, wanted));
+    this.engine = { play: async (wanted) => playedBy(module, wanted), stages, acted, playAll: async (bytes, { order }) => module.replay(bytes, { order }) };
     this.begin(state);
   }
 

@@ -222,6 +222,7 @@ test("keys mean inputs and moves, but not where something is typed", () => {
   for (const [key, move] of [["+", "larger"], ["-", "smaller"], ["0", "fit"]]) assert.deepEqual(pressed(key), { move });
   assert.deepEqual(pressed("ArrowLeft", "body", { shiftKey: true }), { move: "back" });
   assert.deepEqual(pressed("N", "body", { shiftKey: true }), { move: "previous-failure" });
+  for (const [back, on] of [["{", "}"], ["ArrowUp", "ArrowDown"]]) assert.deepEqual([back, on].map((key) => pressed(key, "body", { shiftKey: true })), [{ move: "stage-back" }, { move: "stage-on" }]);
   assert.deepEqual(pressed("End"), { move: "last" });
   for (const it of [pressed("x", "textarea"), pressed("q"), pressed("z", "body", { ctrlKey: true }), pressed(" ", "button"), pressed("Tab"), pressed("Enter", "button")]) assert.equal(it, null);
 });

@@ -7,6 +7,7 @@ import { MOST_PAST } from "../../web/past.mjs";
 import { SessionFile } from "../../web/session-file.mjs";
 import { accepted, comparedWithLines, filed, followed, namesakeOf, removed, savedAs, withOtherFile } from "../../web/filing.mjs";
 import { isPlayed, sourceOf } from "../../web/replaying.mjs";
+import { coverageStopped, covered, linePointedAt, opened, stageStepped } from "../../web/staging.mjs";
 import { differenceOf, playedAgain, rowsOf, runsOfNow, seenOf, sessionOf, sessionOpened } from "../../web/suite.mjs";
 import { begunAnew, cutBack, edited, fromLevel, held, inOrder, lookedAt, named, pressed, putBack, released, withGame, withOwnText } from "../../web/work.mjs";
 import { Bench, GAME, closesOf, module, read } from "./bench.mjs";
@@ -102,6 +103,8 @@ const ACTIONS = [
   () => change((state) => (differenceOf(state)?.why === null ? accepted(state, [state.work.opened]) : state)), () => change((state) => accepted(state, seenOf(state))),
   () => change((state) => (state.file === null ? state : followed(state))), (random) => change((state) => inOrder(state, pick(random, ["columns", "columns", "rows"]))), () => change(withOwnText),
   () => change(held), () => change(released),
+  (random) => change((state) => opened(state, random(3) > 0)), (random) => change((state) => stageStepped(state, random(3) - 1)), () => change(covered), () => change(coverageStopped),
+  (random) => change((state) => linePointedAt(state, 70 + random(20))),
   () => change((state) => (runsOfNow(state) === null ? state : comparedWithLines(state, "lines", new TextDecoder().decode(state.suite.lines)))),
 ];
 

@@ -2,8 +2,8 @@
 // behind it, or among what can be put back, as this browser keeps it for the next visit. acts(seed, count, texts) gives what went wrong, and what
 // sessions the page showed with which closes; browser tests evaluate this file in the page.
 (() => {
-  const KEYS = ["ArrowUp", "ArrowLeft", "ArrowDown", "ArrowRight", "x", "z", "r", ".", "[", "]", "Home", "End", "Backspace", "p", "j", "k", "n", "N"];
-  const NOT_CLICKED = ["open", "save-game", "save-lines", "stop", "stop-play"]; // these open a dialog of the system, hand out what there is, or depend on time
+  const KEYS = ["ArrowUp", "ArrowLeft", "ArrowDown", "ArrowRight", "x", "z", "r", ".", "[", "]", "Home", "End", "Backspace", "p", "j", "k", "n", "N", "{", "}"];
+  const NOT_CLICKED = ["open", "save-game", "save-lines", "stop", "stop-play", "stop-cover"]; // these open a dialog of the system, hand out what there is, or depend on time
   const NAMES = ["walk", "push", "", "\u202ename"];
   const PATIENCE = 60_000; // milliseconds
   const wrong = window.wrong ??= [];

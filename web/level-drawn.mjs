@@ -1,0 +1,78 @@
+// The level in the middle: the frame that is looked at, beside what it is compared with, or the level behind the stage that is chosen.
+import { Ending } from "./comparing.mjs";
+import { likelyTold } from "./differences.mjs";
+import { readable } from "./elements.mjs";
+import { Labels, readLevel } from "./level-text.mjs";
+import { differing } from "./levels.mjs";
+import { toldOfLevel, unlikenessTold } from "./page-words.mjs";
+import { framesOf, gameOf, isPlayed, shownOf, sourceOf } from "./replaying.mjs";
+import { say } from "./saying.mjs";
+import { Stage } from "./stage.mjs";
+import { chosenStage } from "./staging.mjs";
+import { stageShown } from "./stage-words.mjs";
+import { differenceOf, runsOfNow, sessionOf } from "./suite.mjs";
+
+export class LevelDrawn {
+  constructor() {
+    this.stage = new Stage();
+    this.look = null;
+  }
+
+  // The frame that is looked at, beside what it is compared with: the recorded level at the end, or another engine's frame.
+  comparedWith(state) {
+    const parting = state.comparison?.partings[state.work.opened] ?? null;
+    if (sessionOf(state) === null || runsOfNow(state) === null) return null;
+    if (parting === null) return differenceOf(state) && { text: differenceOf(state).recorded, caption: "recorded" };
+    const other = state.comparison.others[state.work.opened].frames[shownOf(state)];
+    return other === undefined ? null : { text: other.level, caption: `the other engine's frame ${shownOf(state)}`, isOfEngines: true };
+  }
+
+  draw(state) {
+    const frame = framesOf(state)[shownOf(state)];
+    if (chosenStage(state) !== null) return this.drawStage(state);
+    if (frame === undefined) return this.drawRefused(state);
+    const labels = this.use(state), other = this.comparedWith(state);
+    const ending = other && new Ending(frame.level, other.text, state.order, labels);
+    const level = ending ? ending.reached : readLevel(frame.level, labels, state.order);
+    const unread = level === null ? "This level can't be drawn: a name of an object in it holds a comma." : "";
+    this.stage.show({ level, other: ending?.recorded ?? null, framed: ending?.cells ?? [], caption: other && level ? "reached" : unread, otherCaption: other?.caption ?? "", told: readable(toldOfLevel(state)) });
+    return say("difference", ending ? unlikenessTold(state, ending, other.isOfEngines) : "");
+  }
+
+  // Takes the look of the game at hand; the labels of its cells.
+  use(state) {
+    const source = sourceOf(state), game = gameOf(source);
+    if (this.look?.source !== source) this.look = { source, labels: new Labels() };
+    this.stage.use(game.look(), this.look.labels);
+    this.kept = { title: game.title, index: state.work.index };
+    return this.look.labels;
+  }
+
+  // The level behind the stage that is chosen, beside nothing.
+  drawStage(state) {
+    const labels = this.use(state), { text, before, headings, told } = stageShown(state);
+    const level = readLevel(text, labels, state.order), changed = before === null ? [] : differing(readLevel(before, labels, state.order), level) ?? [];
+    this.stage.show({ level, other: null, framed: [], changed, headings, caption: readable(told), otherCaption: "", told: readable(`${toldOfLevel(state)}, ${told}`) });
+    return say("difference", "");
+  }
+
+  // Where a session differs: what the site may decide otherwise.
+  drawLikely(state) {
+    const source = sourceOf(state), isDiffering = sessionOf(state) !== null && isPlayed(state) && runsOfNow(state)?.[state.work.opened].close === "differs";
+    const told = isDiffering ? likelyTold({ source, game: gameOf(source), inputs: state.work.inputs, frames: framesOf(state) }) : null;
+    say("likely", told === null ? "" : `${told[0].toUpperCase()}${told.slice(1)}.`);
+  }
+
+  // Where the text that is written can't be played, what the last one showed stays.
+  drawRefused(state) {
+    const { title } = gameOf(sourceOf(state));
+    if (this.kept?.title === title && this.kept.index === state.work.index && sourceOf(state).trim() !== "") return this.drawKept();
+    this.stage.show({ level: null, other: null, framed: [], caption: "", otherCaption: "", told: "" });
+    return say("difference", "");
+  }
+
+  drawKept() {
+    this.stage.keep("as the last text showed it that could be played");
+    say("difference", "");
+  }
+}
