@@ -2,12 +2,13 @@
 
 ghost use Rattle.std.specs.Prelude.{◌≡◌, ◌≢◌, IfErr, IfOk, length};
 ghost use Rattle.pz_lines.specs.Lines.{text_from, text_of};
-ghost use Rattle.pz_export.specs.Lines.{IsAnswered, IsRefused, IsTold, IsToldWhy, begun_with, order_of};
+ghost use Rattle.pz_export.specs.Lines.{IsAnswered, IsRefused, IsStaged, IsTold, IsToldWhy, begun_with, order_of};
 
 use crate::outcome::{Outcome, REFUSED, played, refused};
 use pz_engine::engine::{Played, lines, lines_from};
 use pz_entries::fault::FileFault;
 use pz_record::order::Order;
+use pz_stages::file::stages;
 use std::alloc::Global;
 
 /// The order that a host asks for.
@@ -87,4 +88,33 @@ pub extern "C" fn saxtegun_frames(
         room,
         outcome,
     )
+}
+
+/// The stages of an input of a session, each by its number: a session from 0, an input from 1, and 0 for a session's start. The cells of
+/// each level come by rows if the order is 0, and else by columns. The answer is the number of bytes of the lines. If the room has so many,
+/// it begins with them. There are none of a session that isn't there, is refused or stopped before.
+#[unsafe(no_mangle)]
+pub extern "C" fn saxtegun_stages(
+    alloc: Global,
+    file: &[u8],
+    order: u32,
+    session: u32,
+    number: u32,
+    room: &mut [u8],
+    outcome: &mut Outcome,
+) -> usize
+    ensures size { length room.new ≡ length room.old }
+    ensures answered { outcome.new.status ≢ REFUSED → IsStaged (order_of order) file.now session number room.old room.new outcome.new result }
+    ensures refused { outcome.new.status ≡ REFUSED → IsRefused file.now room.old room.new outcome.new result }
+{
+    match stages(alloc, file, order_of(order), session as usize, number as usize) {
+        Ok(lines) => {
+            let answer = Played {
+                lines,
+                passed: true,
+            };
+            tell(Ok(answer), room, outcome)
+        }
+        Err(cause) => tell(Err(cause), room, outcome),
+    }
 }

@@ -1,7 +1,7 @@
 -- The lines of the stages of a session's input: a line for each stage that is told, compact JSON with its keys in the order of their
 -- bytes; and where a step stops, a line of the stop behind those of its stages. A block that changed nothing and gave no command isn't
 -- told.
-use Rattle.std.specs.Prelude.{ℕ, ◌+◌, Bool, true, false, not, ◌||◌, ◌==◌, List, [], ◌∷◌, ◌++◌, drop, filter, flat_map, map, slice_get, Option, Some, None, codes, decimal, if◌then◌else◌}
+use Rattle.std.specs.Prelude.{ℕ, ◌+◌, Bool, true, false, not, ◌||◌, ◌==◌, List, [], ◌∷◌, ◌++◌, drop, flat_map, slice_get, Option, Some, None, codes, decimal}
 use Rattle.std.specs.List.{enumerate_from, range_with_len}
 use Rattle.json.specs.Print.{quoted}
 use Rattle.pz_game.specs.declared.direction.Dir.{Dir}
@@ -100,7 +100,8 @@ lines_text rules program _ = []
 -- a stage: of which step of which input it is, what it gave, and the level after it with what heads somewhere there
 unfoldable pub stage_line : ℕ → ℕ → State → StageState → List ℕ
 stage_line number tick state stage =
-    joined ((codes "{" ++ block_text stage.part)
+    joined (codes "{"
+    ∷ block_text stage.part
     ∷ (codes "\"changed\":" ++ bool_text stage.gave.changed)
     ∷ (codes ",\"commands\":" ++ bracketed (command_names stage.gave.commands))
     ∷ (codes ",\"headings\":" ++ bracketed (headings_of state.game.objects stage.gave.level))

@@ -1,9 +1,10 @@
 //! The lines of the stages of a step, and of the steps of an input.
 
-ghost use Rattle.std.specs.Prelude.{◌≡◌, ◌++◌, ◌+◌, ◌<◌, ◌≢◌, [], IfOk, OnOk, true, false};
+ghost use Rattle.std.specs.Prelude.{◌≡◌, ◌++◌, ◌+◌, ◌<◌, ◌≢◌, IfOk, OnOk, length, true, false};
 ghost use Rattle.pz_turn.specs.declared.outcome.StepFault.TheVariants.{Memory};
 ghost use Rattle.pz_trace.specs.Tracing.{with_level};
-ghost use Rattle.pz_stages.specs.Stages.{course_lines, input_lines, is_told, lines_from, step_lines, told_line};
+ghost use Rattle.pz_steps.specs.Steps.{taken};
+ghost use Rattle.pz_stages.specs.Stages.{course_lines, input_lines, is_told, step_lines, stop_line, told_line};
 
 use crate::stage_line::{Place, put_stage, put_stop};
 use bitflags::Flags;
@@ -33,7 +34,7 @@ fn put_told(
     stage: Stage,
     level: &Level,
 ) -> Result<(), AllocError>
-    ensures { OnOk result (lines.new.items ≡ lines.old.items ++ told_line place.number place.tick place.board.now (with_level stage level.now.grid)) }
+    ensures { OnOk result (lines.new.items ≡ lines.old.items ++ told_line place.entry.number place.entry.tick place.entry.board.now (with_level stage level.now.grid)) }
 {
     if is_told(stage, level) {
         put_stage(alloc, lines, place, stage, level)?;
@@ -47,7 +48,7 @@ fn put_fault(
     place: Place<'_, '_>,
     fault: StepFault,
 ) -> Result<(), AllocError>
-    ensures { OnOk result ((fault ≢ Memory) × (lines.new.items ≡ lines.old.items ++ stop_line place.number place.tick fault)) }
+    ensures { OnOk result ((fault ≢ Memory) × (lines.new.items ≡ lines.old.items ++ stop_line place.entry.number place.entry.tick fault)) }
 {
     match fault {
         StepFault::Memory => Err(AllocError),
@@ -63,8 +64,8 @@ fn put_next(
     place: Place<'_, '_>,
     tracing: &mut Tracing<'_>,
 ) -> Result<bool, AllocError>
-    ensures more { IfOk result (λ more. more ≡ true → lines.new.items ++ course_lines place.number place.tick place.board.now tracing.new.course ≡ lines.old.items ++ course_lines place.number place.tick place.board.now tracing.old.course) }
-    ensures over { IfOk result (λ more. more ≡ false → lines.new.items ≡ lines.old.items ++ course_lines place.number place.tick place.board.now tracing.old.course) }
+    ensures more { IfOk result (λ more. more ≡ true → lines.new.items ++ course_lines place.entry.number place.entry.tick place.entry.board.now tracing.new.course ≡ lines.old.items ++ course_lines place.entry.number place.entry.tick place.entry.board.now tracing.old.course) }
+    ensures over { IfOk result (λ more. more ≡ false → lines.new.items ≡ lines.old.items ++ course_lines place.entry.number place.entry.tick place.entry.board.now tracing.old.course) }
     ensures fewer { IfOk result (λ more. more ≡ true → length tracing.new.course.stages < length tracing.old.course.stages) }
 {
     match tracing.next() {
@@ -107,13 +108,20 @@ fn put_step(
     Ok(())
 }
 
+/// The number of the next step. If no `u64` holds it, the answer is want of memory; no input has so many.
+fn counted(tick: u64) -> Result<u64, AllocError>
+    ensures { IfOk result (λ next. next ≡ tick + 1) }
+{
+    tick.checked_add(1).ok_or(AllocError)
+}
+
 /// The lines of the steps of an input.
 pub(crate) fn input_lines(
     alloc: Global,
     steps: Steps<'_>,
     number: u64,
 ) -> Result<Vec<u8>, AllocError>
-    ensures { IfOk result (λ lines. lines.items ≡ input_lines number steps) }
+    ensures { IfOk result (λ lines. lines.items ≡ input_lines number steps.entry) }
 {
     let mut steps = steps;
     let mut lines = Vec::new(alloc);
@@ -121,7 +129,7 @@ pub(crate) fn input_lines(
     'steps: while let Some(step) = steps.next() {
         put_step(alloc, &mut lines, &step, number, tick)?;
         steps.advance()?;
-        tick += 1;
+        tick = counted(tick)?;
     }
     Ok(lines)
 }

@@ -1,6 +1,6 @@
 //! The stages of a session of a file.
 
-ghost use Rattle.std.specs.Prelude.{◌≡◌, ◌≢◌, IfOk, IfErr, Err, slice_get};
+ghost use Rattle.std.specs.Prelude.{◌≡◌, ◌≢◌, IfOk, IfErr, Err, Some, slice_get};
 ghost use Rattle.pz_entries.specs.declared.fault.FileFault.TheVariants as fault;
 ghost use Rattle.pz_engine.specs.Sessions.{sessions_in};
 ghost use Rattle.pz_stages.specs.File.{AreStagesOf, case_lines};

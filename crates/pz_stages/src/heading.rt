@@ -32,6 +32,7 @@ fn put_heading(
 }
 
 /// Adds what heads somewhere in a cell.
+#[tactic(auto, using(crate::proofs::Headings::still_adds))]
 fn put_cell(
     texts: &mut Vec<u8>,
     objects: &[Name],
@@ -53,6 +54,7 @@ fn put_cell(
 }
 
 /// Adds what heads somewhere in a row.
+#[tactic(auto, using(crate::proofs::Headings::adds_one, crate::proofs::Headings::adds_none))]
 fn put_row(
     texts: &mut Vec<u8>,
     objects: &[Name],
@@ -69,6 +71,7 @@ fn put_row(
 }
 
 /// Adds what heads somewhere in a level, each with a comma before it.
+#[tactic(auto, using(crate::proofs::Headings::adds_one, crate::proofs::Headings::adds_none))]
 pub(crate) fn put_headings(
     texts: &mut Vec<u8>,
     objects: &[Name],

@@ -1,10 +1,12 @@
 //! The line of a stage.
 
-ghost use Rattle.std.specs.Prelude.{◌≡◌, ◌++◌, OnOk, drop, flat_map, codes, decimal, slice_get};
-ghost use Rattle.pz_program.specs.Instance.{IsProgramOf};
-ghost use Rattle.pz_stages.specs.Stages.{block_text, bracketed, command_names, headings_of, lines_text, source_lines, stage_line, stop_line};
-ghost use Rattle.pz_trace.specs.Tracing.{with_level};
+ghost use Rattle.std.specs.Prelude.{◌≡◌, ◌++◌, IfOk, OnOk, codes, decimal, flat_map, slice_get};
+ghost use Rattle.json.specs.Print.{quoted};
+ghost use Rattle.pz_level_text.specs.LevelText.{text_of_level};
+ghost use Rattle.pz_turn.specs.declared.outcome.StepFault.{StepFault};
 ghost use Rattle.pz_session.specs.Turn.{stop_of};
+ghost use Rattle.pz_trace.specs.Tracing.{with_level};
+ghost use Rattle.pz_stages.specs.Stages.{block_text, bracketed, command_names, headings_of, lines_text, source_lines, stage_line, stop_line};
 
 use crate::heading::put_headings;
 use crate::naming::{bool_text, part_name, put_commands};
@@ -19,7 +21,6 @@ use pz_program::instance::{Block, Program};
 use pz_record::order::Order;
 use pz_session::board::Board;
 use pz_trace::{Part, Stage, lines_of};
-use pz_turn::StepFault;
 use std::alloc::{AllocError, Global};
 
 /// What a line of stages tells of its step: where the session stands, the number of the input, and that of the step.
@@ -38,6 +39,14 @@ fn put_bracketed(line: &mut Vec<u8>, texts: &[u8]) -> Result<(), AllocError>
     line.extend_from_slice(b"[")?;
     line.extend_from_slice(behind)?;
     line.extend_from_slice(b"]")
+}
+
+/// Puts a list of what was gathered, with its key.
+fn put_list(line: &mut Vec<u8>, key: &[u8], texts: &[u8]) -> Result<(), AllocError>
+    ensures { OnOk result (line.new.items ≡ line.old.items ++ (key.now ++ bracketed texts.now)) }
+{
+    line.extend_from_slice(key)?;
+    put_bracketed(line, texts)
 }
 
 /// Puts the number of a block.
@@ -63,21 +72,21 @@ fn put_numbers(texts: &mut Vec<u8>, lines: &[u32]) -> Result<(), AllocError>
     Ok(())
 }
 
-/// Puts the lines of the source that a block comes from.
-fn put_lines(
+/// The lines of the source that the block of a number comes from, each with a comma before it.
+fn source_lines(
     alloc: Global,
-    line: &mut Vec<u8>,
     game: &Game,
-    block: Option<&Block>,
-) -> Result<(), AllocError>
-    ensures { OnOk result (line.new.items ≡ line.old.items ++ (codes ",\"lines\":" ++ bracketed (source_lines game.now.rules (option_copied block)))) }
+    blocks: &[Block],
+    number: usize,
+) -> Result<Vec<u8>, AllocError>
+    ensures { IfOk result (λ texts. texts.items ≡ source_lines game.now.rules (slice_get blocks.now number)) }
 {
     let mut texts = Vec::new(alloc);
-    if let Some(block) = block {
-        put_numbers(&mut texts, &lines_of(alloc, game, block)?)?;
+    if let Some(block) = blocks.get(number) {
+        let lines = lines_of(alloc, game, block)?;
+        put_numbers(&mut texts, &lines)?;
     }
-    line.extend_from_slice(b",\"lines\":")?;
-    put_bracketed(line, &texts)
+    Ok(texts)
 }
 
 /// Puts the lines of the source that a part comes from, if it is a block.
@@ -91,8 +100,14 @@ fn put_source(
     ensures { OnOk result (line.new.items ≡ line.old.items ++ lines_text game.now.rules program.now part) }
 {
     match part {
-        Part::Early(number) => put_lines(alloc, line, game, program.early().get(number)),
-        Part::Late(number) => put_lines(alloc, line, game, program.late().get(number)),
+        Part::Early(number) => {
+            let lines = source_lines(alloc, game, program.early(), number)?;
+            put_list(line, b",\"lines\":", &lines)
+        }
+        Part::Late(number) => {
+            let lines = source_lines(alloc, game, program.late(), number)?;
+            put_list(line, b",\"lines\":", &lines)
+        }
         _ => Ok(()),
     }
 }
@@ -115,14 +130,6 @@ fn headings_of(alloc: Global, game: &Game, level: &Level) -> Result<Vec<u8>, All
     Ok(texts)
 }
 
-/// Puts a list of what was gathered, with its key.
-fn put_list(line: &mut Vec<u8>, key: &[u8], texts: &[u8]) -> Result<(), AllocError>
-    ensures { OnOk result (line.new.items ≡ line.old.items ++ (key.now ++ bracketed texts.now)) }
-{
-    line.extend_from_slice(key)?;
-    put_bracketed(line, texts)
-}
-
 /// Puts the text of a level.
 fn put_level(
     alloc: Global,
@@ -138,7 +145,6 @@ fn put_level(
 }
 
 /// Puts the line of a stage behind others.
-#[tactic(auto, unfolding(crate::specs::Stages::stage_line))]
 pub(crate) fn put_stage(
     alloc: Global,
     lines: &mut Vec<u8>,
@@ -146,7 +152,7 @@ pub(crate) fn put_stage(
     stage: Stage,
     level: &Level,
 ) -> Result<(), AllocError>
-    ensures { OnOk result (lines.new.items ≡ lines.old.items ++ stage_line place.number place.tick place.board.now (with_level stage level.now.grid)) }
+    ensures { OnOk result (lines.new.items ≡ lines.old.items ++ stage_line place.entry.number place.entry.tick place.entry.board.now (with_level stage level.now.grid)) }
 {
     let board = place.board;
     let game = board.game();
@@ -160,7 +166,8 @@ pub(crate) fn put_stage(
     put_source(alloc, lines, game, board.program(), stage.part)?;
     put_text(lines, b",\"stage\":", part_name(stage.part))?;
     put_number(lines, b",\"tick\":", place.tick)?;
-    lines.extend_from_slice(b"}\n")
+    lines.extend_from_slice(b"}\n")?;
+    Ok(())
 }
 
 /// Puts the line of a stop behind others.
@@ -170,7 +177,7 @@ pub(crate) fn put_stop(
     place: Place<'_, '_>,
     stop: Stop,
 ) -> Result<(), AllocError>
-    ensures { OnOk result ((fault : StepFault) → stop_of fault ≡ stop → lines.new.items ≡ lines.old.items ++ stop_line place.number place.tick fault) }
+    ensures { OnOk result ((fault : StepFault) → stop_of fault ≡ stop → lines.new.items ≡ lines.old.items ++ stop_line place.entry.number place.entry.tick fault) }
 {
     put_number(lines, b"{\"input\":", place.number)?;
     put_text(lines, b",\"stop\":", stop_name(stop))?;
