@@ -39,11 +39,15 @@ pub record IsAnswered (text : List Record → List ℕ) (order : Order) (file ro
   pub is_played : IsPlayed text order file answer
   pub told : IsTold answer room_before room outcome count
 
--- the stages of an input of a session of a file, as a host is told them
-pub record IsStaged (order : Order) (file : List ℕ) (session number : ℕ) (room_before room : List ℕ) (outcome : Outcome) (count : ℕ) : Type 0 where
-  pub answer : Played
+-- the stages of an input of a session of a file; no session of them has to pass
+pub record AreStaged (order : Order) (file : List ℕ) (session number : ℕ) (answer : Played) : Type 0 where
   pub are_stages : AreStagesOf order file session number answer.lines.items
   pub passed : answer.passed ≡ true
+
+-- these, as a host is told them
+pub record IsStaged (order : Order) (file : List ℕ) (session number : ℕ) (room_before room : List ℕ) (outcome : Outcome) (count : ℕ) : Type 0 where
+  pub answer : Played
+  pub are_staged : AreStaged order file session number answer
   pub told : IsTold answer room_before room outcome count
 
 -- a file's fault, or want of memory

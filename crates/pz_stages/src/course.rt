@@ -43,11 +43,7 @@ fn put_told(
 }
 
 /// Puts the stop of a step behind its stages.
-fn put_fault(
-    lines: &mut Vec<u8>,
-    place: Place<'_, '_>,
-    fault: StepFault,
-) -> Result<(), AllocError>
+fn put_fault(lines: &mut Vec<u8>, place: Place<'_, '_>, fault: StepFault) -> Result<(), AllocError>
     ensures { OnOk result ((fault ≢ Memory) × (lines.new.items ≡ lines.old.items ++ stop_line place.entry.number place.entry.tick fault)) }
 {
     match fault {

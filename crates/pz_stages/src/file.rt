@@ -26,12 +26,7 @@ fn case_lines(alloc: Global, case: &Case, number: usize) -> Result<Vec<u8>, Allo
 }
 
 /// The lines of an input of a session of a job.
-fn job_lines(
-    alloc: Global,
-    job: &Job,
-    session: usize,
-    number: usize,
-) -> Result<Vec<u8>, AllocError>
+fn job_lines(alloc: Global, job: &Job, session: usize, number: usize) -> Result<Vec<u8>, AllocError>
     ensures { IfOk result (λ lines. lines.items ≡ case_lines number (slice_get job.now session)) }
 {
     if session < job.len() {

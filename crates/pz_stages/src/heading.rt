@@ -55,12 +55,7 @@ fn put_cell(
 
 /// Adds what heads somewhere in a row.
 #[tactic(auto, using(crate::proofs::Headings::adds_one, crate::proofs::Headings::adds_none))]
-fn put_row(
-    texts: &mut Vec<u8>,
-    objects: &[Name],
-    level: &Level,
-    y: u32,
-) -> Result<(), AllocError>
+fn put_row(texts: &mut Vec<u8>, objects: &[Name], level: &Level, y: u32) -> Result<(), AllocError>
     requires { y < level.now.grid.height }
     ensures { OnOk result (texts.new.items ≡ texts.old.items ++ row_headings objects.now level.now.grid y) }
 {

@@ -59,7 +59,11 @@ pub(crate) fn put_commands(texts: &mut Vec<u8>, commands: Commands) -> Result<()
 {
     put_if(texts, commands.contains(Commands::AGAIN), b",\"again\"")?;
     put_if(texts, commands.contains(Commands::CANCEL), b",\"cancel\"")?;
-    put_if(texts, commands.contains(Commands::CHECKPOINT), b",\"checkpoint\"")?;
+    put_if(
+        texts,
+        commands.contains(Commands::CHECKPOINT),
+        b",\"checkpoint\"",
+    )?;
     put_if(texts, commands.contains(Commands::RESTART), b",\"restart\"")?;
     put_if(texts, commands.contains(Commands::WIN), b",\"win\"")
 }

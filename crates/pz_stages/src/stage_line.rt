@@ -159,7 +159,11 @@ pub(crate) fn put_stage(
     lines.extend_from_slice(b"{")?;
     put_block(lines, stage.part)?;
     put_json(lines, b"\"changed\":", bool_text(stage.changed))?;
-    put_list(lines, b",\"commands\":", &commands_of(alloc, stage.commands)?)?;
+    put_list(
+        lines,
+        b",\"commands\":",
+        &commands_of(alloc, stage.commands)?,
+    )?;
     put_list(lines, b",\"headings\":", &headings_of(alloc, game, level)?)?;
     put_number(lines, b",\"input\":", place.number)?;
     put_level(alloc, lines, board, level)?;
