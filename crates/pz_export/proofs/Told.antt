@@ -7,7 +7,7 @@ use Rattle.pz_case.specs.declared.recording.Record.{Record}
 use Rattle.pz_engine.specs.Engine.{IsPlayed}
 use Rattle.pz_engine.specs.Sessions.{sessions_in}
 use Rattle.pz_engine.specs.declared.engine.Played.{Played}
-use Rattle.pz_export.specs.Lines.{IsAnswered, IsRefused, IsTold, IsToldWhy}
+use Rattle.pz_export.specs.Lines.{AreStaged, IsAnswered, IsRefused, IsStaged, IsTold, IsToldWhy}
 use Rattle.pz_export.specs.Outcome.{status_of}
 use Rattle.pz_export.specs.declared.outcome.Outcome.{Outcome}
 
@@ -16,6 +16,12 @@ pub answered : (text : List Record → List ℕ) (order : Order) (file room_befo
     → outcome.status ≢ 2 → IsAnswered text order file room_before room outcome count
 answered text order file room_before room outcome count (Ok played) is told why other = record { answer = played; is_played = is; told = told }
 answered text order file room_before room outcome count (Err cause) is told why other = absurd (other why.says.status)
+
+pub staged : (order : Order) (file : List ℕ) (session number : ℕ) (room_before room : List ℕ) (outcome : Outcome) (count : ℕ) (r : Result Played FileFault)
+    → IfOk r (AreStaged order file session number) → IfOk r (λ played. IsTold played room_before room outcome count) → IfErr r (λ cause. IsToldWhy cause room_before room outcome count)
+    → outcome.status ≢ 2 → IsStaged order file session number room_before room outcome count
+staged order file session number room_before room outcome count (Ok played) are told why other = record { answer = played; are_staged = are; told = told }
+staged order file session number room_before room outcome count (Err cause) are told why other = absurd (other why.says.status)
 
 is_other : (passed : Bool) → status_of passed ≡ 2 → ⊥
 is_other true e = omega (arith, e)

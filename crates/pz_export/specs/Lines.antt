@@ -1,5 +1,5 @@
 -- What a host is answered.
-use Rattle.std.specs.Prelude.{◌≡◌, ◌≢◌, ℕ, List, length, drop, ◌++◌, nat_lt, nat_eq, if◌then◌else◌, Err}
+use Rattle.std.specs.Prelude.{◌≡◌, ◌≢◌, ℕ, List, length, drop, ◌++◌, nat_lt, nat_eq, if◌then◌else◌, true, Err}
 use Rattle.pz_entries.specs.declared.fault.FileFault.{FileFault}
 use Rattle.pz_entries.specs.declared.fault.FileFault.TheVariants as fault
 use Rattle.pz_record.specs.declared.order.Order.{Order}
@@ -8,6 +8,7 @@ use Rattle.pz_case.specs.declared.recording.Record.{Record}
 use Rattle.pz_engine.specs.Engine.{IsPlayed}
 use Rattle.pz_engine.specs.Sessions.{sessions_in}
 use Rattle.pz_engine.specs.declared.engine.Played.{Played}
+use Rattle.pz_stages.specs.File.{AreStagesOf}
 use Rattle.pz_export.specs.Outcome.{SaysPlayed, SaysRefused}
 use Rattle.pz_export.specs.declared.outcome.Outcome.{Outcome}
 
@@ -36,6 +37,17 @@ pub record IsToldWhy (cause : FileFault) (room_before room : List ℕ) (outcome 
 pub record IsAnswered (text : List Record → List ℕ) (order : Order) (file room_before room : List ℕ) (outcome : Outcome) (count : ℕ) : Type 0 where
   pub answer : Played
   pub is_played : IsPlayed text order file answer
+  pub told : IsTold answer room_before room outcome count
+
+-- the stages of an input of a session of a file; no session of them has to pass
+pub record AreStaged (order : Order) (file : List ℕ) (session number : ℕ) (answer : Played) : Type 0 where
+  pub are_stages : AreStagesOf order file session number answer.lines.items
+  pub passed : answer.passed ≡ true
+
+-- these, as a host is told them
+pub record IsStaged (order : Order) (file : List ℕ) (session number : ℕ) (room_before room : List ℕ) (outcome : Outcome) (count : ℕ) : Type 0 where
+  pub answer : Played
+  pub are_staged : AreStaged order file session number answer
   pub told : IsTold answer room_before room outcome count
 
 -- a file's fault, or want of memory

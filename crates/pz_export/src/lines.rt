@@ -1,13 +1,16 @@
 //! The lines of a file of sessions, for a host.
 
-ghost use Rattle.std.specs.Prelude.{◌≡◌, ◌≢◌, IfErr, IfOk, length};
+ghost use Rattle.std.specs.Prelude.{◌≡◌, ◌≢◌, Err, IfErr, IfOk, length};
+ghost use Rattle.pz_entries.specs.declared.fault.FileFault.TheVariants as fault;
+ghost use Rattle.pz_engine.specs.Sessions.{sessions_in};
 ghost use Rattle.pz_lines.specs.Lines.{text_from, text_of};
-ghost use Rattle.pz_export.specs.Lines.{IsAnswered, IsRefused, IsTold, IsToldWhy, begun_with, order_of};
+ghost use Rattle.pz_export.specs.Lines.{AreStaged, IsAnswered, IsRefused, IsStaged, IsTold, IsToldWhy, begun_with, order_of};
 
 use crate::outcome::{Outcome, REFUSED, played, refused};
 use pz_engine::engine::{Played, lines, lines_from};
 use pz_entries::fault::FileFault;
 use pz_record::order::Order;
+use pz_stages::file::stages;
 use std::alloc::Global;
 
 /// The order that a host asks for.
@@ -84,6 +87,48 @@ pub extern "C" fn saxtegun_frames(
 {
     tell(
         lines_from(alloc, file, order_of(order), from),
+        room,
+        outcome,
+    )
+}
+
+/// The lines of the stages of an input. No session of them has to pass.
+fn staged(
+    alloc: Global,
+    file: &[u8],
+    order: Order,
+    session: u32,
+    number: u32,
+) -> Result<Played, FileFault>
+    ensures staged { IfOk result (AreStaged order file.now session number) }
+    ensures refused { IfErr result (λ cause. cause ≢ fault.Memory → sessions_in file.now ≡ Err cause) }
+{
+    let lines = stages(alloc, file, order, session as usize, number as usize)?;
+    Ok(Played {
+        lines,
+        passed: true,
+    })
+}
+
+/// The stages of an input of a session, each by its number: a session from 0, an input from 1, and 0 for a session's start. The cells of
+/// each level come by rows if the order is 0, and else by columns. The answer is the number of bytes of the lines. If the room has so many,
+/// it begins with them. There are none of a session that isn't there, is refused or stopped before.
+#[unsafe(no_mangle)]
+pub extern "C" fn saxtegun_stages(
+    alloc: Global,
+    file: &[u8],
+    order: u32,
+    session: u32,
+    number: u32,
+    room: &mut [u8],
+    outcome: &mut Outcome,
+) -> usize
+    ensures size { length room.new ≡ length room.old }
+    ensures answered { outcome.new.status ≢ REFUSED → IsStaged (order_of order) file.now session number room.old room.new outcome.new result }
+    ensures refused { outcome.new.status ≡ REFUSED → IsRefused file.now room.old room.new outcome.new result }
+{
+    tell(
+        staged(alloc, file, order_of(order), session, number),
         room,
         outcome,
     )

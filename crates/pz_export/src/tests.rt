@@ -1,6 +1,6 @@
 //! What a host sees.
 
-use crate::lines::{saxtegun_frames, saxtegun_lines};
+use crate::lines::{saxtegun_frames, saxtegun_lines, saxtegun_stages};
 use crate::outcome::{Outcome, played};
 use std::test::Fail;
 
@@ -111,5 +111,54 @@ fn gives_the_frames_from_an_input_on(rt: HostRuntime) -> Result<(), Fail> {
         assert!(rt; room.iter().skip(count).all(|byte| *byte == 7));
         assert!(rt; outcome.status == 0 && outcome.fault == 0 && outcome.entry == 0);
     }
+    Ok(())
+}
+
+/// The first step of the walk: nothing but the player moves, and no rule acts.
+const STAGES: &str = concat!(
+    "{\"changed\":true,\"commands\":[],\"headings\":[[1,0,\"player\",\"right\"]],\"input\":1,\"level\":\"background wall:0,background player:1,background:2,\\n0,0,0,\\n\",\"stage\":\"input\",\"tick\":0}\n",
+    "{\"changed\":true,\"commands\":[],\"headings\":[],\"input\":1,\"level\":\"background wall:0,background:1,background player:2,\\n0,0,0,\\n\",\"stage\":\"movement\",\"tick\":0}\n",
+    "{\"changed\":true,\"commands\":[],\"headings\":[],\"input\":1,\"level\":\"background wall:0,background:1,background player:2,\\n0,0,0,\\n\",\"stage\":\"end\",\"tick\":0}\n",
+);
+
+#[test]
+fn tells_the_stages_of_an_input(rt: HostRuntime) -> Result<(), Fail> {
+    for (session, number, lines) in [(0, 1, STAGES), (0, 0, ""), (0, 3, ""), (1, 1, "")] {
+        let mut room = vec![in rt.alloc(); 7; 1000]?;
+        let mut outcome = played(false);
+        let file = WALK.as_bytes();
+        let count = saxtegun_stages(
+            rt.alloc(),
+            file,
+            0,
+            session,
+            number,
+            room.as_mut_slice(),
+            &mut outcome,
+        );
+        assert!(rt; count == lines.len());
+        assert!(rt; room.as_slice().starts_with(lines.as_bytes()));
+        assert!(rt; room.iter().skip(count).all(|byte| *byte == 7));
+        assert!(rt; outcome.status == 0 && outcome.fault == 0 && outcome.entry == 0);
+    }
+    Ok(())
+}
+
+#[test]
+fn says_why_a_file_has_no_stages(rt: HostRuntime) -> Result<(), Fail> {
+    let mut room = vec![in rt.alloc(); 7; 10]?;
+    let mut outcome = played(false);
+    let count = saxtegun_stages(
+        rt.alloc(),
+        b"[3]",
+        0,
+        0,
+        1,
+        room.as_mut_slice(),
+        &mut outcome,
+    );
+    assert!(rt; count == 0);
+    assert!(rt; outcome.status == 2 && outcome.fault == 3 && outcome.entry == 0);
+    assert!(rt; room.iter().all(|byte| *byte == 7));
     Ok(())
 }

@@ -1,0 +1,3 @@
+pub mod Stages
+pub mod File
+pub use Rattle.pz_steps.specs.Steps
