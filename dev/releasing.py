@@ -26,7 +26,7 @@ SUMS = "SHA256SUMS"
 RELEASED = "released"
 # Who made this and its parts, and under which terms: it goes wherever a part of others goes.
 NOTICES = "NOTICES"
-MOST_RELEASED = 1_000_000
+MOST_RELEASED = 1_100_000
 GATE_ENDED = "The gate, ./check, passed on that commit; so its parts ended:"
 # The engine for Node and for pages, beside its module.
 GLUE = ["engine/saxtegun.mjs", "engine/saxtegun.d.ts", "engine/replay.mjs", "engine/stages.mjs", "engine/streams.mjs"]
