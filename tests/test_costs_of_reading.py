@@ -10,7 +10,7 @@ from resource import RUSAGE_SELF, getrusage
 import tool  # puts the package on the path
 from day import OnSessions
 from saxtegun import budget, hanging
-from saxtegun.acting import Text, rule_lines
+from saxtegun.acting import Text
 from saxtegun.culprits import fault_told, repeated_in
 from saxtegun.explaining import told
 from saxtegun.finding import find
@@ -82,12 +82,6 @@ def led(size):
         raise AssertionError(sentence)
 
 
-def rules_told(size):
-    text = Text(rules(size), "", "columns")
-    for number in range(1, size):
-        rule_lines([number], text)
-
-
 # What is read of an input of a size, each from a size on that takes long enough to be timed.
 READINGS = {
     "blanks behind a title": (200_000, lambda size: trimmed("title x" + " " * size + "x")),
@@ -103,7 +97,6 @@ READINGS = {
     "brackets": (20_000, lambda size: lines_of.__wrapped__("(" * size + ")" * size + "\n" + HEAD)),
     "rules": (2000, lambda size: repeated_in(rules(size))),
     "rules, and what is repeated of them": (1000, lambda size: things_of(rules(size))),
-    "rules that are told one by one": (2000, rules_told),
     "rules of groups at which two texts part": (1000, led),
     "objects": (2000, lambda size: objects_of(HEAD + "a\nred\n.....\n" * size)),
     "quotes": (50_000, lambda size: find("['a',['" + "\\n" * size + "',[],'']]")),

@@ -253,7 +253,8 @@ class Telling:
 
     def is_edited(self, lines: Sequence[int], others: Sequence[int]) -> bool:
         """Whether rule lines of the old text are others in the new."""
-        return [rules_of(self.old).get(it) for it in lines] != [rules_of(self.new).get(it) for it in others]
+        old, new = rules_of(self.old), rules_of(self.new)
+        return [old.get(it) for it in lines] != [new.get(it) for it in others]
 
     def lines_there(self, number: int, lines: Sequence[int]) -> Tuple[int, ...]:
         """The lines that rule lines of one text are in the other."""
