@@ -1,12 +1,18 @@
 """`saxtegun test` in a git folder: where a session that broke parts from the committed text, and that a hostile repository runs nothing."""
+import json
 import shutil
 import subprocess
 import unittest
+from time import sleep
+from unittest import mock
 
 from test_test import RULE, OfAGame
 from tool import plays, run
 from saxtegun import committed
 from saxtegun.committed import committed_text
+from saxtegun.lines import Frame, Run
+from saxtegun.playing import Engine
+from saxtegun.sessions import sessions_in
 
 STUCK = "[ > Player | Crate ] -> [ Player | Crate ]"
 SAYS = "over the committed game.txt it passed, and its frames first part at "
@@ -63,6 +69,21 @@ class DayOfCommits(InAGitFolder):
         self.addCleanup(lambda: setattr(committed.EXPLAINING, "left", left))
         committed.EXPLAINING.left = 0
         self.assertEqual(committed.partings(None, [], [], None, None), {})
+
+    def test_the_time_is_that_of_all_batches(self):
+        """A large text makes small batches, of which each may take nearly all of the time: 100 of them, a fiftieth of a second each, in a tenth."""
+        sessions = sessions_in("x", json.dumps([["a", ["", [], ""]]] * 100))
+        start, other = (Frame(0, "start", level) for level in ("background:0,\n", "background player:0,\n"))
+
+        def played(entries, of, engine, seconds):
+            for number, _ in enumerate(entries):
+                sleep(0.02)
+                yield Run(number, "a", "passed", None, [start])
+
+        runs = [Run(number, "a", "differs", None, [other]) for number in range(100)]
+        with mock.patch.object(committed.EXPLAINING, "left", 0.2), mock.patch.object(committed, "runs_within", played):
+            found = committed.parted([(it, it) for it in sessions.entries], runs, sessions, Engine())
+        self.assertLess(len(found), 10)
 
 
 class Hostile(InAGitFolder):

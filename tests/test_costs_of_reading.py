@@ -10,17 +10,20 @@ from resource import RUSAGE_SELF, getrusage
 import tool  # puts the package on the path
 from day import OnSessions
 from saxtegun import budget, hanging
+from saxtegun.acting import Text
 from saxtegun.culprits import fault_told, repeated_in
 from saxtegun.explaining import told
 from saxtegun.finding import find
 from saxtegun.games import Game
 from saxtegun.hanging import Finder, things_of
+from saxtegun.leading import Parted, Side, Telling
 from saxtegun.levelsets import drawn_columns
 from saxtegun.lines import Frame, Run
 from saxtegun.playing import Engine
 from saxtegun.sessions import sessions_in
 from saxtegun.smaller import things_of as objects_of
 from saxtegun.sources import lines_of, trimmed
+from saxtegun.stages import Stage
 from saxtegun.verbs.add import add_to
 
 HEAD = "OBJECTS\nBackground .\nblack\nPlayer p\nwhite\n"
@@ -63,6 +66,22 @@ def added(size):
         raise AssertionError("other recordings are there")
 
 
+def acts(*lines):
+    return Stage(0, "early", 0, lines, True, (), (), "background:0,\n")
+
+
+def led(size):
+    """Tells where two texts part of which each has two groups, of as many rules as this: one acts in the one, one in the other, and behind it each rule alone."""
+    first, behind = range(7, 7 + size), range(7 + size, 7 + 2 * size)
+    source = f"{HEAD}RULES\n" + ("[ Player ] -> [ Player ]\n" + "+ [ Player ] -> [ Player ]\n" * (size - 1)) * 2 + TAIL
+    entry = sessions_in("x", json.dumps([["a", [source, [], ""]]])).entries[0]
+    sides = Side("one", entry, Text(source, "", "columns")), Side("the other", entry, Text(source, "", "columns"))
+    parted = Parted(acts(*first), acts(*behind), None, ([acts(it) for it in first], [acts(it) for it in behind]))
+    sentence = Telling(sides, 0, parted).told().sentence
+    if not sentence.endswith(": acts in one, not in the other"):
+        raise AssertionError(sentence)
+
+
 # What is read of an input of a size, each from a size on that takes long enough to be timed.
 READINGS = {
     "blanks behind a title": (200_000, lambda size: trimmed("title x" + " " * size + "x")),
@@ -78,6 +97,7 @@ READINGS = {
     "brackets": (20_000, lambda size: lines_of.__wrapped__("(" * size + ")" * size + "\n" + HEAD)),
     "rules": (2000, lambda size: repeated_in(rules(size))),
     "rules, and what is repeated of them": (1000, lambda size: things_of(rules(size))),
+    "rules of groups at which two texts part": (1000, led),
     "objects": (2000, lambda size: objects_of(HEAD + "a\nred\n.....\n" * size)),
     "quotes": (50_000, lambda size: find("['a',['" + "\\n" * size + "',[],'']]")),
     "lists that begin": (20_000, lambda size: find('["' * size)),

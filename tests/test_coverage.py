@@ -24,6 +24,12 @@ class LeavingOut(unittest.TestCase):
         self.assertEqual(leaving.without(parts[1]), SOURCE.replace("+ [ b ] -> [ c ]", ""))
         self.assertEqual(leaving.without(parts[2]), SOURCE.replace("all a on b", ""))
 
+    def test_a_comment_that_holds_the_same_is_no_rule(self):
+        leaving = Leaving("RULES\n([ a ] -> [ b ]) [ a ] -> [ b ]\n(c + d) + [ b ] -> [ c ]\n(late) + (e) [ c ] -> [ d ]\n")
+        first, second = leaving.parts()
+        self.assertEqual(leaving.without(first), "RULES\n() \n(c + d)   [ b ] -> [ c ]\n(late) + (e) [ c ] -> [ d ]\n")
+        self.assertEqual(leaving.without(second), "RULES\n([ a ] -> [ b ]) [ a ] -> [ b ]\n(c + d) \n(late) + (e) [ c ] -> [ d ]\n")
+
 
 class Memory(unittest.TestCase):
     """What is held for a game of many rules is about its size, and not its size for each rule."""

@@ -1,5 +1,6 @@
 """`saxtegun accept --reindex`: recordings of levels that have moved pass again, and nothing else is changed."""
 import json
+import tracemalloc
 import unittest
 import unittest.mock
 
@@ -7,7 +8,7 @@ from test_running import PLAYER, Programs
 from test_test import OfAGame
 from tool import plays, run
 from saxtegun import reindexing
-from saxtegun.lines import UNANSWERED, Run
+from saxtegun.lines import UNANSWERED, Frame, Run
 from saxtegun.playing import Engine
 from saxtegun.sessions import sessions_in
 
@@ -90,13 +91,31 @@ class Bounds(unittest.TestCase):
         def played(entries, of, engine):
             return [Run(number, it.name, closes.get(it.index, "differs"), "not answered in 1 s" if closes.get(it.index) == UNANSWERED else None, []) for number, it in enumerate(entries)]
 
-        with unittest.mock.patch.object(reindexing, "runs_of", played):
+        with unittest.mock.patch.object(reindexing, "runs_played", played):
             found, = reindexing.reindexed(sessions.entries, sessions, Engine())
         return found
 
     def test_where_all_levels_are_tried_one_alone_is_taken(self):
         found = self.found(1 + reindexing.MOST_LEVELS, {700: "passed"})
         self.assertEqual((found.new, found.told()), (700, "session 0, a: its index 0 becomes 700, with which it passes"))
+
+    def test_what_is_shown_in_all_levels_is_not_kept(self):
+        """Of 500 levels each run has a frame of 100,000 letters, which would be 50 MB."""
+        sessions = sessions_in("s.json", json.dumps([["a", ["LEVELS\n" + "a\n\n" * 500, [], "a:0,"]]]))
+
+        def played(entries, of, engine):
+            for number, it in enumerate(entries):
+                yield Run(number, it.name, "differs", None, [Frame(0, "start", " " * (100_000 + number))])
+
+        tracemalloc.start()
+        try:
+            with unittest.mock.patch.object(reindexing, "runs_played", played):
+                found, = reindexing.reindexed(sessions.entries, sessions, Engine())
+            peak = tracemalloc.get_traced_memory()[1]
+        finally:
+            tracemalloc.stop()
+        self.assertEqual(found.tried, 499)
+        self.assertLess(peak, 10_000_000)
 
     def test_where_levels_are_left_nothing_is_changed(self):
         count = 1 + reindexing.MOST_LEVELS + LEFT

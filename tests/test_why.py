@@ -3,7 +3,7 @@ import json
 import os
 import shutil
 import unittest
-from time import monotonic
+from time import monotonic, sleep
 from unittest import mock
 
 from day import OnSessions
@@ -21,8 +21,9 @@ from saxtegun.leading import counterparts, inputs_to_try, matched, rules_of
 from saxtegun.lines import Frame, Run
 from saxtegun.parting import parting_of
 from saxtegun.playing import Engine
-from saxtegun.sessions import Entry
+from saxtegun.sessions import Entry, sessions_in
 from saxtegun.stages import Heading, Stage, Stop, stages_of, told_in
+from saxtegun.verbs import why
 
 PUSH = "[ > player | crate ] -> [ > player | > crate ]"
 GAME = """title a yard
@@ -179,6 +180,22 @@ class Guarded(OfAYard):
             self.assertEqual(committed.leads([committed.Broken(old, new, runs, parting_of(*runs))] * 20, "game.txt", Engine()), {})
         self.assertLess(monotonic() - begin, 10)
         self.assertLess(EXPLAINING.left, left)
+
+    def test_a_stop_behind_many_ticks_is_not_looked_for_without_end(self):
+        """Ticks that change nothing show nothing, and for each of them the session is played anew."""
+        sessions = sessions_in("x", json.dumps([["a", ["", ["tick"] * 1000, ""]]]))
+        asked = why.Asked(sessions.entries[0], sessions, Text("", "", "columns"), Engine())
+        stopped = Run(0, "a", "stopped", "loop-limit", [Frame(0, "start", "background:0,\n")])
+        played = []
+
+        def nothing(entry, at, engine):
+            played.append(at)
+            sleep(0.01)
+            return iter(())
+
+        with mock.patch.object(why, "stages_of", nothing), mock.patch.object(why, "SECONDS", 0.05), self.assertRaisesRegex(Refused, "in 0.05 s: name one by --input"):
+            why.stop_in(asked, stopped)
+        self.assertLess(len(played), 10)
 
     def test_letters_that_a_terminal_obeys_are_told_by_their_numbers(self):
         self.game = self.text(PUSH, title="forged " + json.dumps(line_of(level="back\x1b[2J:0,\n", headings=[[200, 200, "p\x9b2J", "up"], [0, 0, "p\x9b2J", "up"]]) + "\n"))

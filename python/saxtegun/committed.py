@@ -8,6 +8,7 @@ import os
 import shutil
 import subprocess
 import tempfile
+from time import monotonic
 from typing import Dict, List, NamedTuple, Optional, Sequence, Tuple
 
 from saxtegun.acting import Text
@@ -97,11 +98,16 @@ def partings(game: Optional[GameText], entries: Sequence[Entry], runs: Sequence[
 
 
 def parted(pairs: Sequence[Tuple[Entry, Entry]], runs: Sequence[Run], of: Sessions, engine: Engine) -> List[Broken]:
-    """The sessions whose runs part from what they show over the text before, which they passed. Half of the time to explain is left for others."""
+    """The sessions whose runs part from what they show over the text before, which they passed, as far as half of the time to explain is enough. No batch
+    takes longer than the other half, which else is left for others."""
     found: List[Broken] = []
+    seconds = max(EXPLAINING.left / 2, 0.1)
+    end = monotonic() + seconds
     try:
         before = [old for old, _ in pairs]
-        for (old, new), was, run in zip(pairs, runs_within(before, of, engine, max(EXPLAINING.left / 2, 0.1)), runs):
+        for (old, new), was, run in zip(pairs, runs_within(before, of, engine, seconds), runs):
+            if monotonic() > end:
+                break
             parting = parting_of(was, run) if was.close == "passed" else None
             if parting is not None:
                 found.append(Broken(old, new, (was, run), parting))

@@ -2,6 +2,7 @@
 from __future__ import annotations
 
 from collections import Counter
+from functools import lru_cache
 from typing import Iterable, List, Optional, Tuple, Union
 
 from saxtegun import culprits, differences, levelsets, reasons
@@ -76,9 +77,15 @@ def source_told(entry: Optional[Entry], cause: str) -> str:
     return NO_TEXT if entry is not None and not entry.source and fault_in(cause) else cause_told(cause)
 
 
+@lru_cache(maxsize=2)
+def written_lines(source: str) -> List[str]:
+    """The lines of a source as they stand there. Many are told of one source."""
+    return source.split("\n")
+
+
 def source_line(source: str, number: int) -> Optional[str]:
     """A line of a source by its number, or None."""
-    lines = source.split("\n")
+    lines = written_lines(source)
     return lines[number - 1].rstrip("\r") if 1 <= number <= len(lines) else None
 
 

@@ -233,13 +233,14 @@ class Telling:
 
     def is_counterpart(self, one: Stage, other: Stage) -> bool:
         """Whether a group of the new text is what one of the old has become."""
-        return one.name == other.name and any(self.become.get(it, set()) & set(other.lines) for it in one.lines)
+        return one.name == other.name and not set(self.lines_there(0, one.lines)).isdisjoint(other.lines)
 
     def acts_in(self, number: int, stage: Stage) -> bool:
         """Whether a group of the other text acts in the rest of the step in this one."""
         here = (self.parted.one, self.parted.other)[number]
         rest = [*([here] if isinstance(here, Stage) and here.is_block else []), *self.parted.later[number]]
-        return any(self.is_counterpart(stage, it) if number else self.is_counterpart(it, stage) for it in rest)
+        there = set(self.lines_there(1 - number, stage.lines))
+        return any(it.name == stage.name and not there.isdisjoint(it.lines) for it in rest)
 
     def rules(self, number: int, stage: Stage) -> List[str]:
         """The lines of a group in its text, and what they are in the other, where that isn't the same."""
@@ -252,13 +253,15 @@ class Telling:
 
     def is_edited(self, lines: Sequence[int], others: Sequence[int]) -> bool:
         """Whether rule lines of the old text are others in the new."""
-        return [rules_of(self.old).get(it) for it in lines] != [rules_of(self.new).get(it) for it in others]
+        old, new = rules_of(self.old), rules_of(self.new)
+        return [old.get(it) for it in lines] != [new.get(it) for it in others]
 
     def lines_there(self, number: int, lines: Sequence[int]) -> Tuple[int, ...]:
         """The lines that rule lines of one text are in the other."""
         if number == 0:
             return tuple(sorted({there for it in lines for there in self.become.get(it, set())}))
-        return tuple(sorted(it for it, there in self.become.items() if there & set(lines)))
+        known = set(lines)
+        return tuple(sorted(it for it, there in self.become.items() if not known.isdisjoint(there)))
 
     def rules_in(self, number: int, lines: Sequence[int]) -> List[str]:
         return [f"in {self.name(number)}, {it}" for it in rule_lines(lines, self.sides[number].text, LINES_TOLD)]

@@ -33,10 +33,12 @@ class Leaving:
     def without(self, part: Part) -> str:
         """The source without a line. Where it began a group, the next line of the group begins it."""
         raw = list(self.raw)
-        raw[part.number - 1] = raw[part.number - 1].replace(part.text, "", 1)
+        # a comment before it may hold the same text, or a plus
+        raw[part.number - 1] = raw[part.number - 1].replace(part.text, "")
         heir = self.heirs.get(part.number)
         if heir is not None:
-            raw[heir.number - 1] = raw[heir.number - 1].replace("+", " ", 1)
+            line = raw[heir.number - 1]
+            raw[heir.number - 1] = line.replace(heir.text, f" {heir.text[1:]}") if heir.text in line else line.replace("+", " ", 1)
         return "\n".join(raw)
 
 

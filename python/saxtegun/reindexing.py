@@ -7,7 +7,7 @@ from typing import Dict, List, NamedTuple, Optional, Sequence
 from saxtegun.commands import cut, plural
 from saxtegun.levelsets import entries_of_levels
 from saxtegun.lines import UNANSWERED
-from saxtegun.playing import Engine, runs_of
+from saxtegun.playing import Engine, runs_played
 from saxtegun.sessions import Entry, Sessions
 
 # So many sessions are played at once, and for so many levels a recording is tried.
@@ -88,14 +88,15 @@ def reindexed(entries: Sequence[Entry], of: Sessions, engine: Engine) -> List[Fo
     """For recordings that don't pass the indices with which they do; no other has a line."""
     if not entries:
         return []
-    runs = {it.number: run for it, run in zip(entries, runs_of(entries, of, engine))}
+    # frames aren't kept: of a recording that is tried in many levels they would be many
+    runs = {it.number: run._replace(frames=[]) for run, it in zip(runs_played(entries, of, engine), entries)}
     failed = [it for it in entries if runs[it.number].close != "passed"]
     late = {it.number: str(runs[it.number].cause) for it in failed if runs[it.number].close == UNANSWERED}
     places = {it.number: Places([], 0) if it.number in late else places_of(it) for it in failed}
     closes: Dict[int, Dict[str, List[int]]] = {it.number: {"passed": [], UNANSWERED: []} for it in failed}
     tried = (it._replace(index=index) for it in failed for index in places[it.number].tried)
     for batch in iter(lambda: list(islice(tried, MOST_AT_ONCE)), []):
-        for it, run in zip(batch, runs_of(batch, of, engine)):
+        for run, it in zip(runs_played(batch, of, engine), batch):
             closes[it.number].setdefault(run.close, []).append(it.index)
     return [found_of(it, closes[it.number], places[it.number], late.get(it.number, "")) for it in failed]
 

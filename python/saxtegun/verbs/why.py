@@ -21,9 +21,11 @@ from __future__ import annotations
 import re
 import sys
 from argparse import ArgumentParser, ArgumentTypeError, Namespace
+from time import monotonic
 from typing import NamedTuple, Optional
 
 from saxtegun.acting import Text, told_of, where_told
+from saxtegun.budget import SECONDS
 from saxtegun.commands import Refused, add_playing, add_ticks, cut, plural, printable
 from saxtegun.explaining import source_told
 from saxtegun.files import guard_output
@@ -107,11 +109,17 @@ def last_step(entry: Entry, run: Run) -> int:
 
 
 def stop_in(asked: Asked, run: Run) -> Optional[int]:
-    """Behind which input a session stops in a step: that of its last frame, or one behind it that shows none."""
+    """Behind which input a session stops in a step: that of its last frame, or one behind it that shows none. Refused where that isn't found in time: for
+    each of these the session is played anew."""
     if run.cause not in STOPS:
         return None
-    behind = range(run.frames[-1].at, len(asked.entry.inputs) + 1)
-    return next((at for at in behind if any(isinstance(it, Stop) for it in stages_of(asked.entry, at, asked.engine))), None)
+    end = monotonic() + SECONDS
+    for at in range(run.frames[-1].at, len(asked.entry.inputs) + 1):
+        if any(isinstance(it, Stop) for it in stages_of(asked.entry, at, asked.engine)):
+            return at
+        if monotonic() > end:
+            raise Refused(f"the input at which {cut(asked.entry.name)} stops was not found in {SECONDS:g} s: name one by --input")
+    return None
 
 
 def input_of(asked: Asked, given: Namespace) -> int:
