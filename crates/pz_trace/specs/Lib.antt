@@ -1,6 +1,9 @@
 pub mod Stages
 pub mod Tracing
 pub mod SourceLines
+pub mod Firings
+pub mod FiringPlay
+pub mod FiringLaws
 pub mod Laws
 pub use Rattle.pz_program.specs.Instance
 pub use Rattle.pz_sheet.specs.Grid

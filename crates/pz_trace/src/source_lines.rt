@@ -9,8 +9,8 @@ use pz_program::group::Group;
 use pz_program::instance::{Block, Instance};
 use std::alloc::{AllocError, Global};
 
-/// The number of the line of an instance's rule.
-fn line_of(rules: &[RuleLine], instance: &Instance) -> u32
+/// The number of the line of an instance's rule, from 1; 0 if none of these lines is it.
+pub fn line_of(rules: &[RuleLine], instance: &Instance) -> u32
     ensures { result ≡ line_of rules.now instance.now }
 {
     if instance.below >= rules.len() {
