@@ -10,6 +10,7 @@ use Rattle.pz_engine.specs.declared.engine.Played.{Played}
 use Rattle.pz_export.specs.Lines.{AreStaged, IsAnswered, IsRefused, IsStaged, IsTold, IsToldWhy}
 use Rattle.pz_export.specs.Outcome.{status_of}
 use Rattle.pz_export.specs.declared.outcome.Outcome.{Outcome}
+use Rattle.pz_stages.specs.declared.detail.Detail.{Detail}
 
 pub answered : (text : List Record → List ℕ) (order : Order) (file room_before room : List ℕ) (outcome : Outcome) (count : ℕ) (r : Result Played FileFault)
     → IfOk r (IsPlayed text order file) → IfOk r (λ played. IsTold played room_before room outcome count) → IfErr r (λ cause. IsToldWhy cause room_before room outcome count)
@@ -17,11 +18,11 @@ pub answered : (text : List Record → List ℕ) (order : Order) (file room_befo
 answered text order file room_before room outcome count (Ok played) is told why other = record { answer = played; is_played = is; told = told }
 answered text order file room_before room outcome count (Err cause) is told why other = absurd (other why.says.status)
 
-pub staged : (order : Order) (file : List ℕ) (session number : ℕ) (room_before room : List ℕ) (outcome : Outcome) (count : ℕ) (r : Result Played FileFault)
-    → IfOk r (AreStaged order file session number) → IfOk r (λ played. IsTold played room_before room outcome count) → IfErr r (λ cause. IsToldWhy cause room_before room outcome count)
-    → outcome.status ≢ 2 → IsStaged order file session number room_before room outcome count
-staged order file session number room_before room outcome count (Ok played) are told why other = record { answer = played; are_staged = are; told = told }
-staged order file session number room_before room outcome count (Err cause) are told why other = absurd (other why.says.status)
+pub staged : (detail : Detail) (order : Order) (file : List ℕ) (session number : ℕ) (room_before room : List ℕ) (outcome : Outcome) (count : ℕ) (r : Result Played FileFault)
+    → IfOk r (AreStaged detail order file session number) → IfOk r (λ played. IsTold played room_before room outcome count) → IfErr r (λ cause. IsToldWhy cause room_before room outcome count)
+    → outcome.status ≢ 2 → IsStaged detail order file session number room_before room outcome count
+staged detail order file session number room_before room outcome count (Ok played) are told why other = record { answer = played; are_staged = are; told = told }
+staged detail order file session number room_before room outcome count (Err cause) are told why other = absurd (other why.says.status)
 
 is_other : (passed : Bool) → status_of passed ≡ 2 → ⊥
 is_other true e = omega (arith, e)

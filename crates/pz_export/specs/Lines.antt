@@ -9,6 +9,7 @@ use Rattle.pz_engine.specs.Engine.{IsPlayed}
 use Rattle.pz_engine.specs.Sessions.{sessions_in}
 use Rattle.pz_engine.specs.declared.engine.Played.{Played}
 use Rattle.pz_stages.specs.File.{AreStagesOf}
+use Rattle.pz_stages.specs.declared.detail.Detail.{Detail}
 use Rattle.pz_export.specs.Outcome.{SaysPlayed, SaysRefused}
 use Rattle.pz_export.specs.declared.outcome.Outcome.{Outcome}
 
@@ -40,14 +41,14 @@ pub record IsAnswered (text : List Record → List ℕ) (order : Order) (file ro
   pub told : IsTold answer room_before room outcome count
 
 -- the stages of an input of a session of a file; no session of them has to pass
-pub record AreStaged (order : Order) (file : List ℕ) (session number : ℕ) (answer : Played) : Type 0 where
-  pub are_stages : AreStagesOf order file session number answer.lines.items
+pub record AreStaged (detail : Detail) (order : Order) (file : List ℕ) (session number : ℕ) (answer : Played) : Type 0 where
+  pub are_stages : AreStagesOf detail order file session number answer.lines.items
   pub passed : answer.passed ≡ true
 
 -- these, as a host is told them
-pub record IsStaged (order : Order) (file : List ℕ) (session number : ℕ) (room_before room : List ℕ) (outcome : Outcome) (count : ℕ) : Type 0 where
+pub record IsStaged (detail : Detail) (order : Order) (file : List ℕ) (session number : ℕ) (room_before room : List ℕ) (outcome : Outcome) (count : ℕ) : Type 0 where
   pub answer : Played
-  pub are_staged : AreStaged order file session number answer
+  pub are_staged : AreStaged detail order file session number answer
   pub told : IsTold answer room_before room outcome count
 
 -- a file's fault, or want of memory

@@ -4,12 +4,14 @@ ghost use Rattle.std.specs.Prelude.{◌≡◌, ◌≢◌, Err, IfErr, IfOk, leng
 ghost use Rattle.pz_entries.specs.declared.fault.FileFault.TheVariants as fault;
 ghost use Rattle.pz_engine.specs.Sessions.{sessions_in};
 ghost use Rattle.pz_lines.specs.Lines.{text_from, text_of};
+ghost use Rattle.pz_stages.specs.declared.detail.Detail.TheVariants.{Firings, Stages};
 ghost use Rattle.pz_export.specs.Lines.{AreStaged, IsAnswered, IsRefused, IsStaged, IsTold, IsToldWhy, begun_with, order_of};
 
 use crate::outcome::{Outcome, REFUSED, played, refused};
 use pz_engine::engine::{Played, lines, lines_from};
 use pz_entries::fault::FileFault;
 use pz_record::order::Order;
+use pz_stages::detail::Detail;
 use pz_stages::file::stages;
 use std::alloc::Global;
 
@@ -92,18 +94,26 @@ pub extern "C" fn saxtegun_frames(
     )
 }
 
-/// The lines of the stages of an input. No session of them has to pass.
+/// The lines of the stages of an input, told with this detail. No session of them has to pass.
 fn staged(
     alloc: Global,
     file: &[u8],
     order: Order,
+    detail: Detail,
     session: u32,
     number: u32,
 ) -> Result<Played, FileFault>
-    ensures staged { IfOk result (AreStaged order file.now session number) }
+    ensures staged { IfOk result (AreStaged detail order file.now session number) }
     ensures refused { IfErr result (λ cause. cause ≢ fault.Memory → sessions_in file.now ≡ Err cause) }
 {
-    let lines = stages(alloc, file, order, session as usize, number as usize)?;
+    let lines = stages(
+        alloc,
+        file,
+        order,
+        detail,
+        session as usize,
+        number as usize,
+    )?;
     Ok(Played {
         lines,
         passed: true,
@@ -124,11 +134,48 @@ pub extern "C" fn saxtegun_stages(
     outcome: &mut Outcome,
 ) -> usize
     ensures size { length room.new ≡ length room.old }
-    ensures answered { outcome.new.status ≢ REFUSED → IsStaged (order_of order) file.now session number room.old room.new outcome.new result }
+    ensures answered { outcome.new.status ≢ REFUSED → IsStaged Stages (order_of order) file.now session number room.old room.new outcome.new result }
     ensures refused { outcome.new.status ≡ REFUSED → IsRefused file.now room.old room.new outcome.new result }
 {
     tell(
-        staged(alloc, file, order_of(order), session, number),
+        staged(
+            alloc,
+            file,
+            order_of(order),
+            Detail::Stages,
+            session,
+            number,
+        ),
+        room,
+        outcome,
+    )
+}
+
+/// The same, and before each group or loop the firings of its instances: each instance that changed a cell, when, at which places, and the
+/// level after it.
+#[unsafe(no_mangle)]
+pub extern "C" fn saxtegun_firings(
+    alloc: Global,
+    file: &[u8],
+    order: u32,
+    session: u32,
+    number: u32,
+    room: &mut [u8],
+    outcome: &mut Outcome,
+) -> usize
+    ensures size { length room.new ≡ length room.old }
+    ensures answered { outcome.new.status ≢ REFUSED → IsStaged Firings (order_of order) file.now session number room.old room.new outcome.new result }
+    ensures refused { outcome.new.status ≡ REFUSED → IsRefused file.now room.old room.new outcome.new result }
+{
+    tell(
+        staged(
+            alloc,
+            file,
+            order_of(order),
+            Detail::Firings,
+            session,
+            number,
+        ),
         room,
         outcome,
     )

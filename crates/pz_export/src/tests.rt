@@ -1,6 +1,6 @@
 //! What a host sees.
 
-use crate::lines::{saxtegun_frames, saxtegun_lines, saxtegun_stages};
+use crate::lines::{saxtegun_firings, saxtegun_frames, saxtegun_lines, saxtegun_stages};
 use crate::outcome::{Outcome, played};
 use std::test::Fail;
 
@@ -132,6 +132,41 @@ fn tells_the_stages_of_an_input(rt: HostRuntime) -> Result<(), Fail> {
             file,
             0,
             session,
+            number,
+            room.as_mut_slice(),
+            &mut outcome,
+        );
+        assert!(rt; count == lines.len());
+        assert!(rt; room.as_slice().starts_with(lines.as_bytes()));
+        assert!(rt; room.iter().skip(count).all(|byte| *byte == 7));
+        assert!(rt; outcome.status == 0 && outcome.fault == 0 && outcome.entry == 0);
+    }
+    Ok(())
+}
+
+/// A push to the right by the rule of line 13.
+const PUSH: &str =
+    r#"[["push",["OBJECTS\nBackground .\nblack\nPlayer p\nwhite\nCrate c\nbrown\nLEGEND\nCOLLISIONLAYERS\nBackground\nPlayer, Crate\nRULES\nright [ > Player | Crate ] -> [ > Player | > Crate ]\nLEVELS\npc.\n",[3],"background:0,background player:1,background crate:2,\n"]]]"#;
+
+/// The rule fires once, where the player stands, and heads the crate; a second pass changes nothing.
+const FIRINGS: &str = concat!(
+    "{\"changed\":true,\"commands\":[],\"headings\":[[0,0,\"player\",\"right\"]],\"input\":1,\"level\":\"background player:0,background crate:1,background:2,\\n\",\"stage\":\"input\",\"tick\":0}\n",
+    "{\"block\":0,\"direction\":\"right\",\"group\":0,\"headings\":[[0,0,\"player\",\"right\"],[1,0,\"crate\",\"right\"]],\"input\":1,\"instance\":0,\"level\":\"background player:0,background crate:1,background:2,\\n\",\"line\":13,\"pass\":0,\"places\":[[[0,0,0]]],\"round\":0,\"stage\":\"early\",\"tick\":0}\n",
+    "{\"block\":0,\"changed\":true,\"commands\":[],\"headings\":[[0,0,\"player\",\"right\"],[1,0,\"crate\",\"right\"]],\"input\":1,\"level\":\"background player:0,background crate:1,background:2,\\n\",\"lines\":[13],\"stage\":\"early\",\"tick\":0}\n",
+    "{\"changed\":true,\"commands\":[],\"headings\":[],\"input\":1,\"level\":\"background:0,background player:1,background crate:2,\\n\",\"stage\":\"movement\",\"tick\":0}\n",
+    "{\"changed\":true,\"commands\":[],\"headings\":[],\"input\":1,\"level\":\"background:0,background player:1,background crate:2,\\n\",\"stage\":\"end\",\"tick\":0}\n",
+);
+
+#[test]
+fn tells_the_firings_of_an_input(rt: HostRuntime) -> Result<(), Fail> {
+    for (file, number, lines) in [(PUSH, 1, FIRINGS), (PUSH, 2, ""), (WALK, 1, STAGES)] {
+        let mut room = vec![in rt.alloc(); 7; 1200]?;
+        let mut outcome = played(false);
+        let count = saxtegun_firings(
+            rt.alloc(),
+            file.as_bytes(),
+            0,
+            0,
             number,
             room.as_mut_slice(),
             &mut outcome,

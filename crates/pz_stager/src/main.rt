@@ -1,6 +1,6 @@
 //! The program of stages: tells the stages of an input of a session. The file of sessions comes on the standard input. The words are the
-//! number of the session in the file, from 0, and that of the input, from 1 (0 is the session's start); a third word `columns` asks for
-//! the cells of levels by columns.
+//! number of the session in the file, from 0, and that of the input, from 1 (0 is the session's start); behind them a word `columns` asks for
+//! the cells of levels by columns, and a last word `firings` for the firings of the instances too.
 #![tactic(auto)]
 
 ghost use Rattle.std.specs.Prelude.{◌≡◌, None, false};
@@ -11,19 +11,20 @@ use pz_console::input::{InputFault, read_input};
 use pz_entries::fault::FileFault;
 use pz_lines::output::Output;
 use pz_record::order::Order;
-use pz_stages::stages;
+use pz_stages::{Detail, stages};
 use std::alloc::Global;
 use std::env;
 use std::env::Env;
 use std::io::{ErrorKind, Read, Write};
 use std::process::ExitCode;
 
-/// What the words ask for: the session, the input, and the order of cells.
+/// What the words ask for: the session, the input, the order of cells, and how much is told.
 #[derive(Clone, Copy)]
 struct Asked {
     session: usize,
     number: usize,
     order: Order,
+    detail: Detail,
 }
 
 /// A number of the words.
@@ -31,8 +32,17 @@ fn number_of(word: &str) -> Result<usize, Failure> {
     word.parse::<usize>().map_err(|_| Failure::BadLine)
 }
 
+/// How much is told, by the last of the words; and the words before it.
+fn detail_in(words: &[String]) -> (Detail, &[String]) {
+    match words {
+        [before @ .., last] if last.as_str() == "firings" => (Detail::Firings, before),
+        _ => (Detail::Stages, words),
+    }
+}
+
 /// What the words behind the program's name ask for.
 fn asked_by(words: &[String]) -> Result<Asked, Failure> {
+    let (detail, words) = detail_in(words);
     let (session, number, order) = match words {
         [session, number] => (session, number, Order::Rows),
         [session, number, order] if order.as_str() == "columns" => {
@@ -44,6 +54,7 @@ fn asked_by(words: &[String]) -> Result<Asked, Failure> {
         session: number_of(session.as_str())?,
         number: number_of(number.as_str())?,
         order,
+        detail,
     })
 }
 
@@ -79,7 +90,14 @@ fn tell<R: Env + AllocGlobal, I: Read, W: Write>(
 {
     let asked = asked_by(&words(rt)?)?;
     let bytes = file_of(rt.alloc(), input)?;
-    match stages(rt.alloc(), &bytes, asked.order, asked.session, asked.number) {
+    match stages(
+        rt.alloc(),
+        &bytes,
+        asked.order,
+        asked.detail,
+        asked.session,
+        asked.number,
+    ) {
         Ok(lines) => match output.write_whole(&lines) {
             Ok(()) => Ok(()),
             Err(fault) => Err(Failure::WriteFault(fault)),

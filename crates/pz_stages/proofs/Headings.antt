@@ -1,5 +1,5 @@
 -- In a cell where nothing heads anywhere there is nothing to tell.
-use Rattle.std.proofs.Common.{◌≡◌, ℕ, suc, ◌+◌, ◌-◌, ◌<◌, ◌≤◌, Bool, true, false, List, [], ◌∷◌, ◌++◌, map, flat_map, Option, Some, None, refl, ap, sym, ◌∙◌, arith, if◌then◌else◌, nat_lt, ◌&&◌}
+use Rattle.std.proofs.Common.{◌≡◌, ℕ, zero, suc, ◌+◌, ◌-◌, ◌<◌, ◌≤◌, Bool, true, false, List, [], ◌∷◌, ◌++◌, map, flat_map, Option, Some, None, refl, ap, sym, ◌∙◌, arith, if◌then◌else◌, nat_lt, ◌&&◌}
 use Rattle.std.specs.Prelude.{unwrap_or}
 use Rattle.std.specs.List.{enumerate_from, range_with_len}
 use Rattle.std.proofs.lemmas.List.{append-nil, append_assoc}
@@ -8,9 +8,9 @@ use Rattle.pz_cells.specs.declared.piece.Piece.{Piece}
 use Rattle.pz_cells.specs.Cell.{still_place}
 use Rattle.pz_cells.specs.Standing.{standing}
 use Rattle.pz_sheet.specs.Grid.{Grid, cell_at}
-use Rattle.pz_sheet.specs.Movement.{IsStillAt}
+use Rattle.pz_sheet.specs.Movement.{AreColumnsStill, IsStillAt}
 use Rattle.pz_sheet.specs.Standing.{heading_at}
-use Rattle.pz_stages.specs.Stages.{cell_headings, heading_text}
+use Rattle.pz_stages.specs.Parts.{cell_headings, heading_text, headings_of, row_headings}
 
 standing_still : (cell : List (Option Piece)) (object : ℕ) → unwrap_or (standing (map still_place cell) object) None ≡ None
 standing_still [] object = refl
@@ -51,3 +51,22 @@ pub adds_none : (f : ℕ → List ℕ) (texts : List ℕ) (x w : ℕ) → w ≤ 
 adds_none f texts x w over =
     let none : w - x ≡ 0 = omega (arith, over) in
     ap (λ (n : ℕ). texts ++ flat_map f (range_with_len x n)) none ∙ append-nil texts
+
+-- where nothing in any column heads anywhere, there is nothing to tell
+rows_still : (objects : List (List ℕ)) (grid : Grid) (y : ℕ) → y < grid.height → AreColumnsStill grid 0 grid.width → (x n : ℕ) → x + n ≤ grid.width → flat_map (cell_headings objects grid y) (range_with_len x n) ≡ []
+rows_still objects grid y within still x zero short = refl
+rows_still objects grid y within still x (suc n) short =
+    let here = no_headings grid x y (still x (omega arith) (omega (arith, short)) y (omega arith) within) (enumerate_from 0 objects) in
+    let later = rows_still objects grid y within still (x + 1) n (omega (arith, short)) in
+    ap (λ (texts : List ℕ). texts ++ flat_map (cell_headings objects grid y) (range_with_len (x + 1) n)) here ∙ later
+
+level_still : (objects : List (List ℕ)) (grid : Grid) → AreColumnsStill grid 0 grid.width → (y n : ℕ) → y + n ≤ grid.height → flat_map (row_headings objects grid) (range_with_len y n) ≡ []
+level_still objects grid still y zero short = refl
+level_still objects grid still y (suc n) short =
+    let here = rows_still objects grid y (omega (arith, short)) still 0 grid.width (omega arith) in
+    let later = level_still objects grid still (y + 1) n (omega (arith, short)) in
+    ap (λ (texts : List ℕ). texts ++ flat_map (row_headings objects grid) (range_with_len (y + 1) n)) here ∙ later
+
+pub still_adds_nothing : (texts : List ℕ) (objects : List (List ℕ)) (grid : Grid) → AreColumnsStill grid 0 grid.width → texts ≡ texts ++ headings_of objects grid
+still_adds_nothing texts objects grid still =
+    sym (append-nil texts) ∙ ap (λ (more : List ℕ). texts ++ more) (sym (level_still objects grid still 0 grid.height (omega arith)))

@@ -9,23 +9,24 @@ use Rattle.pz_job.specs.Job.{job_of}
 use Rattle.pz_engine.specs.Sessions.{sessions_in}
 use Rattle.pz_steps.specs.Steps.{steps_at}
 use Rattle.pz_stages.specs.Stages.{input_lines}
+use Rattle.pz_stages.specs.declared.detail.Detail.{Detail}
 
 -- a refused session has no stages
-abbrev pub plan_lines : ℕ → Result PlanState Refusal → List ℕ
-plan_lines number (Err refusal) = []
-plan_lines number (Ok plan) = input_lines number (steps_at plan number)
+abbrev pub plan_lines : Detail → ℕ → Result PlanState Refusal → List ℕ
+plan_lines detail number (Err refusal) = []
+plan_lines detail number (Ok plan) = input_lines detail number (steps_at plan number)
 
 -- nor has one that isn't there
-abbrev pub case_lines : ℕ → Option Case → List ℕ
-case_lines number None = []
-case_lines number (Some case) = plan_lines number case.plan
+abbrev pub case_lines : Detail → ℕ → Option Case → List ℕ
+case_lines detail number None = []
+case_lines detail number (Some case) = plan_lines detail number case.plan
 
 -- the lines of a session's input, both by their numbers
-abbrev pub session_lines : Order → List Entry → ℕ → ℕ → List ℕ
-session_lines order entries session number = case_lines number (slice_get (job_of order entries) session)
+abbrev pub session_lines : Detail → Order → List Entry → ℕ → ℕ → List ℕ
+session_lines detail order entries session number = case_lines detail number (slice_get (job_of order entries) session)
 
 -- lines that are those of an input of a session of a file
-pub record AreStagesOf (order : Order) (bytes : List ℕ) (session number : ℕ) (lines : List ℕ) : Type 0 where
+pub record AreStagesOf (detail : Detail) (order : Order) (bytes : List ℕ) (session number : ℕ) (lines : List ℕ) : Type 0 where
   pub entries : List Entry
   pub read : sessions_in bytes ≡ Ok entries
-  pub whole : lines ≡ session_lines order entries session number
+  pub whole : lines ≡ session_lines detail order entries session number

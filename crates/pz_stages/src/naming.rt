@@ -1,8 +1,8 @@
 //! What the lines of stages call directions, parts and commands.
-#![tactic(auto, unfolding(crate::specs::Stages::dir_name, crate::specs::Stages::part_name))]
+#![tactic(auto, unfolding(crate::specs::Parts::dir_name, crate::specs::Parts::part_name))]
 
 ghost use Rattle.std.specs.Prelude.{◌≡◌, ◌++◌, OnOk};
-ghost use Rattle.pz_stages.specs.Stages.{bool_text, command_names, dir_name, part_name, text_if};
+ghost use Rattle.pz_stages.specs.Parts.{bool_text, command_names, dir_name, part_name, text_if};
 
 use bitflags::Flags;
 use pz_game::direction::Dir;

@@ -6,7 +6,9 @@ ghost use Rattle.pz_level_text.specs.LevelText.{text_of_level};
 ghost use Rattle.pz_turn.specs.declared.outcome.StepFault.{StepFault};
 ghost use Rattle.pz_session.specs.Turn.{stop_of};
 ghost use Rattle.pz_trace.specs.Tracing.{with_level};
-ghost use Rattle.pz_stages.specs.Stages.{block_text, bracketed, command_names, headings_of, lines_text, source_lines, stage_line, stop_line};
+ghost use Rattle.pz_stages.specs.Parts.{block_text, bracketed, command_names, headings_of, lines_text, source_lines};
+ghost use Rattle.pz_stages.specs.Stages.{stage_line, stop_line};
+ghost use Rattle.pz_stages.specs.Writer.{IsWriterOf};
 
 use crate::heading::put_headings;
 use crate::naming::{bool_text, part_name, put_commands};
@@ -32,7 +34,7 @@ pub(crate) struct Place<'b, 'a> {
 }
 
 /// Puts texts that each begin with a comma as a JSON list: the first comma is left out.
-fn put_bracketed(line: &mut Vec<u8>, texts: &[u8]) -> Result<(), AllocError>
+pub(crate) fn put_bracketed(line: &mut Vec<u8>, texts: &[u8]) -> Result<(), AllocError>
     ensures { OnOk result (line.new.items ≡ line.old.items ++ bracketed texts.now) }
 {
     let (_, behind) = texts.split_at(texts.len().min(1));
@@ -42,7 +44,7 @@ fn put_bracketed(line: &mut Vec<u8>, texts: &[u8]) -> Result<(), AllocError>
 }
 
 /// Puts a list of what was gathered, with its key.
-fn put_list(line: &mut Vec<u8>, key: &[u8], texts: &[u8]) -> Result<(), AllocError>
+pub(crate) fn put_list(line: &mut Vec<u8>, key: &[u8], texts: &[u8]) -> Result<(), AllocError>
     ensures { OnOk result (line.new.items ≡ line.old.items ++ (key.now ++ bracketed texts.now)) }
 {
     line.extend_from_slice(key)?;
@@ -50,7 +52,7 @@ fn put_list(line: &mut Vec<u8>, key: &[u8], texts: &[u8]) -> Result<(), AllocErr
 }
 
 /// Puts the number of a block.
-fn put_block(line: &mut Vec<u8>, part: Part) -> Result<(), AllocError>
+pub(crate) fn put_block(line: &mut Vec<u8>, part: Part) -> Result<(), AllocError>
     ensures { OnOk result (line.new.items ≡ line.old.items ++ block_text part) }
 {
     match part {
@@ -122,7 +124,7 @@ fn commands_of(alloc: Global, commands: Commands) -> Result<Vec<u8>, AllocError>
 }
 
 /// What heads somewhere in a level, each with a comma before it.
-fn headings_of(alloc: Global, game: &Game, level: &Level) -> Result<Vec<u8>, AllocError>
+pub(crate) fn headings_of(alloc: Global, game: &Game, level: &Level) -> Result<Vec<u8>, AllocError>
     ensures { IfOk result (λ texts. texts.items ≡ headings_of game.now.objects level.now.grid) }
 {
     let mut texts = Vec::new(alloc);
@@ -131,29 +133,32 @@ fn headings_of(alloc: Global, game: &Game, level: &Level) -> Result<Vec<u8>, All
 }
 
 /// Puts the text of a level.
-fn put_level(
-    alloc: Global,
+pub(crate) fn put_level(
     line: &mut Vec<u8>,
-    board: &Board<'_>,
+    texts: &mut TextWriter<'_>,
     level: &Level,
 ) -> Result<(), AllocError>
-    ensures { OnOk result (line.new.items ≡ line.old.items ++ (codes ",\"level\":" ++ quoted (text_of_level board.now.game board.now.order level.now.grid))) }
+    ensures text { OnOk result (line.new.items ≡ line.old.items ++ (codes ",\"level\":" ++ quoted (text_of_level texts.old.table.game texts.old.order level.now.grid))) }
+    ensures game { texts.new.table.game ≡ texts.old.table.game }
+    ensures order { texts.new.order ≡ texts.old.order }
 {
-    let mut texts = TextWriter::new(alloc, board.game(), board.order());
     let text = texts.write(level.bare())?;
     put_quoted(line, b",\"level\":", &text)
 }
 
 /// Puts the line of a stage behind others.
 pub(crate) fn put_stage(
-    alloc: Global,
     lines: &mut Vec<u8>,
+    texts: &mut TextWriter<'_>,
     place: Place<'_, '_>,
     stage: Stage,
     level: &Level,
 ) -> Result<(), AllocError>
-    ensures { OnOk result (lines.new.items ≡ lines.old.items ++ stage_line place.entry.number place.entry.tick place.entry.board.now (with_level stage level.now.grid)) }
+    requires { IsWriterOf place.board.now texts.old }
+    ensures writer { IsWriterOf place.entry.board.now texts.new }
+    ensures line { OnOk result (lines.new.items ≡ lines.old.items ++ stage_line place.entry.number place.entry.tick place.entry.board.now (with_level stage level.now.grid)) }
 {
+    let alloc = *lines.allocator();
     let board = place.board;
     let game = board.game();
     lines.extend_from_slice(b"{")?;
@@ -166,7 +171,7 @@ pub(crate) fn put_stage(
     )?;
     put_list(lines, b",\"headings\":", &headings_of(alloc, game, level)?)?;
     put_number(lines, b",\"input\":", place.number)?;
-    put_level(alloc, lines, board, level)?;
+    put_level(lines, texts, level)?;
     put_source(alloc, lines, game, board.program(), stage.part)?;
     put_text(lines, b",\"stage\":", part_name(stage.part))?;
     put_number(lines, b",\"tick\":", place.tick)?;

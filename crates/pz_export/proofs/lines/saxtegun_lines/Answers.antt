@@ -1,5 +1,4 @@
 use Rattle.std.proofs.Common.{sym}
-use Rattle.pz_engine.specs.Engine.{IsPlayed}
 use Rattle.pz_lines.specs.Lines.{text_of}
 use Rattle.pz_export.specs.Lines.{order_of}
 use Rattle.pz_export.proofs.Told.{answered, refused}

@@ -1,7 +1,7 @@
 use Rattle.std.proofs.Common.{◌≡◌, ℕ, ◌++◌, List, drop, flat_map}
 use Rattle.std.specs.List.{enumerate_from}
 use Rattle.pz_sheet.specs.Standing.{heading_at}
-use Rattle.pz_stages.specs.Stages.{heading_text}
+use Rattle.pz_stages.specs.Parts.{heading_text}
 use Rattle.pz_stages.proofs.heading.put_cell.Given as goal
 
 abbrev pub invariant-loop-number : goal.invariant-loop-number

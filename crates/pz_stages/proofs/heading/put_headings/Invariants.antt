@@ -1,6 +1,6 @@
 use Rattle.std.proofs.Common.{◌≡◌, ◌++◌, ◌-◌, flat_map}
 use Rattle.std.specs.List.{range_with_len}
-use Rattle.pz_stages.specs.Stages.{row_headings}
+use Rattle.pz_stages.specs.Parts.{row_headings}
 use Rattle.pz_stages.proofs.heading.put_headings.Given as goal
 
 abbrev pub invariant-loop-y : goal.invariant-loop-y

@@ -1,6 +1,6 @@
 use Rattle.std.proofs.Common.{◌≡◌, ◌++◌, ◌-◌, flat_map}
 use Rattle.std.specs.List.{range_with_len}
-use Rattle.pz_stages.specs.Stages.{cell_headings}
+use Rattle.pz_stages.specs.Parts.{cell_headings}
 use Rattle.pz_stages.proofs.heading.put_row.Given as goal
 
 abbrev pub invariant-loop-x : goal.invariant-loop-x

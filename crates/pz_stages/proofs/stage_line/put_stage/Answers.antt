@@ -1,15 +1,15 @@
-use Rattle.std.proofs.Common.{◌≡◌, ℕ, List, [], ◌∷◌, ◌++◌, codes, decimal, ap, ap₂, ◌∙◌}
+use Rattle.std.proofs.Common.{ℕ, List, [], ◌∷◌, ◌++◌, codes, decimal, ap, ap₂, ◌∙◌}
 use Rattle.json.specs.Print.{quoted}
 unfoldable use Rattle.pz_level_text.specs.LevelText.{text_of_level}
-use Rattle.pz_trace.specs.Tracing.{with_level}
-use Rattle.pz_stages.specs.Stages.{block_text, bool_text, bracketed, command_names, headings_of, lines_text}
-unfoldable use Rattle.pz_stages.specs.Stages.{part_name, stage_line}
+use Rattle.pz_stages.specs.Parts.{block_text, bool_text, bracketed, command_names, headings_of, lines_text}
+unfoldable use Rattle.pz_stages.specs.Parts.{part_name}
+unfoldable use Rattle.pz_stages.specs.Stages.{stage_line}
 use Rattle.pz_stages.proofs.Lines.{in_parts}
 use Rattle.pz_stages.proofs.stage_line.put_stage.Goals as goal
 
-pub returns : goal.returns
+pub returns-clause-line : goal.returns-clause-line
 unfolding stage_line
-returns c =
+returns-clause-line c =
     let lines = c.args.lines.now.items in
     let place = c.args.place in
     let state = place.board.now in
@@ -24,7 +24,7 @@ returns c =
     let headings = c.deref-2.ensures.value ∙ c.in_ok-headings_of.ensures ∙ ap (λ game. headings_of game.objects level) c.game-game.ensures in
     let five = c.in_ok-put_list-2.ensures ∙ ap₂ (λ (l t : List ℕ). l ++ (codes ",\"headings\":" ++ bracketed t)) four headings in
     let six = c.in_ok-put_number.ensures ∙ ap (λ (l : List ℕ). l ++ (codes ",\"input\":" ++ decimal place.number)) five in
-    let seven = c.in_ok-put_level.ensures ∙ ap (λ (l : List ℕ). l ++ (codes ",\"level\":" ++ quoted text)) six in
+    let seven = c.in_ok-put_level.ensures.text ∙ (λ i. six i ++ (codes ",\"level\":" ++ quoted (text_of_level (c.requires.0 i) (c.requires.1 i) level))) in
     let eight = c.in_ok-put_source.ensures ∙ (λ i. seven i ++ lines_text (c.game-game.ensures i).rules (c.program.ensures i) stage.part) in
     let nine = c.in_ok-put_text.ensures ∙ ap₂ (λ (l n : List ℕ). l ++ (codes ",\"stage\":" ++ quoted n)) eight c.part_name.ensures in
     let ten = c.in_ok-put_number-2.ensures ∙ ap (λ (l : List ℕ). l ++ (codes ",\"tick\":" ++ decimal place.tick)) nine in
