@@ -9,7 +9,7 @@ export interface Answer {
   /**
    * Why the file was refused, and else null: `not-json`, `bad-entry N`, `bad-level N`, `too-many` as docs/sessions.md has them; `memory`, where memory was
    * refused; `broken`, where the module stopped at a fault, its own or that of what it was built by, or a worker could not be started; `no-stages`, where
-   * stages were asked of an older module, which gives none.
+   * stages or firings were asked of an older module, which gives none.
    */
   fault: string | null;
 }
@@ -17,6 +17,11 @@ export interface Answer {
 export interface Options {
   /** The order of the cells of a level; `columns` where it is left out. */
   order?: 'rows' | 'columns';
+}
+
+export interface StageOptions extends Options {
+  /** Whether the firings of instances are told before each group or loop; not where it is left out. */
+  firings?: boolean;
 }
 
 /** One session, as the elements of an entry of docs/sessions.md. */
@@ -66,6 +71,27 @@ export interface Stage {
   lines?: number[];
 }
 
+/**
+ * An instance that changed a cell, before the stage of its group or loop: when (counted from 0: the round of a loop, the group in it, the pass of that, the
+ * instance in it), by the rule of which source line, in which direction its rows were scanned, and at which places a cell changed: of each combination a
+ * place of each row, and of each place its column, its row, and the cells that its gap spans.
+ */
+export interface Firing {
+  input: number;
+  tick: number;
+  stage: 'early' | 'late';
+  block: number;
+  round: number;
+  group: number;
+  pass: number;
+  instance: number;
+  line: number;
+  direction: string;
+  places: [number, number, number][][];
+  headings: [number, number, string, string][];
+  level: string;
+}
+
 export interface Stop {
   input: number;
   tick: number;
@@ -89,12 +115,13 @@ export interface Engine {
    * more; all, where that is left out. `from` is a whole number from 0 on. The module itself leaves the others out. Where there is a fault, there are neither.
    */
   frames(session: Session, options?: Options & { from?: number }): { frames: Frame[]; close: Close | null; fault: string | null };
-  /** Whether the module gives stages. */
+  /** Whether the module gives stages, and whether it gives firings. */
   readonly hasStages: boolean;
+  readonly hasFirings: boolean;
   /** The stages of an input of a session, which is played from its start: none for an input that it doesn't have. Where there is a fault, there are none. */
-  stages(session: Session, input: number, options?: Options): { stages: (Stage | Stop)[]; fault: string | null };
+  stages(session: Session, input: number, options?: StageOptions): { stages: (Stage | Firing | Stop)[]; fault: string | null };
   /** The lines of the stages of an input, of a session of a file that is numbered from 0. The status of an answer is 0 or 2. */
-  stagesOf(text: string | ArrayBuffer | ArrayBufferView, session: number, input: number, options?: Options): Answer;
+  stagesOf(text: string | ArrayBuffer | ArrayBufferView, session: number, input: number, options?: StageOptions): Answer;
   /** Plays a file in workers of its own, cut into files of consecutive sessions. The answer is that of `replay`. */
   replayInWorkers(text: string | ArrayBuffer | ArrayBufferView, options?: WorkerOptions): Promise<Answer>;
 }

@@ -19,7 +19,7 @@ const OUTCOME_BYTES = 24;
 const MOST_WORKERS = 64;
 const PARTS_OF_A_WORKER = 8;
 const WORKER = 'saxtegun-worker';
-const STAGES = 'saxtegun_stages'; // an export that older modules don't have
+const STAGES = 'saxtegun_stages', FIRINGS = 'saxtegun_firings'; // exports that older modules don't have
 const MOST_NUMBER = 0xffff_ffff; // that the module is told; no file has so many sessions or inputs
 
 const isNode = typeof process === 'object' && typeof process.versions?.node === 'string';
@@ -145,15 +145,23 @@ class Engine {
       exports.saxtegun_frames(input.at, BigInt(input.size), number, first, room.at, BigInt(room.size), outcome)));
   }
 
-  get hasStages() {
-    return WebAssembly.Module.exports(this.#module).some(({ name }) => name === STAGES);
+  #has(asked) {
+    return WebAssembly.Module.exports(this.#module).some(({ name }) => name === asked);
   }
 
-  stagesOf(text, session, input, { order = 'columns' } = {}) {
-    const number = numberOf(order), [of, at] = [session, input].map(smallNumberOf);
-    if (!this.hasStages) return refused('no-stages');
+  get hasStages() {
+    return this.#has(STAGES);
+  }
+
+  get hasFirings() {
+    return this.#has(FIRINGS);
+  }
+
+  stagesOf(text, session, input, { order = 'columns', firings = false } = {}) {
+    const number = numberOf(order), [of, at] = [session, input].map(smallNumberOf), asked = firings ? FIRINGS : STAGES;
+    if (!this.#has(asked)) return refused('no-stages');
     return this.#ask(text, (exports, file, room, outcome) =>
-      exports[STAGES](file.at, BigInt(file.size), number, of, at, room.at, BigInt(room.size), outcome));
+      exports[asked](file.at, BigInt(file.size), number, of, at, room.at, BigInt(room.size), outcome));
   }
 
   stages(session, input, options) {

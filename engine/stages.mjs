@@ -1,7 +1,8 @@
 #!/usr/bin/env node
-// engine/stages.mjs SESSION INPUT [columns]: the stages of an input of a session, a line each; the sessions file comes on the standard input. SESSION is
-// numbered from 0; INPUT 0 is the session's start, and 1 its first input. Cells go by rows, or by columns where that is named. The exit status is 0, or 2
-// with a line of failure. SAXTEGUN_MODULE may name another module than out/saxtegun.wasm.
+// engine/stages.mjs SESSION INPUT [columns] [firings]: the stages of an input of a session, a line each, and where that is asked for the firings of
+// instances too; the sessions file comes on the standard input. SESSION is numbered from 0; INPUT 0 is the session's start, and 1 its first input. Cells go
+// by rows, or by columns where that is named. The exit status is 0, or 2 with a line of failure. SAXTEGUN_MODULE may name another module than
+// out/saxtegun.wasm.
 import { Refusal, loadNamed, open, readInput, run, told } from './streams.mjs';
 
 const NUMBER = /^\+?[0-9]+$/;
@@ -14,10 +15,11 @@ function numberIn(word) {
 }
 
 async function tell(words) {
-  const [session, input] = words.slice(0, 2).map(numberIn), order = words[2] ?? 'rows';
-  if (words.length < 2 || words.length > 3 || (words.length === 3 && order !== 'columns')) throw new Refusal('bad command line');
+  const firings = words.at(-1) === 'firings', asked = firings ? words.slice(0, -1) : words;
+  const [session, input] = asked.slice(0, 2).map(numberIn), order = asked[2] ?? 'rows';
+  if (asked.length < 2 || asked.length > 3 || (asked.length === 3 && order !== 'columns')) throw new Refusal('bad command line');
   const file = readInput(open()), engine = await loadNamed();
-  return told(engine.stagesOf(file, session, input, { order }));
+  return told(engine.stagesOf(file, session, input, { order, firings }));
 }
 
 await run(tell);

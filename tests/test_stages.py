@@ -54,7 +54,7 @@ class DayOfStages(unittest.TestCase):
         for path in CASES:
             with self.subTest(path.stem):
                 case = json.loads(path.read_text(encoding="utf-8"))
-                asked = [str(case["session"]), str(case["input"]), *(["columns"] if case["order"] == "columns" else [])]
+                asked = [str(case["session"]), str(case["input"]), *(["columns"] if case["order"] == "columns" else []), *(["firings"] if case.get("firings") else [])]
                 ran = subprocess.run([*STAGES, *asked], input=json.dumps(case["sessions"]).encode(), stdout=subprocess.PIPE, stderr=subprocess.PIPE, env=ENVIRONMENT)
                 self.assertEqual((ran.returncode, ran.stderr), (0, b""))
                 self.assertEqual(ran.stdout.decode(), "".join(map(compact, case["lines"])))

@@ -22,7 +22,7 @@ from saxtegun.lines import Frame, Run
 from saxtegun.parting import parting_of
 from saxtegun.playing import Engine
 from saxtegun.sessions import Entry, sessions_in
-from saxtegun.stages import Heading, Stage, Stop, stages_of, told_in
+from saxtegun.stages import Firing, Heading, Stage, Stop, stages_of, told_in
 from saxtegun.verbs import why
 
 PUSH = "[ > player | crate ] -> [ > player | > crate ]"
@@ -76,6 +76,12 @@ def line_of(**changed):
     """A line of stages, with some of its values changed."""
     line = {"changed": True, "commands": [], "headings": [[1, 0, "player", "right"]], "input": 1, "level": "background:0,\n", "stage": "input", "tick": 0}
     return json.dumps({key: value for key, value in {**line, **changed}.items() if value is not None})
+
+
+def firing_line(**changed):
+    """A line of a firing, with some of its values changed."""
+    firing = {"block": 0, "direction": "right", "group": 0, "instance": 3, "line": 26, "pass": 2, "places": [[[1, 0, 0], [2, 0, 1]], [[3, 0, 0], [2, 0, 1]]], "round": 1, "stage": "early"}
+    return line_of(**{"changed": None, "commands": None, "headings": [], **firing, **changed})
 
 
 class OfAYard(OnSessions):
@@ -144,7 +150,8 @@ class Why(OfAYard):
         self.assert_refused(run("why", self.game, self.recordings, "--session", "run"), "fits no session of")
         self.assert_refused(self.why("--input", "4"), "walk has 4 inputs, counted from 0")
         self.assert_refused(self.why("--input", "-1"), "")
-        self.assert_refused(self.why("--input", "1", "--old", self.game), "--old finds the input itself")
+        for words in (("--input", "1"), ("--firings",), ("--json",)):
+            self.assert_refused(self.why(*words, "--old", self.game), "--old finds the input itself")
         self.assert_refused(run("why", self.recordings, "--session", "walk"), "is refused")
         self.game = self.write("broken.txt", "title x")
         self.assert_refused(self.why(), f"walk is refused over {self.game}: ")
@@ -208,6 +215,19 @@ class Guarded(OfAYard):
         self.assertEqual(told_in(line_of(), 1), Stage(0, "input", None, (), True, (), (Heading(1, 0, "player", "right"),), "background:0,\n"))
         self.assertEqual(told_in(line_of(stage="late", block=2, lines=[7, 9], commands=["again"]), 1).lines, (7, 9))
         self.assertEqual(told_in('{"input":3,"stop":"loop-limit","tick":1}', 3), Stop(1, "loop-limit"))
+        self.assertEqual(told_in(firing_line(), 1), Firing(0, "early", 26, "right", 1, 2, (((1, 0), (2, 0)), ((3, 0), (2, 0))), (), "background:0,\n"))
+
+    def test_a_line_of_no_firing_is_refused(self):
+        for changes in (
+            {"stage": "input"}, {"direction": "x"}, {"line": "26"}, {"round": -1}, {"group": None}, {"pass": 1.5}, {"instance": True}, {"block": None}, {"level": None}, {"level": "\ud800"},
+            {"places": []}, {"places": [[[1, 0]]]}, {"places": [[1, 0, 0]]}, {"places": [[[1, 0, -1]]]}, {"places": "x"}, {"headings": [[1]]}, {"headings": None},
+        ):  # fmt: skip
+            with self.subTest(changes):
+                self.assertIsNone(told_in(firing_line(**changes), 1))
+
+    def test_firings_that_were_not_asked_for_are_refused(self):
+        with mock.patch("saxtegun.stages.lines_of_stages", return_value=[firing_line() + "\n"]), self.assertRaisesRegex(Refused, "is no stage of its input"):
+            list(stages_of(None, 1, None))
 
 
 class Programs(unittest.TestCase):
@@ -292,6 +312,15 @@ class DayOfWhy(OfAGame):
                 self.assertEqual(first, f"session 0, a: {where.partition(', tick')[0]}")
                 self.assertIn("(loop-limit)", last)
                 self.assertEqual("tick 1" in answer.out, "tick 1" in where)
+
+    def test_a_group_without_rest_tells_each_firing_of_its_passes(self):
+        """The first rule fires once, and both of the group in each of its 200 passes, of which the last is one too many."""
+        text = WALK.replace("RULES\n", "RULES\n[ > Player | Wall ] -> [ > Player | Spike ]\n[ Spike ] -> [ Crate ]\n+ [ Crate ] -> [ Spike ]\n").replace("#p.#", "p.#")
+        answer = run("why", self.write("game.txt", text), self.write_entries([["a", ["", [3, "tick", 3], ""]]]), "--session", "a", "--order", "rows", "--firings")
+        fired = [it for it in answer.out.splitlines() if ": fires " in it]
+        self.assertEqual((len(fired), fired[0], fired[1]), (401, "pass 1: fires right at column 2, row 1", "pass 1: fires up at column 3, row 1"))
+        self.assertEqual([it.partition(":")[0] for it in fired[1::2]], [f"pass {it}" for it in range(1, 201)])
+        self.assertIn("(loop-limit)", answer.out.splitlines()[-1])
 
     def test_a_text_that_stops_says_what_acts_there_in_the_other(self):
         source = WALK.replace("#p.#", "p.c")

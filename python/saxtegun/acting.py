@@ -2,7 +2,7 @@
 from __future__ import annotations
 
 from functools import lru_cache
-from typing import Dict, List, Mapping, NamedTuple, Optional, Sequence, Tuple
+from typing import Dict, List, Mapping, NamedTuple, Optional, Sequence, Tuple, Union
 
 from saxtegun.commands import cut, plural
 from saxtegun.culprits import Repeated, repeated_in
@@ -10,11 +10,15 @@ from saxtegun.explaining import CELLS_TOLD, STOPS, cell_told, input_told, source
 from saxtegun.games import Game, game_of
 from saxtegun.levels import Labels, in_rows, read_cells, width_of
 from saxtegun.sessions import Entry
-from saxtegun.stages import END, INPUT, MOVEMENT, Heading, Stage, Stop, Told
+from saxtegun.stages import END, INPUT, MOVEMENT, AnyTold, Firing, Heading, Stage, Stop, Told
 from saxtegun.terminal import lettered
 
 Rows = List[List[Tuple[str, ...]]]
+# What has a level behind it.
+Acted = Union[Stage, Firing]
 ARROWS = {"up": "^", "left": "<", "down": "v", "right": ">", "action": "a"}
+# So many combinations of places of a firing are told.
+PLACES_TOLD = 8
 # So many rule lines of a group or a loop are shown.
 LINES_TOLD = 8
 UNREADABLE = "the level can't be drawn, since a name of an object in it holds a comma"
@@ -115,7 +119,7 @@ def heading_told(it: Heading) -> str:
     return f"column {it.column + 1}, row {it.row + 1}: {cut(it.name)} heads {it.direction}"
 
 
-def headings_told(stage: Stage, before: Optional[Stage]) -> List[str]:
+def headings_told(stage: Acted, before: Optional[Acted]) -> List[str]:
     """The pieces that head elsewhere than before, a line each."""
     old = set(before.headings) if before else set()
     new = [it for it in stage.headings if it not in old]
@@ -130,7 +134,7 @@ def cells_told(before: Rows, after: Rows, changed: Sequence[Tuple[int, int]]) ->
     return [*lines, f"and {plural(more, 'more cell')}"] if more > 0 else lines
 
 
-def drawn(stage: Stage, before: Optional[Stage], text: Text, is_always: bool = False) -> List[str]:
+def drawn(stage: Acted, before: Optional[Acted], text: Text, is_always: bool = False) -> List[str]:
     """What a stage did to the level, in letters and in words; nothing where it did nothing, unless that is asked for."""
     after, old = rows_of(stage.level, text.order), rows_of(before.level, text.order) if before else None
     if after is None:
@@ -151,10 +155,20 @@ def end_told(stage: Stage) -> str:
     return f"the end: the level is {'another than' if stage.is_changed else 'as it was'} before the step{gives}"
 
 
-def title_of(stage: Told, entry: Entry, at: int) -> str:
+def firing_told(it: Firing) -> str:
+    """When and where an instance fired. Columns, rows, passes and rounds are counted from 1."""
+    places = [" and ".join(f"column {x + 1}, row {y + 1}" for x, y in one) for one in it.places[:PLACES_TOLD]]
+    more = len(it.places) - len(places)
+    turn = f"round {it.loop_round + 1}, pass {it.group_pass + 1}" if it.loop_round else f"pass {it.group_pass + 1}"
+    return f"{turn}: fires {it.direction} at {'; '.join(places)}{f' and at {more} more' if more else ''}"
+
+
+def title_of(stage: AnyTold, entry: Entry, at: int) -> str:
     """What a stage is, in a line."""
     if isinstance(stage, Stop):
         return f"the step stops: {STOPS[stage.cause]} ({stage.cause})"
+    if isinstance(stage, Firing):
+        return firing_told(stage)
     if stage.name == END:
         return end_told(stage)
     if stage.name == INPUT:
@@ -166,10 +180,11 @@ def title_of(stage: Told, entry: Entry, at: int) -> str:
     return f"{block_told(stage, entry.source)}{': ' if does else ''}{does}"
 
 
-def told_of(stage: Told, before: Optional[Stage], entry: Entry, at: int, text: Text) -> List[str]:
+def told_of(stage: AnyTold, before: Optional[Acted], entry: Entry, at: int, text: Text) -> List[str]:
     """A stage in lines: what it is, the rules that it is made of, and what it did to the level. `before` is the stage before it, None at the first."""
     title = title_of(stage, entry, at)
     if isinstance(stage, Stop):
         return [title]
-    below = [*rule_lines(stage.lines, text), *drawn(stage, before, text, before is None)]
+    lines = (stage.line,) if isinstance(stage, Firing) else stage.lines
+    below = [*rule_lines(lines, text), *drawn(stage, before, text, before is None)]
     return [title, *(f"    {it}" for it in below)]

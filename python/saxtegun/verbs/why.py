@@ -6,6 +6,8 @@ game's text, the movement, and the end.
         what happened at that input of that session
     saxtegun why game.txt recordings.json --session 'level 2'
         the same of the input at which it stopped, or else of its last step
+    saxtegun why game.txt recordings.json --session 'level 2' --input 12 --firings
+        before each group or loop also each rule that changed a cell in it
     saxtegun why game.txt recordings.json --session 'level 2' --old before.txt
         the first stage at which the two texts of the game part
 
@@ -24,7 +26,7 @@ from argparse import ArgumentParser, ArgumentTypeError, Namespace
 from time import monotonic
 from typing import NamedTuple, Optional
 
-from saxtegun.acting import Text, told_of, where_told
+from saxtegun.acting import Acted, Text, told_of, where_told
 from saxtegun.budget import SECONDS
 from saxtegun.commands import Refused, add_playing, add_ticks, cut, plural, printable
 from saxtegun.explaining import source_told
@@ -33,11 +35,11 @@ from saxtegun.leading import Side, parting_told
 from saxtegun.lines import Run
 from saxtegun.playing import Engine, engine_of, runs_of
 from saxtegun.sessions import Entry, Sessions, fits, read_sessions
-from saxtegun.stages import STOPS, Stage, Stop, lines_and_stages, stages_of
+from saxtegun.stages import STOPS, Stop, lines_and_stages, stages_and_firings_of, stages_of
 from saxtegun.texts import over, read_game, read_named, say_others
 from saxtegun.verbs.test import split_files
 
-USAGE = "why [GAME.txt] SESSIONS.json --session NAME [--input K] [--old OTHER.txt] [options]"
+USAGE = "why [GAME.txt] SESSIONS.json --session NAME [--input K] [--firings] [--old OTHER.txt] [options]"
 START = "start"
 # So many names of sessions are told.
 NAMES_TOLD = 8
@@ -57,6 +59,7 @@ def add_words(words: ArgumentParser) -> None:
     words.add_argument("--session", metavar="NAME", required=True, help="the session: its name, or a pattern ('level 2*') that fits no other")
     words.add_argument("--input", metavar="K", type=input_in, help=f"the input, from 0, or {START} (where it stopped, or its last step)")
     words.add_argument("--old", metavar="OTHER.txt", help="name the first stage at which this text of the game and the one at hand part")
+    words.add_argument("--firings", action="store_true", help="show inside each group or loop each rule that changed a cell, pass by pass")
     words.add_argument("--json", action="store_true", help="write the lines of stages")
     add_playing(words)
     add_ticks(words)
@@ -148,15 +151,16 @@ def no_stages_told(asked: Asked, at: int) -> str:
     return "it takes no step"
 
 
-def tell_stages(asked: Asked, at: int) -> None:
-    """Draws the stages of an input, one after the other."""
-    before: Optional[Stage] = None
+def tell_stages(asked: Asked, at: int, has_firings: bool) -> None:
+    """Draws the stages of an input, one after the other, and the firings too where these are asked for."""
+    before: Optional[Acted] = None
     count = 0
     show(f"session {asked.entry.number}, {cut(asked.entry.name)}: {where_told(asked.entry, at)}")
-    for it in stages_of(asked.entry, at, asked.engine):
+    tells = stages_and_firings_of if has_firings else stages_of
+    for it in tells(asked.entry, at, asked.engine):
         for line in told_of(it, before, asked.entry, at, asked.text):
             show(line)
-        before = it if isinstance(it, Stage) else before
+        before = before if isinstance(it, Stop) else it
         count += 1
     if not count:
         show(f"no stages: {no_stages_told(asked, at)}")
@@ -177,15 +181,15 @@ def tell_parting(asked: Asked, old: str) -> int:
 
 def main(given: Namespace) -> int:
     guard_output(*given.files, *([given.old] if given.old else []))
-    if given.old and (given.json or given.input is not None):
-        raise Refused("--old finds the input itself, and excludes --input and --json")
+    if given.old and (given.json or given.firings or given.input is not None):
+        raise Refused("--old finds the input itself, and excludes --input, --firings and --json")
     asked = asked_by(given)
     if given.old:
         return tell_parting(asked, given.old)
     at = input_of(asked, given)
     if given.json:
-        for line, _ in lines_and_stages(asked.entry, at, asked.engine):
+        for line, _ in lines_and_stages(asked.entry, at, asked.engine, given.firings):
             sys.stdout.write(line)
     else:
-        tell_stages(asked, at)
+        tell_stages(asked, at, given.firings)
     return 0
