@@ -95,8 +95,16 @@ class Time(Programs):
         self.assertIn("| unanswered | not answered in 1 s |", (self.room / "md").read_text())
         self.assertEqual(run("explain", sessions, *words).status, 2)
         self.assertEqual(run("coverage", sessions, *words).status, 2)
+        self.assertEqual(run("report", sessions, *words).status, 2)
         lines = run("lines", sessions, *words)
         self.assertEqual((lines.status, lines.errors), (2, "saxtegun lines: not answered in 1 s\n"))
+
+    def test_two_texts_over_which_nothing_is_answered_are_not_the_same(self):
+        program, sessions = self.program(PLAYER), self.suite(["quick", "slow"])
+        words = ["--sources", self.write("one", "OBJECTS"), self.write("other", "OBJECTS\n"), sessions, "--program", program, "--timeout", "1"]
+        answer = run("compare", *words)
+        self.assertEqual(answer.status, 2)
+        self.assertEqual(answer.out, "session 1, slow: not answered in 1 s over one and other\n2 sessions: 1 the same, 0 diverge, 1 not answered\n")
 
     def test_a_limit_is_a_number_of_seconds(self):
         for word in ("0", "-1", "x", "nan", "inf", "1e9"):
