@@ -184,6 +184,7 @@ class Ends(Programs):
         super().setUp()
         self.deaf, self.folder = self.program(DEAF), self.room / "temp"
         self.folder.mkdir()
+        self.addCleanup(lambda: [os.kill(it, signal.SIGKILL) for it in self.numbers() if os.path.exists(f"/proc/{it}")])
 
     def numbers(self):
         path = self.room / "numbers"
@@ -229,6 +230,16 @@ class Ends(Programs):
             with self.subTest(words[0]), self.started(*words, "--program", self.deaf) as ran:
                 self.wait_for(self.numbers)
                 self.assert_ends(ran, signal.SIGINT, signal.SIGINT)
+
+    def test_whoever_stops_watching_while_it_plays_has_no_answer(self):
+        program, sessions, log = self.program(PLAYER), self.suite(["quick"]), self.room / "program.log"
+        with self.started("test", sessions, "--program", program, "--watch") as ran:
+            self.assertIn(b"waiting for a save", ran.stderr.readline())
+            played = len(log.read_text().split())
+            self.suite(["slow"])
+            self.wait_for(lambda: len(log.read_text().split()) > played)
+            self.assert_ends(ran, signal.SIGINT)
+            self.assertEqual(ran.returncode, 2)
 
     def test_lines_that_nobody_reads_keep_nothing_from_ending(self):
         program = self.write("endless", "#!/bin/sh\nexec yes '{\"at\":0'\n")
