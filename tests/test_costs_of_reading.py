@@ -24,6 +24,7 @@ from saxtegun.sessions import sessions_in
 from saxtegun.smaller import things_of as objects_of
 from saxtegun.sources import lines_of, trimmed
 from saxtegun.stages import Stage
+from saxtegun.texts import GameText, of_another_text, plain_text
 from saxtegun.verbs.add import add_to
 
 HEAD = "OBJECTS\nBackground .\nblack\nPlayer p\nwhite\n"
@@ -64,6 +65,14 @@ def added(size):
         total = add_to(str(path), sessions_in("new", json.dumps(new)), None).total
     if total != size // 4 + size:
         raise AssertionError("other recordings are there")
+
+
+def held_against(size):
+    """Looks which of many texts is the one at hand."""
+    entries = sessions_in("x", json.dumps([["a", [f"title {it}", [], ""]] for it in range(size // 100)])).entries
+    plain_text.cache_clear()
+    if len(of_another_text(entries, GameText("game.txt", "title x\r\n" * (size // 10)))) != size // 100:
+        raise AssertionError("a text is the one at hand")
 
 
 def acts(*lines):
@@ -107,6 +116,7 @@ READINGS = {
     "quotes of a word processor": (20_000, lambda size: find("[\u201e" * size)),
     "lists that are cut off": (20_000, lambda size: find('["a"x' * size)),
     "recordings of one name": (2000, added),
+    "texts that are held against one": (100_000, held_against),
     "numbers": (50_000, lambda size: find("['a',[''," + "[" + "1," * size + "1],'']]")),
 }
 

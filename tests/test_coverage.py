@@ -97,6 +97,23 @@ class DayOfCoverage(OfAGame):
         number = self.number(RULE.replace("Crate", "Crat"))
         self.assertIn(f"no session is played over {self.game}, so none of its lines was left out: session 0, {self.entries[1][0]}: line {number} has a name that is not there", answer.errors)
 
+    def test_a_game_that_no_session_follows_is_not_covered(self):
+        own = self.write_entries([["own", [self.source, *self.entries[1][1][1:]]]], "own.json")
+        self.assertEqual(run("coverage", own).status, 0)
+        for text in (self.source + "message x\n", "no game"):
+            self.write("game.txt", text)
+            answer = run("coverage", self.game, own)
+            self.assertEqual((answer.status, answer.out), (2, ""))
+            self.assertIn(f"no session is played over {self.game}, so none of its lines was left out: each has another text\n", answer.errors)
+
+    def test_a_line_that_a_comment_cuts_in_two_is_told(self):
+        """No session needs it, and it is not left out."""
+        rule = "[ > Player | (so) Wall ] -> [ Player | Wall ]"
+        self.with_rule(f"{RULE}\n{rule}")
+        answer = run("coverage", self.game, self.write_entries([self.entries[1]]))
+        self.assertEqual(answer.status, 2)
+        self.assertIn(f"{self.game}:{self.number(rule)}: not left out, since a comment cuts it in two: [ > Player |  Wall ] -> [ Player | Wall ]\n2 lines left out in turn: 0 ", answer.out)
+
     def test_where_no_session_is_played_there_is_no_answer(self):
         sessions = self.write("refused.json", json.dumps([["a", ["", [], ""]]]))
         self.assert_refused(run("coverage", sessions), "has no session that can be played, so no line was left out: session 0, a: its source is the empty text")

@@ -2,14 +2,16 @@
 import json
 import tempfile
 import unittest
+import unittest.mock
 from pathlib import Path
 from time import monotonic
 
 from day import OnSessions
 from tool import run
 from saxtegun.commands import Refused
-from saxtegun.engines import Ended, Reader
+from saxtegun.engines import Ended, Reader, answers
 from saxtegun.lines import runs_in
+from saxtegun.playing import Engine
 from saxtegun.sessions import Entry
 
 SOURCE = """OBJECTS
@@ -47,6 +49,18 @@ class OnEngines(OnSessions):
 
     def sessions(self, *inputs, source=SOURCE):
         return self.write("sessions.json", json.dumps([[f"session of {len(it)}", [source, it, "", 0]] for it in inputs]))
+
+
+class Strays(OnEngines):
+    def test_of_an_engine_in_a_loop_no_more_is_read_than_tells_that(self):
+        """What it writes beside its lines would take longer to read than it took to write."""
+        loop = self.write("loop", "#!/bin/sh\nyes '{' | head -n 300000\nexit 0\n")
+        loop.chmod(0o755)
+        entries = [Entry(number, "a", "", [], "", 0, {}, False) for number in range(3)]
+        with unittest.mock.patch.object(Reader, "read", autospec=True, side_effect=Reader.read) as read:
+            runs = list(answers(entries, Engine(program=str(loop), seconds=60.0)))
+        self.assertEqual([(it.number, it.close, it.cause) for it in runs], [(number, "stray", "{") for number in range(3)])
+        self.assertLess(read.call_count, 20_000)
 
 
 class Frames(unittest.TestCase):

@@ -129,6 +129,15 @@ class Explain(OnSessions):
                 self.assert_refused(run("explain", self.write("sessions.json", text), self.lines), what)
         self.assert_refused(run("explain", self.room / "nothing", self.lines), "nothing can't be read")
 
+    def test_a_long_cause_of_another_engine_is_cut(self):
+        sessions = self.write("s.json", '[["a", ["no game", [], ""]]]')
+        close = {"cause": "x" * 100_000, "close": "stopped", "frames": 0, "name": "a", "session": 0}
+        one, other = (self.write(name, json.dumps({**close, "cause": cause}) + "\n") for name, cause in (("one", "x" * 100_000), ("other", "y" * 100_000)))
+        for words in (("explain", sessions, one), ("compare", one, other, sessions)):
+            answer = run(*words)
+            self.assertIn("x" * 100, answer.out)
+            self.assertLess(len(answer.out), 1000)
+
 
 if __name__ == "__main__":
     unittest.main()

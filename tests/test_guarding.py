@@ -8,6 +8,7 @@ import unittest
 from day import EXAMPLE, OnSessions
 from tool import run
 from saxtegun.guarding import guarded
+from saxtegun.telling import MOST_FAILURES, Failure, markdown
 
 # By hand ten times as many, and with other seeds.
 SEED, COUNT = (int(os.environ.get(name, count)) for name, count in (("SEED", "75"), ("TEXTS", "2000")))
@@ -36,6 +37,13 @@ class Guarding(unittest.TestCase):
             for line in text.split("\n"):
                 with self.subTest(line):
                     self.assertFalse(is_command(guarded(line)), guarded(line))
+
+    def test_no_line_of_a_summary_is_a_command(self):
+        """A summary may be written into a log as well."""
+        failures = [Failure(text, "differs", text, text.split("\n"), text, 1) for text in texts(COUNT)[:400]]
+        for at in range(0, len(failures), MOST_FAILURES):
+            for line in markdown(failures[at : at + MOST_FAILURES], "24 sessions").split("\n"):
+                self.assertFalse(is_command(line), line)
 
     def test_what_is_no_command_stays(self):
         for line in ("", "a :: b", "x::y", "# [ a ]", "## [a]", "| ##.#", "passed, solved: the first", "    ####"):

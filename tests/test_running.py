@@ -95,8 +95,16 @@ class Time(Programs):
         self.assertIn("| unanswered | not answered in 1 s |", (self.room / "md").read_text())
         self.assertEqual(run("explain", sessions, *words).status, 2)
         self.assertEqual(run("coverage", sessions, *words).status, 2)
+        self.assertEqual(run("report", sessions, *words).status, 2)
         lines = run("lines", sessions, *words)
         self.assertEqual((lines.status, lines.errors), (2, "saxtegun lines: not answered in 1 s\n"))
+
+    def test_two_texts_over_which_nothing_is_answered_are_not_the_same(self):
+        program, sessions = self.program(PLAYER), self.suite(["quick", "slow"])
+        words = ["--sources", self.write("one", "OBJECTS"), self.write("other", "OBJECTS\n"), sessions, "--program", program, "--timeout", "1"]
+        answer = run("compare", *words)
+        self.assertEqual(answer.status, 2)
+        self.assertEqual(answer.out, "session 1, slow: not answered in 1 s over one and other\n2 sessions: 1 the same, 0 diverge, 1 not answered\n")
 
     def test_a_limit_is_a_number_of_seconds(self):
         for word in ("0", "-1", "x", "nan", "inf", "1e9"):
@@ -156,6 +164,97 @@ class Bounds(Programs):
                 self.assertEqual(ran.wait(timeout=20), 2 if number == signal.SIGINT else -number)
                 self.assertEqual(list(folder.iterdir()), [])
                 self.assert_gone(int((self.room / "number").read_text()))
+
+
+# A program that hears neither TERM nor HUP, and notes its number.
+DEAF = f"""#!{sys.executable}
+import os, signal, time
+for it in (signal.SIGTERM, signal.SIGHUP):
+    signal.signal(it, signal.SIG_IGN)
+with open("numbers", "a") as numbers:
+    numbers.write(f"{{os.getpid()}}\\n")
+time.sleep(1000)
+"""
+
+
+class Ends(Programs):
+    """Each verb that plays ends with what it has started, and leaves no folder."""
+
+    def setUp(self):
+        super().setUp()
+        self.deaf, self.folder = self.program(DEAF), self.room / "temp"
+        self.folder.mkdir()
+        self.addCleanup(lambda: [os.kill(it, signal.SIGKILL) for it in self.numbers() if os.path.exists(f"/proc/{it}")])
+
+    def numbers(self):
+        path = self.room / "numbers"
+        return [int(it) for it in path.read_text().split()] if path.exists() else []
+
+    def wait_for(self, is_so):
+        for _ in range(600):
+            if is_so():
+                return
+            time.sleep(0.05)
+        self.fail("it did not come")
+
+    def started(self, *words, **streams):
+        streams = {"stdin": subprocess.DEVNULL, "stdout": subprocess.DEVNULL, **streams}
+        words = [sys.executable, "-B", TOP / "saxtegun", *map(str, words)]
+        return subprocess.Popen(words, cwd=self.room, env={**environment(), "TMPDIR": str(self.folder)}, stderr=subprocess.PIPE, preexec_fn=hear_signals, **streams)
+
+    def assert_ends(self, ran, *signals):
+        for number in signals:
+            ran.send_signal(number)
+            time.sleep(0.2)
+        try:
+            ran.wait(timeout=20)
+        except subprocess.TimeoutExpired:
+            ran.kill()
+            self.fail("it doesn't end")
+        self.assertNotIn(b"Traceback", ran.stderr.read())
+        self.assertEqual(list(self.folder.iterdir()), [])
+        for number in self.numbers():
+            with self.assertRaises(ProcessLookupError):
+                os.kill(number, 0)
+
+    def test_shrinking_ends_both_of_its_programs(self):
+        for number in (signal.SIGTERM, signal.SIGHUP, signal.SIGINT):
+            (self.room / "numbers").unlink(missing_ok=True)
+            with self.subTest(number), self.started("shrink", self.deaf, self.deaf, EXAMPLE, "both*", self.room / "case", "--timeout", "100") as ran:
+                self.wait_for(lambda: len(self.numbers()) == 2)
+                self.assert_ends(ran, number)
+
+    def test_whoever_is_impatient_leaves_no_program_behind(self):
+        for words in (("test", EXAMPLE), ("coverage", EXAMPLE), ("lines", EXAMPLE)):
+            (self.room / "numbers").unlink(missing_ok=True)
+            with self.subTest(words[0]), self.started(*words, "--program", self.deaf) as ran:
+                self.wait_for(self.numbers)
+                self.assert_ends(ran, signal.SIGINT, signal.SIGINT)
+
+    def test_whoever_stops_watching_while_it_plays_has_no_answer(self):
+        program, sessions, log = self.program(PLAYER), self.suite(["quick"]), self.room / "program.log"
+        with self.started("test", sessions, "--program", program, "--watch") as ran:
+            self.assertIn(b"waiting for a save", ran.stderr.readline())
+            played = len(log.read_text().split())
+            self.suite(["slow"])
+            self.wait_for(lambda: len(log.read_text().split()) > played)
+            self.assert_ends(ran, signal.SIGINT)
+            self.assertEqual(ran.returncode, 2)
+
+    def test_lines_that_nobody_reads_keep_nothing_from_ending(self):
+        program = self.write("endless", "#!/bin/sh\nexec yes '{\"at\":0'\n")
+        program.chmod(0o755)
+        for number in (signal.SIGTERM, signal.SIGHUP, signal.SIGINT):
+            reads, writes = os.pipe()
+            try:
+                with self.subTest(number), self.started("lines", EXAMPLE, "--program", program, stdout=writes) as ran:
+                    os.close(writes)
+                    self.assertNotEqual(os.read(reads, 1), b"")
+                    time.sleep(0.5)
+                    self.assert_ends(ran, number)
+                    self.assertEqual(ran.returncode, 2 if number == signal.SIGINT else -number)
+            finally:
+                os.close(reads)
 
 
 class Copies(Programs):

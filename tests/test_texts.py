@@ -35,6 +35,22 @@ class DayOfTexts(OfTwoTexts):
         answer = run("test", self.game, self.mixed)
         self.assertEqual((answer.status, "another text" in answer.out), (0, False))
 
+    def test_a_text_that_its_end_or_its_line_ends_make_too_long_is_another(self):
+        """It is refused, so it is no text over which a recording passes, and none that it may follow."""
+        longer = "(c)\n" * 210_000
+        for own, text in ((self.source, self.source + "\n" * 2**20), (longer + self.source, (longer + self.source).replace("\n", "\r\n"))):
+            self.own[1][0] = own
+            alone = self.write_entries([self.own], "alone.json")
+            self.game.write_bytes(text.encode())
+            self.assertGreater(self.game.stat().st_size, 2**20)
+            answer = run("test", self.game, alone)
+            self.assertEqual(answer.status, 1, answer.out)
+            self.assertIn(f"over its own text, but not over {self.game}: refused: the source is longer than 1,048,576 bytes", answer.out)
+            (self.room / "new.json").unlink(missing_ok=True)
+            answer = run("add", self.room / "new.json", alone, "--game", self.game)
+            self.assertEqual((answer.status, json.loads((self.room / "new.json").read_text())[0][1][0]), (0, own))
+            self.assertIn(self.remark(self.room / "new.json"), answer.errors)
+
     def test_what_passes_over_both_texts_is_green_with_a_remark(self):
         self.write("game.txt", self.source + "\nmessage the end\n")
         answer = run("test", self.game, self.mixed)

@@ -12,6 +12,7 @@ const SKIPPED = {
 const OBJECTS = 'it has objects in braces, and a recording is a list, ["name", ["source", [inputs], "level", index]]';
 const WITHOUT_NAME = ["", "untitled test"]; // a recording without a name of its own
 const SKIPPED_TOLD = 3;
+const MOST_OF_A_SOURCE = 1_048_576; // bytes
 const DEMAND = "solved"; // what stands behind the body of a recording that must be solved
 
 const skippedTold = ({ line, what }) => `line ${line}: skipped ${Object.hasOwn(SKIPPED, what) ? SKIPPED[what] : `a recording with a fault: ${what}`}`;
@@ -36,10 +37,12 @@ function withoutEnd(text) {
   return text.slice(0, end);
 }
 
-const endless = (text) => withoutEnd(text.replaceAll("\r\n", "\n"));
-
-// Whether two texts are the same, but for how lines end and what stands behind the last.
-const isSameText = (one, other) => endless(one) === endless(other);
+// A text without what two that are the same may differ in: how lines end, and what stands behind the last. One that is too long to be played stays as it
+// is, and so is the same as no other that is played.
+function endless(text) {
+  const isTooLong = 3 * text.length > MOST_OF_A_SOURCE && new TextEncoder().encode(text).length > MOST_OF_A_SOURCE;
+  return isTooLong ? text : withoutEnd(text.replaceAll("\r\n", "\n"));
+}
 
 // The name of a recording: its own; or the title with the level, where it has none or the title, as the editor writes it.
 export function ownName({ name, source, index }) {
@@ -85,6 +88,11 @@ class Known {
     return this.texts.get(source);
   }
 
+  // Whether two texts are the same, but for how lines end and what stands behind the last.
+  isSameText(one, other) {
+    return this.numberOf(one) === this.numberOf(other);
+  }
+
   // Takes a recording that isn't there yet, or demands more; whether it was none of these.
   take({ source, inputs, level, index, rest = [] }) {
     const key = JSON.stringify([this.numberOf(source), inputs, level, index]), isWanted = rest.includes(DEMAND), isNew = !this.keys.has(key) || (isWanted && !this.keys.get(key));
@@ -100,7 +108,7 @@ export function toAdd(recordings, entries, text) {
   for (const it of recordings) {
     const whole = { ...it, source: it.source || text };
     if (!known.take(whole)) continue;
-    added.push({ ...it, name: names.free(ownName(whole)), source: isSameText(whole.source, text) ? "" : it.source });
+    added.push({ ...it, name: names.free(ownName(whole)), source: known.isSameText(whole.source, text) ? "" : it.source });
   }
   return { added, known: recordings.length - added.length };
 }

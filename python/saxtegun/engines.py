@@ -22,6 +22,9 @@ CRASHED, STRAY = "crashed", "stray"
 FAILED = (CRASHED, STRAY, UNANSWERED)
 # So many seconds a session has where nothing else is said.
 SECONDS = 10.0
+# So many lines that are none are read for a session, and so many letters of a line: an engine in a loop writes more than is read soon.
+MOST_STRAY = 1000
+MOST_OF_LINE = 2**30
 # So many lines that an engine says of itself are kept, and so many sessions are played first; then twice as many as long as that is quick.
 MOST_KEPT = 200
 FIRST_BATCH, MOST_IN_BATCH, QUICK = 64, 4096, 0.2
@@ -89,6 +92,12 @@ class Reader:
         self.runs: List[Run] = []
         self.frames: List[Frame] = []
         self.stray: Optional[Tuple[str, int]] = None
+        self.count = 0
+
+    @property
+    def is_lost(self) -> bool:
+        """Whether so much that is none was read of a session that its close is no longer looked for."""
+        return self.count > MOST_STRAY
 
     def take(self, text: str) -> None:
         number = len(self.runs)
@@ -100,9 +109,10 @@ class Reader:
             self.frames.append(frame)
         elif run is not None:
             self.runs.append(self.run_of(run))
-            self.frames, self.stray = [], None
-        elif self.stray is None:
-            self.stray = text.rstrip("\n"), len(self.frames)
+            self.frames, self.stray, self.count = [], None, 0
+        else:
+            self.stray = self.stray or (text.rstrip("\n"), len(self.frames))
+            self.count += 1
 
     def is_next(self, frame: Frame, number: int) -> bool:
         """Whether a frame may be the next of a session."""
@@ -133,7 +143,7 @@ class Reader:
                 self.runs[-1] = self.runs[-1]._replace(close=STRAY, cause=self.stray[0])
             return None
         name = self.entries[number].name
-        if ended.is_good and self.stray is not None:
+        if (ended.is_good or self.is_lost) and self.stray is not None:
             return Run(number, name, STRAY, self.stray[0], self.frames[: self.stray[1]])
         close = UNANSWERED if ended.status is None else CRASHED
         return Run(number, name, close, ended.told(seconds, " before the session was closed" if ended.is_good else ""), self.frames)
@@ -156,9 +166,11 @@ def asked(entries: Sequence[Entry], engine: Engine) -> Answer:
         with open(lines, "wb") as output:
             ended = call([*engine.words(), path], output, engine.seconds)
         with open(lines, encoding="utf-8", errors="replace", newline="\n") as shown:
-            for text in shown:
+            for text in iter(lambda: shown.readline(MOST_OF_LINE), ""):
                 if text.endswith("\n") or ended.is_good:
                     reader.take(text)
+                if reader.is_lost:
+                    break
     failed = reader.end(ended, engine.seconds)
     if failed is None and not ended.is_good and reader.runs:
         # all is closed, and then it fails

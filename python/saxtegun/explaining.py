@@ -62,7 +62,7 @@ def cause_told(cause: str) -> str:
     if cause.startswith(UNANSWERED_BEGIN):
         return cause
     if fault is None or fault[0] not in FAULTS:
-        return STOPS.get(cause, f"its cause is {cause}")
+        return STOPS.get(cause, f"its cause is {cut(cause)}")
     code, number = fault
     if number == 0:
         return WHOLE.get(code, FAULTS[code].format(line="the source"))
@@ -207,7 +207,7 @@ def told_in_full(run: Run, entry: Optional[Entry] = None, order: str = "columns"
         below = [f"{place}: {cut(line)}"] if line is not None else []
         culprit = hung or (culprit_told(entry, run) if entry else "")
         reason = reasons.reason_told(run.cause, entry.source) if entry else ""
-        return f"{source_told(entry, run.cause)}{culprit}{reason} ({run.cause}); {plural(len(run.frames), 'frame')}", below
+        return f"{source_told(entry, run.cause)}{culprit}{reason} ({cut(run.cause)}); {plural(len(run.frames), 'frame')}", below
     if run.close == "passed":
         return plural(len(run.frames), "frame"), []
     if entry is None:

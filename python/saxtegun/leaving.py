@@ -28,7 +28,14 @@ class Leaving:
 
     def parts(self) -> List[Part]:
         """Each rule and win line that can be left out. One that a comment cuts in two is not among them."""
-        return [Part(it.number, it.section, it.text) for it in parts_in(self.lines) if it.text in self.raw[it.number - 1]]
+        return [Part(*it) for it in parts_in(self.lines) if self.is_whole(it)]
+
+    def cut_in_two(self) -> List[Part]:
+        """Each rule and win line that a comment cuts in two."""
+        return [Part(*it) for it in parts_in(self.lines) if not self.is_whole(it)]
+
+    def is_whole(self, line: Line) -> bool:
+        return line.text in self.raw[line.number - 1]
 
     def without(self, part: Part) -> str:
         """The source without a line. Where it began a group, the next line of the group begins it."""

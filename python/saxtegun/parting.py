@@ -4,7 +4,7 @@ from __future__ import annotations
 from itertools import zip_longest
 from typing import List, NamedTuple, Optional
 
-from saxtegun.commands import plural
+from saxtegun.commands import cut, plural
 from saxtegun.explaining import CELLS_TOLD, cell_told, input_told
 from saxtegun.games import game_of
 from saxtegun.levels import Labels, differing, in_rows, position, read_cells, width_of
@@ -63,7 +63,7 @@ def after_told(entry: Optional[Entry], at: int) -> str:
 
 
 def close_told(run: Run) -> str:
-    return f"{run.close} ({run.cause})" if run.cause else run.close
+    return f"{run.close} ({cut(run.cause)})" if run.cause else run.close
 
 
 def sentence_of(parting: Parting, one: Run, other: Run, entry: Optional[Entry]) -> str:

@@ -7,9 +7,9 @@ import re
 import signal
 import subprocess
 from contextlib import contextmanager
-from threading import Thread
+from threading import Thread, current_thread
 from time import monotonic
-from typing import IO, Any, Callable, Iterator, Mapping, NamedTuple, Optional, Sequence
+from typing import IO, Any, Callable, Generic, Iterator, List, Mapping, NamedTuple, Optional, Sequence, TypeVar
 
 from saxtegun.commands import Refused, say
 
@@ -36,24 +36,80 @@ class Ran(NamedTuple):
     said: str
 
 
+def tell_to_end(ran: "subprocess.Popen[bytes]", name: str) -> None:
+    """Sends a signal to a program, and to all that it has started."""
+    try:
+        os.killpg(ran.pid, getattr(signal, name))
+    except (AttributeError, OSError):
+        ran.kill()
+
+
 def end(ran: "subprocess.Popen[bytes]") -> None:
-    """Ends a program, with all that it has started: it may tidy up, but not for long."""
-    for name in ("SIGTERM", "SIGKILL"):
-        try:
-            os.killpg(ran.pid, getattr(signal, name))
-        except (AttributeError, OSError):
-            ran.kill()
+    """Ends a program, with all that it has started: it may tidy up, but not for long, and not where whoever waits is impatient."""
+    try:
+        tell_to_end(ran, "SIGTERM")
         wait_a_while(ran, PATIENCE)
-    ran.wait()
+    finally:
+        tell_to_end(ran, "SIGKILL")
+        ran.wait()
+
+
+Value = TypeVar("Value")
+
+
+class Beside(Thread, Generic[Value]):
+    """Does something beside. Where this process is to end nobody waits for it, but what it has started is ended."""
+
+    def __init__(self, act: Callable[[], Value]) -> None:
+        super().__init__(daemon=True)
+        self.act = act
+        self.values: List[Value] = []
+        self.why: Optional[BaseException] = None
+        self.ran: "Optional[subprocess.Popen[bytes]]" = None
+        self.is_left = False
+        self.start()
+
+    def run(self) -> None:
+        try:
+            self.values.append(self.act())
+        except BaseException as why:
+            self.why = why
+
+    def result(self) -> Value:
+        """What came of it, once it is done."""
+        self.join()
+        if self.why is not None:
+            raise self.why
+        return self.values[0]
+
+    def leave(self) -> None:
+        """Ends the program that it has started, and so itself, since it starts no other."""
+        self.is_left = True
+        while self.is_alive():
+            ran = self.ran
+            if ran is not None and ran.poll() is None:
+                end(ran)
+            self.join(PAUSE)
+
+
+def begun(words: Sequence[str], **options: Any) -> "subprocess.Popen[bytes]":
+    """A program, noted by whoever runs it beside."""
+    beside = current_thread()
+    if isinstance(beside, Beside) and beside.is_left:
+        raise Refused(f"{words[0]} is not run any more")
+    try:
+        ran = subprocess.Popen(words, start_new_session=True, **options)
+    except OSError as why:
+        raise Refused(f"{words[0]} can't be run: {why.strerror}") from None
+    if isinstance(beside, Beside):
+        beside.ran = ran
+    return ran
 
 
 @contextmanager
 def started(words: Sequence[str], stdin: Any, output: Any, environment: Optional[Mapping[str, str]] = None) -> "Iterator[subprocess.Popen[bytes]]":
     """A program in a group of its own, as long as this lasts."""
-    try:
-        ran = subprocess.Popen(words, stdin=stdin, stdout=output, stderr=subprocess.PIPE, env=environment, start_new_session=True)
-    except OSError as why:
-        raise Refused(f"{words[0]} can't be run: {why.strerror}") from None
+    ran = begun(words, stdin=stdin, stdout=output, stderr=subprocess.PIPE, env=environment)
     try:
         yield ran
     finally:

@@ -2,7 +2,6 @@
 from __future__ import annotations
 
 import re
-from concurrent.futures import ThreadPoolExecutor
 from itertools import combinations
 from typing import Callable, Iterator, List, NamedTuple, Optional, Sequence, Set, Tuple
 
@@ -10,6 +9,7 @@ from saxtegun.engines import FAILED, STRAY, UNANSWERED, answers
 from saxtegun.lines import Run
 from saxtegun.parting import Parting, parting_of
 from saxtegun.playing import Engine
+from saxtegun.running import Beside
 from saxtegun.sessions import Entry
 from saxtegun.smaller import STAGES, Stage, of_inputs
 
@@ -32,10 +32,12 @@ class Programs(NamedTuple):
 
     def pairs(self, entries: Sequence[Entry]) -> Iterator[Tuple[Run, Run]]:
         """What both show of entries, in their order. Either may close wrongly, or fail: that is what is looked for."""
-        with ThreadPoolExecutor(1) as crew:
-            one = crew.submit(lambda: list(answers(entries, self.one)))
+        one = Beside(lambda: list(answers(entries, self.one)))
+        try:
             for number, other in enumerate(answers(entries, self.other)):
                 yield one.result()[number], other
+        finally:
+            one.leave()
 
     def in_haste(self) -> "Programs":
         return Programs(*(it._replace(seconds=min(it.seconds or HASTE, HASTE)) for it in (self.one, self.other)))

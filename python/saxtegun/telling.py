@@ -5,7 +5,7 @@ import re
 from typing import Dict, Iterable, List, NamedTuple, Tuple
 
 from saxtegun.commands import cut, plural, printable
-from saxtegun.guarding import without_marks
+from saxtegun.guarding import guarded, without_marks
 
 MOST_FAILURES = 20
 
@@ -35,8 +35,8 @@ def in_table(text: str) -> str:
 
 
 def fenced(lines: Iterable[str]) -> str:
-    """Lines as a block of code, whose fence is longer than any in it."""
-    text = "\n".join(printable(it) for it in lines)
+    """Lines as a block of code, whose fence is longer than any in it. Who writes it into a log, and not into a summary, runs no command by that."""
+    text = "\n".join(guarded(printable(it)) for it in lines)
     fence = "`" * max(3, 1 + max((len(it) for it in re.findall("`+", text)), default=0))
     return f"{fence}text\n{text}\n{fence}\n"
 

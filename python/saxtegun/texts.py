@@ -1,6 +1,7 @@
 """Over which text a session is played: its own, or that of a game at hand where its own is the empty text. Where these are two texts, each answer says so."""
 from __future__ import annotations
 
+from functools import lru_cache
 from shlex import quote
 from typing import List, NamedTuple, Optional, Sequence
 
@@ -11,6 +12,8 @@ from saxtegun.sources import WHITE
 
 # So many names are told.
 NAMES_TOLD = 3
+# So many bytes a source has at most; a longer one is refused, whatever stands at its end.
+MOST_OF_A_SOURCE = 2**20
 
 
 class GameText(NamedTuple):
@@ -33,9 +36,12 @@ def read_game(path: Optional[str]) -> Optional[GameText]:
     return read_named(path) if path else None
 
 
+# the text at hand is held against each of many
+@lru_cache(maxsize=8)
 def plain_text(source: str) -> str:
-    """A source without what two that are the same may differ in: how lines end, and the white space of a game behind the last."""
-    return source.replace("\r\n", "\n").rstrip(WHITE)
+    """A source without what two that are the same may differ in: how lines end, and the white space of a game behind the last. One that is too long to be
+    played stays as it is, and so is the same as no other that is played."""
+    return source if len(source.encode("utf-8", "surrogatepass")) > MOST_OF_A_SOURCE else source.replace("\r\n", "\n").rstrip(WHITE)
 
 
 def same_text(one: str, other: str) -> bool:

@@ -31,6 +31,7 @@ const READINGS = {
   'many names that are not there': [1000, size => told('Unknown', `[ ${LETTERS.slice(0, size).join(' ')} ]`)],
   'a name again and again': [10_000, size => told('Duplicate', `${'a b '.repeat(size)}\nred`, '')],
   'letters that draw nothing': [5000, size => told('BadGlyph', LETTERS.slice(0, size).join(''), 'LEVELS\n')],
+  'recordings of texts of their own': [2000, size => toAdd(Array.from({ length: size }, (_, index) => ({ name: 'one', source: `title ${index}`, inputs: [], level: '', index })), [], 'title x\r\n'.repeat(20 * size))],
   'recordings of one name': [2000, size => toAdd(Array.from({ length: size }, (_, index) => ({ name: 'one name', source: '', inputs: [], level: '', index })), [], '')],
   'brackets': [20_000, size => linesOf(`${'('.repeat(size)}${')'.repeat(size)}\n${HEAD}`)],
 };

@@ -408,3 +408,9 @@ it("what an editor printed is added to the sessions, and follows the text at han
   await another.act(withRecordings, recordingsInText(ENTRY.replace("title ", "title Another ")));
   assert.deepEqual([another.state.text, entriesIn(another.state)[0][1][0]], [OTHER, ""]);
 });
+
+test("a text that its end makes too long to be played is not the one at hand", async () => {
+  const bench = { state: beginning(`${GAME}${"\n".repeat(2 ** 20)}`) };
+  const { file } = withRecordings({ ...bench.state, file: SessionFile.empty("recordings.json") }, recordingsInText(ENTRY));
+  assert.equal(file.entries[0].source, GAME);
+});

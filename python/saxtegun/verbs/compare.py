@@ -14,8 +14,9 @@ An engine that crashes, that writes a line of its own or that has no answer in
 With --report F it also writes a page that shows both runs side by side, from
 the frame at which they diverge. Frames and inputs are counted from 0.
 
-Exit status: 0 all are the same, 1 some diverge, 2 something is refused, or there
-is no session to compare."""
+Exit status: 0 all are the same, 1 some diverge, 2 something is refused, there is
+no session to compare, or with --sources some session had no answer in the time
+that --timeout names."""
 from __future__ import annotations
 
 import sys
@@ -29,7 +30,7 @@ from saxtegun.commands import Refused, add_playing, cut, plural, printable
 from saxtegun.engines import FAILED, SECONDS, answers, engine_at, failure_told, with_frames
 from saxtegun.explaining import cause_told
 from saxtegun.files import guard_files, guard_output, guard_places, write_whole
-from saxtegun.lines import Run
+from saxtegun.lines import UNANSWERED, Run
 from saxtegun.origins import add_date, origin_of
 from saxtegun.pages import Report, comparison
 from saxtegun.parting import Parting, below_of, parting_of, sentence_of
@@ -112,7 +113,7 @@ class Comparing:
 
     def __init__(self, given: Namespace, sides: Sides) -> None:
         self.order, self.sides, self.names = given.order, sides, names_of(given)
-        self.count, self.parted, self.failed, self.refused = 0, 0, 0, 0
+        self.count, self.parted, self.failed, self.refused, self.late = 0, 0, 0, 0, 0
         self.why = ""
         self.report: Optional[Report] = None
         if given.report and sides.sessions is None:
@@ -130,6 +131,8 @@ class Comparing:
             if has_failed:
                 self.failed += 1
                 self.tell_failure(one, other)
+            elif UNANSWERED in (one.close, other.close):
+                self.tell_late(one, other)
             elif parting is not None:
                 self.tell(parting, one, other)
             if self.failed == MOST_FAILED:
@@ -159,9 +162,17 @@ class Comparing:
         failures = [failure_told(entry, it, name) for it, name in zip((one, other), self.names) if it.close in FAILED]
         self.tell(parting_of(one, other) or Parting(len(one.frames), None, None), one, other, failures)
 
+    def tell_late(self, *runs: Run) -> None:
+        """Tells what had no answer in its time, so that nothing is known of it."""
+        late = [(run.cause, name) for run, name in zip(runs, self.names) if run.close == UNANSWERED]
+        print(printable(f"session {runs[0].number}, {cut(runs[0].name)}: {late[0][0]} over {' and '.join(name for _, name in late)}"))
+        self.late += 1
+
     @property
     def result(self) -> str:
-        told = f"{plural(self.count, 'session')}: {self.count - self.parted} the same, {self.parted} {'diverges' if self.parted == 1 else 'diverge'}"
+        same = self.count - self.parted - self.late
+        told = f"{plural(self.count, 'session')}: {same} the same, {self.parted} {'diverges' if self.parted == 1 else 'diverge'}"
+        told += f", {self.late} not answered" if self.late else ""
         told += f"; {self.refused} {'was' if self.refused == 1 else 'were'} refused by both, and not played" if self.refused else ""
         sessions = self.sides.sessions
         left = len(sessions.entries) - self.count if sessions else 0
@@ -193,4 +204,4 @@ def main(given: Namespace) -> int:
     if comparing.report:
         comparing.report.result = comparing.result
         write_whole(given.report, comparing.report.page())
-    return 1 if comparing.parted else 0
+    return 2 if comparing.late else 1 if comparing.parted else 0

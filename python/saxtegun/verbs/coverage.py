@@ -7,7 +7,8 @@ plays the suite again.
 
 A session notices that a line is gone if it closes differently; with a win line
 also if it wins differently. The lines of a game whose sessions are all refused
-are not tried, nor are lines without which the rest is refused.
+are not tried, nor are lines without which the rest is refused. A line that a
+comment cuts in two is not tried either: move the comment to its end.
 
 Exit status: 0 each line is noticed by some session, 1 some line by none, 2
 there is no whole answer."""
@@ -117,6 +118,7 @@ class Coverage:
         self.sessions, self.given, self.text = sessions, given, text
         self.before: Dict[int, Tuple[Signature, Signature]] = {}
         self.unnoticed: List[Trial] = []
+        self.untried: List[Trial] = []
         self.tried, self.alone = 0, 0
 
     def signatures(self, entries: List[Entry]) -> List[Tuple[Signature, Signature]]:
@@ -133,11 +135,27 @@ class Coverage:
                 of.setdefault(entry.source, []).append(entry)
         if not of:
             raise Refused(f"{self.sessions.path} has no session that can be played, so no line was left out: {unplayed(self.sessions, self.before)}")
-        if self.text is not None and self.text.source not in of and any(it.source == self.text.source for it in self.sessions.entries):
-            first = next(it for it in self.sessions.entries if it.source == self.text.source)
-            why = source_told(first, str(self.before[first.number][0][1]))
-            raise Refused(f"no session is played over {self.text.path}, so none of its lines was left out: session {first.number}, {cut(first.name)}: {why}")
-        return [Trial(source, part, entries) for source, entries in of.items() for part in Leaving(source).parts()]
+        if self.text is not None and self.text.source not in of:
+            raise Refused(f"no session is played over {self.text.path}, so none of its lines was left out: {self.unplayed_over(self.text)}")
+        trials: List[Trial] = []
+        for source, entries in of.items():
+            it = Leaving(source)
+            trials += [Trial(source, part, entries) for part in it.parts()]
+            self.untried += [Trial(source, part, entries) for part in it.cut_in_two()]
+        return trials
+
+    def unplayed_over(self, text: GameText) -> str:
+        """Why no session is played over the text at hand."""
+        first = next((it for it in self.sessions.entries if it.source == text.source), None)
+        if first is None:
+            return "each has another text"
+        return f"session {first.number}, {cut(first.name)}: {source_told(first, str(self.before[first.number][0][1]))}"
+
+    def place(self, trial: Trial) -> str:
+        """Where a line stands."""
+        if self.text is not None and trial.source == self.text.source:
+            return f"{self.text.path}:{trial.part.number}"
+        return f"{game_of(trial.source).title}, line {trial.part.number}"
 
     def judge(self, trial: Trial, found: List[Tuple[Signature, Signature]]) -> None:
         if all(close[0] == "refused" for close, _ in found):
@@ -167,15 +185,14 @@ def main(given: Namespace) -> int:
     text = read_game(given.files[0] if len(given.files) == 2 else None)
     sessions = over(read_sessions(given.files[-1]), text)
     say_others("coverage", sessions, text)
-    game = text.path if text else ""
     coverage = Coverage(sessions, given, text)
     coverage.run()
-    sources: Set[str] = {it.source for it in coverage.unnoticed}
     for trial in coverage.unnoticed:
-        is_at_hand = text is not None and trial.source == text.source
-        place = f"{game}:" if is_at_hand else f"{game_of(trial.source).title}, line "
-        print(printable(f"{place}{trial.part.number}: no session notices it: {cut(trial.part.text)}"))
+        print(printable(f"{coverage.place(trial)}: no session notices it: {cut(trial.part.text)}"))
+    for trial in coverage.untried:
+        print(printable(f"{coverage.place(trial)}: not left out, since a comment cuts it in two: {cut(trial.part.text)}"))
+    sources: Set[str] = {it.source for it in coverage.unnoticed}
     alone = f", {plural(coverage.alone, 'line')} can't be left out alone" if coverage.alone else ""
     games = f" in {plural(len(sources), 'source')}" if len(sources) > 1 else ""
     print(f"{plural(coverage.tried, 'line')} left out in turn: {len(coverage.unnoticed)} that no session notices{games}{alone}")
-    return 1 if coverage.unnoticed else 0
+    return 1 if coverage.unnoticed else 2 if coverage.untried else 0

@@ -17,13 +17,12 @@ import re
 import sys
 import tempfile
 from argparse import ArgumentParser, Namespace
-from concurrent.futures import ThreadPoolExecutor
 from typing import List, Optional, Sequence, Tuple
 
 from saxtegun.commands import Refused, add_game, add_playing, add_ticks, plural
 from saxtegun.files import NoFile, guard_output, read_bytes
 from saxtegun.playing import engine_of, lines_within, refusal
-from saxtegun.running import Ran, watched
+from saxtegun.running import Beside, Ran, watched
 from saxtegun.sessions import MOST_BYTES, Entry, read_sessions, sessions_in
 from saxtegun.texts import over, read_game, say_others
 
@@ -82,14 +81,19 @@ def check_closed(path: str, count: int, closed: int) -> None:
         raise Refused(f"{told_of(path)} was not played whole: the program wrote nothing of {plural(count - closed, 'session')} of {count}")
 
 
-def hand_on(source: int) -> int:
-    """Hands on what comes; how many sessions it closes, by its end."""
+def write_all(output: int, data: bytes) -> None:
+    while data:
+        data = data[os.write(output, data) :]
+
+
+def hand_on(source: int, output: int) -> int:
+    """Hands on what comes; how many sessions it closes, by its end. It goes past our own streams: whoever reads may keep this waiting for ever, and then
+    it must not keep them."""
     end = b""
     with open(source, "rb", buffering=0) as lines:
         for block in iter(lambda: lines.read(BLOCK), b""):
-            sys.stdout.buffer.write(block)
+            write_all(output, block)
             end = (end + block)[-MOST_OF_AN_END:]
-    sys.stdout.buffer.flush()
     found = END.search(end)
     return int(found[1]) + 1 if found else 0
 
@@ -97,11 +101,16 @@ def hand_on(source: int) -> int:
 def play(words: List[str], stdin: Optional[int], seconds: Optional[float]) -> Tuple[Ran, int]:
     """Runs a program, and hands its lines on; how it ended, and how many sessions they close."""
     source, output = os.pipe()
-    with ThreadPoolExecutor(1) as beside:
-        closed = beside.submit(hand_on, source)
+    sys.stdout.flush()
+    beside = Beside(lambda: hand_on(source, sys.stdout.fileno()))
+    try:
         with open(output, "wb") as lines:
             ran = watched(words, lines, stdin, seconds)
-        return ran, closed.result()
+    except Refused:
+        # what was written before is handed on
+        beside.join()
+        raise
+    return ran, beside.result()
 
 
 def play_data(path: str, data: bytes, given: Namespace) -> Tuple[Ran, int]:

@@ -7,7 +7,8 @@ hangs is played further, to find out where. --order must be the order of the
 lines. The page opens from the disk in any browser, and needs no network. The
 same files give the same page; only --date puts a date there.
 
-Exit status: 0, or 2 if a file is refused."""
+Exit status: 0, or 2 if a file is refused, or with --timeout some session had no
+answer."""
 from __future__ import annotations
 
 import sys
@@ -17,6 +18,7 @@ from pathlib import Path
 from saxtegun.commands import add_game, add_playing, add_ticks
 from saxtegun.files import guard_output
 from saxtegun.hanging import Finder
+from saxtegun.lines import UNANSWERED
 from saxtegun.origins import add_date, origin_of, program_told
 from saxtegun.pages import Report
 from saxtegun.playing import engine_of, lines_or_played
@@ -44,7 +46,9 @@ def main(given: Namespace) -> int:
     with lines_or_played(sessions, given.lines, engine) as runs:
         played = f"Lines: {Path(given.lines).name}" if given.lines else program_told(engine.words())
         report = Report(sessions, given.order, origin_of(sessions, given, played), *([] if given.lines else [Finder(sessions, engine)]))
+        late = False
         for run in runs:
             report.add(run)
+            late = late or run.close == UNANSWERED
     sys.stdout.write(report.page())
-    return 0
+    return 2 if late else 0

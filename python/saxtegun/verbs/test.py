@@ -248,11 +248,12 @@ def watch(given: Namespace) -> int:
             times = times_of(given.files)
             EXPLAINING.left = SECONDS
             forget()
+            # whoever stops it while it plays has no answer to what was saved last
+            status = 2
             try:
                 status = test(given)
             except Refused as why:
                 fail("test", str(why))
-                status = 2
             say(f"test: waiting for a save of {', '.join(given.files)}")
             wait_for_save(given.files, times)
             print(flush=True)
