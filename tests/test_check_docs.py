@@ -65,6 +65,13 @@ class OfDocuments(OnSmallCrates):
         self.write("README.md", f"# Front\n\n| a | {'word ' * 31}|\n")
         self.assertEqual(self.told(PAGE), (1, ["README.md:3: a cell of more than 30 words"]))
 
+    def test_all_pages_together_have_not_too_many_words(self):
+        many = "many words\n" * 9_980
+        for page, lines in (("docs/command.md", []), ("docs/other.md", ["the pages have 20,013 words, more than 20,000"])):
+            with self.subTest(page):
+                self.write(page, many)
+                self.assertEqual(self.told(PAGE), (bool(lines), lines))
+
     def test_a_crate_without_a_line_above_it(self):
         self.write("crates.txt", "# A tower\n\npz_one:\n")
         self.assertEqual(self.told(PAGE), (1, ["crates.txt: no line above pz_one says what it is"]))

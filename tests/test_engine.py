@@ -8,6 +8,7 @@ import sys
 import unittest
 from pathlib import Path
 
+from test_stages import OnCases
 from tool import InARoom, TOP
 
 sys.path.insert(0, str(TOP / "engine"))
@@ -102,18 +103,24 @@ class To32(InARoom):
         self.assertFalse((self.room / "to.ll").exists())
 
 
-@unittest.skipUnless(NODE, "there is no node")
-class TheStages(InARoom):
-    """The stages of an input, as far as the module that is there gives them, and the command line of engine/stages.mjs."""
+class OnStages(InARoom):
+    """Tests engine/stages.mjs, and the glue about stages."""
 
     def tell(self, *words, module="", file=b"[]"):
         ran = subprocess.run([NODE, ENGINE / "stages.mjs", *words], input=file, env={**os.environ, "SAXTEGUN_MODULE": str(module)}, stdout=subprocess.PIPE, stderr=subprocess.PIPE, check=False)
         return ran.returncode, ran.stdout.decode(), ran.stderr.decode()
 
-    def test_the_glue(self):
-        module = {} if IS_BUILT else {"SAXTEGUN_MODULE": str(self.room / "none")}
+    def pass_the_glue(self, **module):
         ran = subprocess.run([NODE, "--test", "--test-reporter=tap", OWN / "stages.test.mjs"], env={**os.environ, **module}, stdout=subprocess.PIPE, stderr=subprocess.STDOUT, check=False)
         self.assertEqual(ran.returncode, 0, ran.stdout.decode(errors="replace"))
+
+
+@unittest.skipUnless(NODE, "there is no node")
+class TheStages(OnStages):
+    """The stages of an input where no module is there, and the command line of engine/stages.mjs."""
+
+    def test_the_glue_without_a_module(self):
+        self.pass_the_glue(SAXTEGUN_MODULE=str(self.room / "none"))
 
     def test_words_that_are_no_command_line(self):
         for words in ([], ["0"], ["0", "x"], ["-1", "0"], ["0", "1.0"], ["0", ""], ["0", "0", "rows"], ["0", "0", "columns", "more"], ["18446744073709551616", "0"]):
@@ -124,13 +131,23 @@ class TheStages(InARoom):
         (self.room / "empty.wasm").write_bytes(b"\0asm\1\0\0\0")
         self.assertEqual(self.tell("0", "1", module=self.room / "empty.wasm"), (2, "", "no-stages\n"))
 
-    @unittest.skipUnless(IS_BUILT and b"saxtegun_stages" in (ENGINE / "out" / "saxtegun.wasm").read_bytes(), "the module is not built, or gives no stages")
+
+@unittest.skipUnless(NODE and IS_BUILT, "there is no node, or the module is not built")
+class EngineStages(OnStages, OnCases):
+    """The stages that the module gives; the name begins with Engine, by which ./check finds it."""
+
+    def test_the_glue(self):
+        self.pass_the_glue()
+
     def test_the_lines_and_the_exit_status(self):
         self.assertEqual(self.tell("0", "+18446744073709551615", "columns"), (0, "", ""))
         self.assertEqual(self.tell("0", "1", file=b"[0]"), (2, "", "bad-entry 0\n"))
         walk = TOP / "conformance/cases/walk-two-steps-right-against-a-wall/input.json"
         status, lines, errors = self.tell("0", "1", file=walk.read_bytes())
         self.assertEqual((status, errors, [json.loads(it)["stage"] for it in lines.splitlines()]), (0, "", ["input", "movement", "end"]))
+
+    def test_each_case_is_told_as_it_was_worked_out(self):
+        self.hold_to_cases([NODE, ENGINE / "stages.mjs"], {it: value for it, value in os.environ.items() if it != "SAXTEGUN_MODULE"})
 
 
 @unittest.skipUnless(NODE and IS_BUILT, "there is no node, or the module is not built")

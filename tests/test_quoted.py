@@ -78,6 +78,11 @@ class Quoted(unittest.TestCase):
                 found += 1
         self.assertGreater(found, 20)
 
+    def test_each_verb_has_a_call_with_what_it_prints(self):
+        verbs = {it.stem for it in (TOP / "python/saxtegun/verbs").glob("*.py")} - {"__init__"}
+        shown = {verb for page, command, lines in quoted() if page.name == "command.md" and lines for verb in re.findall(r"saxtegun ([a-z]+)", command)}
+        self.assertEqual(verbs - shown, set())
+
     def test_what_is_left_out_may_be_anything(self):
         self.assertTrue(are_in_order([["a"], ["c"]], ["a", "b", "c"]))
         self.assertTrue(are_in_order([["a", "b"]], ["a", "b"]))

@@ -16,7 +16,10 @@ CASES = sorted((TOP / "conformance/stages").glob("*.json"))
 
 
 def what_tells_stages():
-    """How what tells stages is called here, and in which environment; nothing where there is none, or only a module of before there were stages."""
+    """How what tells stages is called here, and in which environment; nothing where there is none, or only a module of before there were stages, or where no
+    program is to play: ./check says so by SAXTEGUN_PROGRAM=none, as long as it proves those that will."""
+    if os.environ.get("SAXTEGUN_PROGRAM") == "none":
+        return [], {}
     with mock.patch.dict(os.environ), mock.patch.object(programs, "CHOSEN_FOR_STAGES", []):
         try:
             words, names = programs.stages_words(), dict(os.environ)
@@ -31,7 +34,7 @@ STAGES, ENVIRONMENT = what_tells_stages()
 
 def tells_stages(tests):
     """Marks tests that ask for stages: they are left out where nothing tells these. Their names begin with Day, as those of tests that play."""
-    return unittest.skipUnless(STAGES, "nothing here tells stages, and SAXTEGUN_STAGES names nothing")(tests)
+    return unittest.skipUnless(STAGES, "nothing here tells stages, or no program is to play")(tests)
 
 
 def compact(line):
@@ -47,17 +50,24 @@ def shown(lines, is_press):
             yield end["level"]
 
 
-@tells_stages
-class DayOfStages(unittest.TestCase):
-    def test_each_case_is_told_as_it_was_worked_out(self):
+class OnCases(unittest.TestCase):
+    """Holds what tells stages to the cases."""
+
+    def hold_to_cases(self, words, names):
         self.assertGreaterEqual(len(CASES), 20)
         for path in CASES:
             with self.subTest(path.stem):
                 case = json.loads(path.read_text(encoding="utf-8"))
                 asked = [str(case["session"]), str(case["input"]), *(["columns"] if case["order"] == "columns" else []), *(["firings"] if case.get("firings") else [])]
-                ran = subprocess.run([*STAGES, *asked], input=json.dumps(case["sessions"]).encode(), stdout=subprocess.PIPE, stderr=subprocess.PIPE, env=ENVIRONMENT)
+                ran = subprocess.run([*words, *asked], input=json.dumps(case["sessions"]).encode(), stdout=subprocess.PIPE, stderr=subprocess.PIPE, env=names)
                 self.assertEqual((ran.returncode, ran.stderr), (0, b""))
                 self.assertEqual(ran.stdout.decode(), "".join(map(compact, case["lines"])))
+
+
+@tells_stages
+class DayOfStages(OnCases):
+    def test_each_case_is_told_as_it_was_worked_out(self):
+        self.hold_to_cases(STAGES, ENVIRONMENT)
 
     def test_the_ends_of_steps_are_the_frames_of_all_cases(self):
         """A press shows the level of its end, and so does a tick that isn't idle; but a restart that it gives is shown in its place."""
