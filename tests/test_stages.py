@@ -16,7 +16,7 @@ CASES = sorted((TOP / "conformance/stages").glob("*.json"))
 
 
 def what_tells_stages():
-    """How what tells stages is called here, and in which environment; nothing where there is none, or only a module of before there were stages, or where no
+    """How what tells stages is called here, and in which environment; nothing where there is none, or only one of before there were firings, or where no
     program is to play: ./check says so by SAXTEGUN_PROGRAM=none, as long as it proves those that will."""
     if os.environ.get("SAXTEGUN_PROGRAM") == "none":
         return [], {}
@@ -25,7 +25,7 @@ def what_tells_stages():
             words, names = programs.stages_words(), dict(os.environ)
         except Refused:
             return [], {}
-    ran = subprocess.run([*words, "0", "1"], input=b"[]", stdout=subprocess.DEVNULL, stderr=subprocess.DEVNULL, env=names)
+    ran = subprocess.run([*words, "0", "1", "firings"], input=b"[]", stdout=subprocess.DEVNULL, stderr=subprocess.DEVNULL, env=names)
     return (words, names) if ran.returncode == 0 else ([], {})
 
 

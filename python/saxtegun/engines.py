@@ -5,6 +5,7 @@ import os
 import re
 import subprocess
 import tempfile
+from argparse import Namespace
 from time import monotonic
 from typing import IO, Any, Iterator, List, NamedTuple, Optional, Sequence, Tuple
 
@@ -12,6 +13,7 @@ from saxtegun.commands import Refused, cut
 from saxtegun.explaining import input_told
 from saxtegun.lines import UNANSWERED, Frame, Run, close_of, frame_of, line_of, may_follow, written_frame
 from saxtegun.playing import Engine, batches
+from saxtegun.programs import stages_words
 from saxtegun.running import PATIENCE, Said, Unanswered, check_bounds, end, started, time_left, wait_a_while, written_to
 from saxtegun.sessions import Entry
 
@@ -221,6 +223,14 @@ def engine_at(path: str, engine: Engine) -> Engine:
     named = engine._replace(program=None if path == OURS else path)
     named.words()
     return named
+
+
+def tellers_of(given: Namespace) -> List[Optional[str]]:
+    """What tells the stages of two engines, None for what tells ours; nothing where that isn't named. Refused where one isn't there."""
+    tellers = [None if it == OURS else it for it in given.stages or []]
+    for it in tellers:
+        stages_words(it)
+    return tellers
 
 
 def with_frames(entry: Entry, run: Run, engine: Engine) -> Run:

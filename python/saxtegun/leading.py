@@ -32,11 +32,12 @@ TOO_LONG = "not all stages were looked at, since that took too long"
 
 
 class Side(NamedTuple):
-    """One of two texts of a game: how it is called, a session over it, and the text."""
+    """One of two texts of a game, or of two engines over one: how it is called, a session over the text, the text, and what tells the stages (None: ours)."""
 
     name: str
     entry: Entry
     text: Text
+    stages: Optional[str] = None
 
 
 Sides = Tuple[Side, Side]
@@ -154,7 +155,7 @@ def in_time(told: Iterator[Told], end: float) -> Iterator[Told]:
 
 def parted_at(sides: Sides, at: int, engine: Engine, end: float) -> Optional[Parted]:
     """Where the stages of an input part over two texts; None where they are the same. Refused where that isn't known in time."""
-    one, other = (in_time(stages_of(it.entry, at, engine), end) for it in sides)
+    one, other = (in_time(stages_of(it.entry, at, engine._replace(stages=it.stages)), end) for it in sides)
     before: Optional[Stage] = None
     for left, right in zip_longest(one, other):
         if not is_same_stage(left, right):
@@ -307,14 +308,32 @@ def first_parted(sides: Sides, inputs: range, engine: Engine, end: float) -> Opt
     return None
 
 
-def stage_parting(sides: Sides, runs: Tuple[Run, Run], parting: Optional[Parting], engine: Engine, seconds: float) -> Optional[Led]:
-    """At which stage two texts part; None where none does. Refused where that isn't known in so many seconds."""
+def first_parting(sides: Sides, runs: Tuple[Run, Run], parting: Optional[Parting], engine: Engine, seconds: float) -> Optional[Tuple[int, Parted]]:
+    """At which input two sides first part in their stages, and where; None where none does. Refused where that isn't known in so many seconds."""
     end = monotonic() + min(seconds, EXPLAINING.left)
     likely, before = inputs_to_try(sides[1].entry, runs, parting)
     found = first_parted(sides, likely, engine, end)
     if found is None or found[1].is_of_all:
         # an input that only one text takes follows from what the texts did before it
         found = first_parted(sides, before, engine, end) or found
+    return found
+
+
+def rules_that_part(sides: Sides, runs: Tuple[Run, Run], parting: Optional[Parting], engine: Engine, seconds: float) -> Tuple[str, ...]:
+    """Where two sides first part in their stages, by the name of the stage and the texts of its rules, wherever these stand; nothing where none does."""
+    found = first_parting(sides, runs, parting, engine, seconds)
+    if found is None:
+        return ()
+    names, rules = [], set()
+    for side, it in zip(sides, (found[1].one, found[1].other)):
+        names.append(it.name if isinstance(it, Stage) else it.cause if isinstance(it, Stop) else "")
+        rules |= {rules_of(side.entry.source).get(line, "") for line in (it.lines if isinstance(it, Stage) else ())}
+    return (*names, *sorted(rules))
+
+
+def stage_parting(sides: Sides, runs: Tuple[Run, Run], parting: Optional[Parting], engine: Engine, seconds: float) -> Optional[Led]:
+    """At which stage two texts part; None where none does. Refused where that isn't known in so many seconds."""
+    found = first_parting(sides, runs, parting, engine, seconds)
     return Telling(sides, *found).told() if found else None
 
 

@@ -42,7 +42,7 @@ QUICK = 0.25
 class Engine(NamedTuple):
     """How sessions are played: in which order of cells, by how many workers (None: as many as the program takes), with which program (None: ours),
     how many seconds each has (None: as many as it takes), what is tested of what the program writes, whether ours may be built first, and whether games are
-    played without their clock, by the ticks that were recorded."""
+    played without their clock, by the ticks that were recorded. `stages` is the program that tells stages (None: ours)."""
 
     order: str = "columns"
     workers: Optional[int] = None
@@ -51,6 +51,7 @@ class Engine(NamedTuple):
     tests: Tests = ALL_BUT_ORDER
     may_build: bool = True
     has_ticks: bool = False
+    stages: Optional[str] = None
 
     def words(self) -> List[str]:
         return [*program_words(self.program, self.may_build), "--order", self.order, *(["--workers", str(self.workers)] if self.workers else [])]

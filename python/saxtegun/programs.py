@@ -168,13 +168,13 @@ def choose_for_stages() -> List[str]:
     return [node, str(STAGES_IN_NODE)]
 
 
-def stages_words() -> List[str]:
-    """How what tells stages is called: the program that SAXTEGUN_STAGES names, or one that is chosen, once in a process."""
-    named = os.environ.get("SAXTEGUN_STAGES")
-    if named:
-        if not (os.path.isfile(named) and os.access(named, os.X_OK)):
-            raise Refused(f"there is no program at {named!r}, which SAXTEGUN_STAGES names")
-        return [os.path.abspath(named)]
+def stages_words(named: Optional[str] = None) -> List[str]:
+    """How what tells stages is called: the program that is named, the one that SAXTEGUN_STAGES names, or one that is chosen, once in a process."""
+    path, by = (named, "") if named else (os.environ.get("SAXTEGUN_STAGES"), ", which SAXTEGUN_STAGES names")
+    if path:
+        if not (os.path.isfile(path) and os.access(path, os.X_OK)):
+            raise Refused(f"there is no program at {path!r}{by}")
+        return [os.path.abspath(path)]
     if not CHOSEN_FOR_STAGES:
         CHOSEN_FOR_STAGES.append(choose_for_stages())
     return CHOSEN_FOR_STAGES[0]

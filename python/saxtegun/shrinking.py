@@ -5,7 +5,11 @@ import re
 from itertools import combinations
 from typing import Callable, Iterator, List, NamedTuple, Optional, Sequence, Set, Tuple
 
+from saxtegun.acting import Text
+from saxtegun.budget import EXPLAINING, SECONDS
+from saxtegun.commands import Refused
 from saxtegun.engines import FAILED, STRAY, UNANSWERED, answers
+from saxtegun.leading import Side, rules_that_part
 from saxtegun.lines import Run
 from saxtegun.parting import Parting, parting_of
 from saxtegun.playing import Engine
@@ -25,10 +29,11 @@ DIGITS = re.compile(r"[0-9]+")
 
 
 class Programs(NamedTuple):
-    """Two programs, and how they are called."""
+    """Two programs, and how they are called; and where that is named, what tells the stages of each (None: what tells ours)."""
 
     one: Engine
     other: Engine
+    tellers: Tuple[Optional[str], ...] = ()
 
     def pairs(self, entries: Sequence[Entry]) -> Iterator[Tuple[Run, Run]]:
         """What both show of entries, in their order. Either may close wrongly, or fail: that is what is looked for."""
@@ -40,7 +45,26 @@ class Programs(NamedTuple):
             one.leave()
 
     def in_haste(self) -> "Programs":
-        return Programs(*(it._replace(seconds=min(it.seconds or HASTE, HASTE)) for it in (self.one, self.other)))
+        one, other = (it._replace(seconds=min(it.seconds or HASTE, HASTE)) for it in (self.one, self.other))
+        return Programs(one, other, self.tellers)
+
+    def way(self, entry: Entry, one: Run, other: Run, wanted: Optional[Way] = None) -> Optional[Way]:
+        """In which way they part on an entry; where their stages are told, also by the rules of the first that parts, unless the rest isn't what is wanted."""
+        way = way_of(one, other)
+        if way is None or not self.tellers or fails(way) or (wanted is not None and wanted[: len(way)] != way):
+            return way
+        # each session that is tried has the time of one that is explained
+        EXPLAINING.left = SECONDS
+        text = Text(entry.source, "", self.one.order)
+        sides = Side("one", entry, text, self.tellers[0]), Side("the other", entry, text, self.tellers[1])
+        try:
+            return (*way, rules_that_part(sides, (one, other), parting_of(one, other), self.one, SECONDS))
+        except Refused:
+            return (*way, ())
+
+    def ways(self, entries: Sequence[Entry]) -> List[Optional[Way]]:
+        """In which way they part on each of these."""
+        return [self.way(entry, *runs) for entry, runs in zip(entries, self.pairs(entries))]
 
 
 def close_of(run: Run) -> Tuple[str, str]:
@@ -110,9 +134,9 @@ class Shrinking:
         """Which of these entries the programs part on in this way."""
         for first in range(0, len(entries), MOST_AT_ONCE):
             some = entries[first : first + MOST_AT_ONCE]
-            for place, (one, other) in enumerate(self.programs.pairs(some), first):
+            for place, (entry, (one, other)) in enumerate(zip(some, self.programs.pairs(some)), first):
                 self.tried += 1
-                if way_of(one, other) == self.way:
+                if self.programs.way(entry, one, other, self.way) == self.way:
                     yield place
 
     def leave_out(self, stage: Stage) -> bool:
@@ -179,10 +203,10 @@ def shrunk(programs: Programs, entry: Entry, way: Way, progress: Callable[[int, 
     if hangs(way):
         quick = programs.in_haste()
         # the way names the time that the engine had
-        ways = [way_of(*it) for it in quick.pairs([entry])]
+        ways = quick.ways([entry])
         shrinking = Shrinking(quick, entry, ways[0] or way, progress)
         small = shrinking.run()
-        if [way_of(*it) for it in programs.pairs([small])] == [way]:
+        if programs.ways([small]) == [way]:
             return small, shrinking.tried
     shrinking = Shrinking(programs, entry, way, progress)
     return shrinking.run(), shrinking.tried

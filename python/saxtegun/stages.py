@@ -160,7 +160,7 @@ def told_in(text: str, at: int) -> Optional[AnyTold]:
 def lines_of_stages(entry: Entry, at: int, engine: Engine, has_firings: bool = False) -> Iterator[str]:
     """The lines that tell the stages of an input, of which `at` are taken behind it (0: the start), and the firings too where these are asked for. There are
     none where it takes no step."""
-    words = [*stages_words(), "0", str(at), *(["columns"] if engine.order == "columns" else []), *(["firings"] if has_firings else [])]
+    words = [*stages_words(engine.stages), "0", str(at), *(["columns"] if engine.order == "columns" else []), *(["firings"] if has_firings else [])]
     with tempfile.TemporaryFile() as given, tempfile.TemporaryFile() as shown:
         given.write(b"[" + written_entry(without_ticking(entry) if engine.has_ticks else entry).encode() + b"]")
         given.seek(0)

@@ -5,6 +5,9 @@ input, which cells, and both levels.
         compares two files of lines; SESSIONS lets it name inputs and draw levels
     saxtegun compare --engines P Q SESSIONS
         plays two programs that have our command line; `saxtegun` is our own
+    saxtegun compare --engines P Q --stages S T SESSIONS
+        names also the first stage at which they part, and its rule: S and T tell
+        the stages of P and Q as docs/sessions.md has them; `saxtegun` is our own
     saxtegun compare --sources OLD.txt NEW.txt SESSIONS
         plays one program over two texts of a game
 
@@ -25,11 +28,13 @@ from itertools import zip_longest
 from pathlib import Path
 from typing import Iterator, List, NamedTuple, Optional, Sequence, Tuple
 
+from saxtegun.acting import Text
 from saxtegun.belonging import NAMES_ALONE, OF_ANY_ENGINE, read_runs
 from saxtegun.commands import Refused, add_playing, cut, plural, printable
-from saxtegun.engines import FAILED, SECONDS, answers, engine_at, failure_told, with_frames
+from saxtegun.engines import FAILED, SECONDS, answers, engine_at, failure_told, tellers_of, with_frames
 from saxtegun.explaining import cause_told
 from saxtegun.files import guard_files, guard_output, guard_places, write_whole
+from saxtegun.leading import Side, stage_parting
 from saxtegun.lines import UNANSWERED, Run
 from saxtegun.origins import add_date, origin_of
 from saxtegun.pages import Report, comparison
@@ -38,7 +43,9 @@ from saxtegun.playing import Engine, engine_of, runs_played
 from saxtegun.sessions import Entry, Sessions, read_sessions
 from saxtegun.texts import read_named, say_others
 
-USAGE = "compare (ONE.lines OTHER.lines [SESSIONS] | --engines P Q SESSIONS | --sources OLD.txt NEW.txt SESSIONS) [options]"
+USAGE = "compare (ONE.lines OTHER.lines [SESSIONS] | --engines P Q [--stages S T] SESSIONS | --sources OLD.txt NEW.txt SESSIONS) [options]"
+# Of so many sessions it is told at which stage the engines part, if that is known in so many seconds.
+MOST_LED, SECONDS_OF_STAGES = 20, 30.0
 # Where an engine failed so often, the sessions behind aren't played.
 MOST_FAILED = 10
 EMPTY = "their source is the empty text, which stands for a game's; `saxtegun source GAME.txt SESSIONS >NEW` writes a file with that text in it, to be compared"
@@ -47,6 +54,7 @@ EMPTY = "their source is the empty text, which stands for a game's; `saxtegun so
 def add_words(words: ArgumentParser) -> None:
     words.add_argument("files", metavar="FILE", nargs="+")
     words.add_argument("--engines", metavar=("P", "Q"), nargs=2)
+    words.add_argument("--stages", metavar=("S", "T"), nargs=2, help="what tells the stages of P and of Q")
     words.add_argument("--sources", metavar=("OLD.txt", "NEW.txt"), nargs=2)
     words.add_argument("--report", metavar="F")
     add_date(words)
@@ -81,6 +89,8 @@ def sides_of(given: Namespace) -> Sides:
     files = given.files
     if given.engines and given.sources:
         raise Refused("--engines and --sources exclude each other")
+    if given.stages and not given.engines:
+        raise Refused("--stages needs --engines, whose stages are told")
     if not given.engines and not given.sources:
         if len(files) not in (2, 3):
             raise Refused("name two files of lines, and after them at most the sessions file")
@@ -113,6 +123,7 @@ class Comparing:
 
     def __init__(self, given: Namespace, sides: Sides) -> None:
         self.order, self.sides, self.names = given.order, sides, names_of(given)
+        self.stages = tellers_of(given)
         self.count, self.parted, self.failed, self.refused, self.late = 0, 0, 0, 0, 0
         self.why = ""
         self.report: Optional[Report] = None
@@ -134,19 +145,32 @@ class Comparing:
             elif UNANSWERED in (one.close, other.close):
                 self.tell_late(one, other)
             elif parting is not None:
-                self.tell(parting, one, other)
+                self.tell(parting, one, other, stages=self.stages_told(parting, one, other))
             if self.failed == MOST_FAILED:
                 break
 
     def entry(self, run: Run) -> Optional[Entry]:
         return self.sides.sessions.entries[run.number] if self.sides.sessions else None
 
-    def tell(self, parting: Parting, one: Run, other: Run, failures: Sequence[str] = ()) -> None:
-        """Tells where two runs part, and below it what failed behind that."""
+    def stages_told(self, parting: Parting, one: Run, other: Run) -> List[str]:
+        """At which stage two engines part, with its rules, where it is known what tells theirs."""
+        entry = self.entry(one)
+        if not self.stages or entry is None or self.parted >= MOST_LED:
+            return []
+        text = Text(entry.source, "", self.order)
+        sides = Side(self.names[0], entry, text, self.stages[0]), Side(self.names[1], entry, text, self.stages[1])
+        try:
+            led = stage_parting(sides, (one, other), parting, self.sides.engines[0], SECONDS_OF_STAGES)
+        except Refused as why:
+            return [f"stages: {why}"]
+        return [f"stages: {led.sentence}", *led.rules, *led.drawing] if led else ["stages: none parts"]
+
+    def tell(self, parting: Parting, one: Run, other: Run, failures: Sequence[str] = (), stages: Sequence[str] = ()) -> None:
+        """Tells where two runs part, and below it at which stage, and what failed behind that."""
         entry = self.entry(one)
         is_behind = bool(failures) and (parting.one is None or parting.other is None)
         told = [] if is_behind else [sentence_of(parting, one, other, entry), *below_of(parting, entry, self.order)]
-        first, *below = [*told, *failures]
+        first, *below = [*told, *stages, *failures]
         print(printable(f"session {one.number}, {cut(one.name)}: {first}"))
         for line in below:
             print(printable(f"    {line}"))

@@ -7,6 +7,9 @@ diverge is taken. It leaves out inputs, then rules, levels and objects, then
 other lines, while the programs diverge in the same way: with the same kinds of
 frames, with the same closes, or with the same crash, hang or stray line of one.
 
+With --stages S T the first stage at which they part also stays one of the same
+rules: S and T tell the stages of P and Q; `saxtegun` tells our own.
+
 FOLDER, which must not be there yet, gets the five files of a case. Its stdout
 is what P wrote, and P may be wrong: read it against the rule before you keep
 it.
@@ -24,14 +27,14 @@ from argparse import ArgumentParser, Namespace
 from typing import Dict, List, NamedTuple, Optional
 
 from saxtegun.commands import Refused, add_game, add_order, cut, fold, plural, printable, say, seconds_in, workers_in
-from saxtegun.engines import FAILED, SECONDS, answers, engine_at, failure_told, with_frames
+from saxtegun.engines import FAILED, SECONDS, answers, engine_at, failure_told, tellers_of, with_frames
 from saxtegun.files import guard_places
 from saxtegun.levels import Labels, read_cells
 from saxtegun.lines import Run
 from saxtegun.parting import below_of, parting_of, sentence_of
 from saxtegun.playing import Engine, play_file
 from saxtegun.sessions import Entry, Sessions, chosen, read_sessions, written
-from saxtegun.shrinking import Programs, Way, cut_behind, shrunk, way_of
+from saxtegun.shrinking import Programs, Way, cut_behind, shrunk
 from saxtegun.texts import over, read_game, say_others
 
 USAGE = "shrink P Q SESSIONS NAME [FOLDER] [options]"
@@ -45,6 +48,7 @@ def add_words(words: ArgumentParser) -> None:
     words.add_argument("name", metavar="NAME")
     words.add_argument("folder", metavar="FOLDER", nargs="?", help="where the case is written (a folder named after the session)")
     add_game(words)
+    words.add_argument("--stages", metavar=("S", "T"), nargs=2, help="what tells the stages of P and of Q: they then go on parting by the same rules")
     words.add_argument("--workers", metavar="N", type=workers_in)
     words.add_argument("--timeout", metavar="SECONDS", type=seconds_in, default=SECONDS, help="how long a session may take, or else it hangs (10)")
     add_order(words)
@@ -67,7 +71,7 @@ class Found(NamedTuple):
 def first_that_parts(programs: Programs, entries: List[Entry]) -> Optional[Found]:
     """The first entry on which the programs part."""
     for entry, (one, other) in zip(entries, programs.pairs(entries)):
-        way = way_of(one, other)
+        way = programs.way(entry, one, other)
         if way is not None:
             return Found(entry, with_frames(entry, one, programs.one), with_frames(entry, other, programs.other), way)
     return None
@@ -119,7 +123,7 @@ def write_case(folder: str, files: Dict[str, bytes]) -> None:
 def started_with(programs: Programs, found: Found) -> Entry:
     """Where shrinking begins: without the inputs behind the parting, if that is one still."""
     shorter = cut_behind(found.entry, parting_of(found.one, found.other), found.one, found.other)
-    return shorter if [way_of(*it) for it in programs.pairs([shorter])] == [found.way] else found.entry
+    return shorter if programs.ways([shorter]) == [found.way] else found.entry
 
 
 def tell(entry: Entry, programs: Programs, given: Namespace) -> Run:
@@ -145,7 +149,7 @@ def main(given: Namespace) -> int:
         raise Refused(f"{folder} is there already")
     guard_places(folder)
     engine = Engine(given.order, given.workers, seconds=given.timeout, may_build=False)
-    programs = Programs(engine_at(given.one, engine), engine_at(given.other, engine))
+    programs = Programs(engine_at(given.one, engine), engine_at(given.other, engine), tuple(tellers_of(given)))
     found = first_that_parts(programs, chosen(sessions, [given.name]))
     if found is None:
         print(f"{given.one} and {given.other} show the same")
