@@ -8,6 +8,7 @@ import unittest
 
 from day import EXAMPLE, OnSessions
 from tool import CASES, PROGRAM, TOP, plays, run
+from saxtegun.stages import told_in
 
 NODE = shutil.which("node")
 ADAPTER = TOP / "adapters/javascript"
@@ -52,6 +53,24 @@ WRONG = {
     'lines.start("a", ""); lines.close("stopped")': "a cause belongs to stopped and refused",
     'new Lines(() => {}, "diagonal")': "an order is rows or columns",
 }
+
+
+# Tells a press of a level of two cells, a group that acts, and a stop.
+STAGES = r"""
+const { serveStages } = require(process.argv[1]);
+const level = { width: 2, height: 1, at: (column) => [["Player", "background"], ["background"]][column] };
+serveStages((entry, input, tell) => {
+  if (entry.source === "broken") throw new Error("no such game");
+  tell({ tick: 0, stage: "input", changed: true, commands: [], headings: [[0, 0, "player", "right"]], level });
+  tell({ tick: 0, stage: "early", block: 1, lines: [7], changed: false, commands: ["again"], headings: [], level });
+  tell({ tick: 1, stop: "loop-limit" });
+}, process.argv.slice(2));
+"""
+TOLD = """\
+{"changed":true,"commands":[],"headings":[[0,0,"player","right"]],"input":2,"level":"background player:0,background:1,\\n","stage":"input","tick":0}
+{"block":1,"changed":false,"commands":["again"],"headings":[],"input":2,"level":"background player:0,background:1,\\n","lines":[7],"stage":"early","tick":0}
+{"input":2,"stop":"loop-limit","tick":1}
+"""
 
 
 def node(*words, stdin=b""):
@@ -135,6 +154,30 @@ class DayOfTheAdapter(OnSessions):
     def test_the_example_is_played_as_by_the_program(self):
         answer = run("compare", "--engines", PROGRAM, ENGINE, EXAMPLE)
         self.assertEqual((answer.status, answer.out, answer.errors), (0, "5 sessions: 5 the same, 0 diverge\n", ""))
+
+
+@unittest.skipUnless(NODE, "node is not on the path")
+class Stages(unittest.TestCase):
+    def told(self, *words, source="a game"):
+        file = json.dumps([["a", [source, [3, 3], ""]]]).encode()
+        ran = node("-e", STAGES, ADAPTER / "program.js", *words, stdin=file)
+        return ran.returncode, ran.stdout.decode(), ran.stderr.decode()
+
+    def test_stages_are_written_as_their_lines_are_read(self):
+        status, out, errors = self.told("0", "2", "columns")
+        self.assertEqual((status, out, errors), (0, TOLD, ""))
+        read = [told_in(it, 2) for it in out.splitlines()]
+        self.assertEqual([(type(it).__name__, it.tick) for it in read], [("Stage", 0), ("Stage", 0), ("Stop", 1)])
+
+    def test_a_session_that_is_not_there_has_none(self):
+        self.assertEqual(self.told("1", "2"), (0, "", ""))
+
+    def test_a_wrong_call_is_refused_and_an_engine_that_throws_fails(self):
+        for words in ((), ("0",), ("0", "x"), ("0", "1", "rows"), ("0", "1", "columns", "x"), ("-1", "0")):
+            with self.subTest(words):
+                self.assertEqual(self.told(*words), (2, "", "bad command line\n"))
+        status, out, errors = self.told("0", "0", source="broken")
+        self.assertEqual((status, out, "no such game" in errors), (2, "", True))
 
 
 if __name__ == "__main__":

@@ -64,6 +64,13 @@ function readLevelText(text) {
   return cells;
 }
 
+// The line of a stage behind so many inputs, or of a stop, with its keys in the order of their letters. A level is one of `frame`.
+function stageLine(input, { level, ...told }, order) {
+  const text = level === undefined ? {} : { level: levelText(cellsOf(level, order), level.width) };
+  const line = { ...told, ...text, input };
+  return `${JSON.stringify(Object.fromEntries(Object.keys(line).sort().map((key) => [key, line[key]])))}\n`;
+}
+
 class Lines {
   // `write` gets each line with its line feed. `order` is that of the recorded levels.
   constructor(write, order = "columns") {
@@ -118,4 +125,4 @@ class Lines {
   }
 }
 
-module.exports = { Lines, fold, levelText, readLevelText };
+module.exports = { Lines, fold, levelText, readLevelText, stageLine };

@@ -6,10 +6,17 @@
 //
 // `entry` has source, inputs and index. What is answered, or promised, closes the session: nothing, or ["stopped", "loop-limit"], or
 // ["refused", "BadRule:3"].
+// For what tells the stages of inputs there is `serveStages`, whose command line is SESSION INPUT [columns], with the file on standard input, as `--stages` of
+// both verbs wants it:
+//
+//     serveStages((entry, input, tell) => { .. tell({ tick, stage, changed, commands, headings, level }) .. });
+//
+// `input` inputs are taken behind it, 0 is the start. Of a group or loop `tell` also gets block and lines; of a step that stops tick and stop.
+//
 // Where the engine throws, the status is 2. A file is tested as far as JavaScript can: it doesn't tell 1.0 from 1, and nests as deep as it will.
 
 const fs = require("fs");
-const { Lines, readLevelText } = require("./lines.js");
+const { Lines, readLevelText, stageLine } = require("./lines.js");
 
 const INPUTS = [0, 1, 2, 3, 4, "undo", "restart", "tick"];
 const MOST = 65536; // entries, and inputs of one
@@ -75,18 +82,11 @@ function readEntries(text) {
   });
 }
 
-// Plays what the command line names, session by session, and sets the exit status.
-async function serve(play, words = process.argv.slice(2)) {
+// Does what sets the exit status; where that throws, it says why, and the status is 2.
+async function answer(act) {
   process.stdout.on("error", () => process.exit(2));
   try {
-    const { order, file } = readWords(words);
-    const lines = new Lines((text) => process.stdout.write(text), order);
-    for (const entry of readEntries(readInput(file))) {
-      lines.start(entry.name, entry.level);
-      const close = await play(entry, (at, kind, level) => lines.frame(at, kind, level));
-      lines.close(...(close || []));
-    }
-    process.exitCode = lines.allPassed ? 0 : 1;
+    process.exitCode = await act();
   } catch (why) {
     if (!(why instanceof Refusal)) process.stderr.write(`${why.stack}\nthe engine failed: `);
     process.stderr.write(`${why.message}\n`);
@@ -94,4 +94,31 @@ async function serve(play, words = process.argv.slice(2)) {
   }
 }
 
-module.exports = { serve };
+// Plays what the command line names, session by session, and sets the exit status.
+function serve(play, words = process.argv.slice(2)) {
+  return answer(async () => {
+    const { order, file } = readWords(words);
+    const lines = new Lines((text) => process.stdout.write(text), order);
+    for (const entry of readEntries(readInput(file))) {
+      lines.start(entry.name, entry.level);
+      const close = await play(entry, (at, kind, level) => lines.frame(at, kind, level));
+      lines.close(...(close || []));
+    }
+    return lines.allPassed ? 0 : 1;
+  });
+}
+
+// Tells the stages that the command line asks for; none of a session that isn't there.
+function serveStages(tell, words = process.argv.slice(2)) {
+  return answer(async () => {
+    const isGood = (words.length === 2 || (words.length === 3 && words[2] === "columns")) && words.slice(0, 2).every((it) => /^[0-9]{1,15}$/.test(it));
+    if (!isGood) throw new Refusal("bad command line");
+    const [session, input] = words.map(Number);
+    const entry = readEntries(readInput(null))[session];
+    const order = words[2] || "rows";
+    if (entry !== undefined) await tell(entry, input, (stage) => process.stdout.write(stageLine(input, stage, order)));
+    return 0;
+  });
+}
+
+module.exports = { serve, serveStages };
