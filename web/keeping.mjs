@@ -35,10 +35,6 @@ async function keptUnder(name) {
   return { name, value, note };
 }
 
-// Lets the browser ask whoever leaves the page, or not.
-const askLeaving = (event) => event.preventDefault();
-const asksLeaving = (isAsked) => (isAsked ? window.addEventListener("beforeunload", askLeaving) : window.removeEventListener("beforeunload", askLeaving));
-
 const timeOf = ({ value, note }) => Math.max(value?.kept ?? 0, note?.kept ?? 0);
 
 // What this browser keeps for one tab.
@@ -59,9 +55,10 @@ export class Store {
 
   constructor() {
     Object.assign(this, { name: null, left: [], entries: [], isCut: false, turn: 0, there: null, unkept: null, now: null, isWriting: false, isLate: false, isGone: false });
+    // a browser may end what a page does as it is left, but not twice
     window.addEventListener("pagehide", () => this.leave());
+    document.addEventListener("visibilitychange", () => (document.visibilityState === "hidden" ? this.leave() : this.comeBack()));
     window.addEventListener("pageshow", ({ persisted }) => { if (persisted) this.comeBack(); });
-    document.addEventListener("visibilitychange", () => { if (document.visibilityState === "hidden") this.note(); });
   }
 
   async read(first) {
@@ -88,7 +85,7 @@ export class Store {
   async keep(value, tell) {
     this.turn += 1;
     this.unkept = { ...value, turn: this.turn };
-    if (this.isLate) this.beLate();
+    if (this.isLate) this.note();
     if (this.isWriting) return;
     this.isWriting = true;
     for (let tried = null; this.unkept !== null && this.unkept !== tried;) {
@@ -100,23 +97,17 @@ export class Store {
 
   async write(value, tellLate) {
     const timer = setTimeout(() => {
-      this.beLate();
+      this.isLate = true;
+      this.note();
       tellLate();
     }, LATE);
     this.now = value;
     const isKept = await this.put(value).then(() => true, () => false);
     clearTimeout(timer);
-    asksLeaving(false);
     Object.assign(this, { now: null, isLate: false });
     if (isKept) this.wrote(value);
     else this.note();
     return isKept;
-  }
-
-  // Where the database takes long, what waits for it is noted at once.
-  beLate() {
-    this.isLate = true;
-    asksLeaving(!this.note());
   }
 
   // What closed tabs left stands in the value, and goes with the first that is kept.
@@ -149,8 +140,9 @@ export class Store {
   }
 
   leave() {
-    noteLeaving(this.note());
     this.isGone = true;
+    noteLeaving(true);
+    if (!this.note()) noteLeaving(false);
   }
 
   // The page is shown again as it was left.

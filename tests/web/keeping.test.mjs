@@ -98,17 +98,27 @@ test("where a note has no room at all, that is said of what is older", async () 
   assert.deepEqual(textsOf(next.state), [LONG[0]]);
 });
 
-test("whoever leaves is asked where the database takes long and a note has no room, until all is kept", async () => {
+test("where the database takes long, what waits is noted before the page is left, which is said", async () => {
   const browser = new OneTab(), visit = await worked(browser, LONG[0]);
   visit.act(withGame, LONG[1]);
   await until(() => visit.kept.at(-1) === null);
-  assert.equal(browser.tell("beforeunload"), false);
-  browser.notes.room.most = 0;
+  const notes = () => Object.values(browser.notes.room.items).map((note) => JSON.parse(note).text);
+  assert.deepEqual(notes(), [LONG[1]]);
   visit.act(withGame, LONG[2]);
-  assert.equal(browser.tell("beforeunload"), true);
+  assert.deepEqual(notes(), [LONG[2]]);
   browser.database.release();
   await visit.written();
-  assert.deepEqual([visit.kept.at(-1), browser.tell("beforeunload")], [true, false]);
+  assert.deepEqual([visit.kept.at(-1), notes()], [true, []]);
+});
+
+test("a page that is left is noted once it is hidden too, where the browser ended it before", async () => {
+  const browser = new OneTab(), visit = await worked(browser, LONG[0]);
+  browser.listeners.pagehide = [];
+  visit.act(withGame, LONG[1]);
+  Object.assign(globalThis.document, { visibilityState: "hidden" });
+  browser.tell("visibilitychange");
+  browser.leave({ isGone: false });
+  assert.deepEqual(textsOf((await Visit.of()).state), [LONG[1], LONG[0]]);
 });
 
 test("values are in the order in which they were kept, whatever the clock says", async () => {

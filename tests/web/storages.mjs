@@ -84,19 +84,16 @@ export class OneTab {
   constructor({ most = 5_000_000 } = {}) {
     Object.assign(this, { database: new Database(), locks: new Locks(), notes: storage(most), tab: storage(most), listeners: {}, timers: [] });
     const listen = (name, act) => { (this.listeners[name] ??= []).push(act); };
-    const leaveOut = (name, act) => { this.listeners[name] = (this.listeners[name] ?? []).filter((it) => it !== act); };
     const there = {
       indexedDB: { open: () => this.database.open() }, localStorage: this.notes.proxy, sessionStorage: this.tab.proxy, navigator: { locks: this.locks },
-      setTimeout: (...words) => this.timers[this.timers.push(begin(...words)) - 1], window: { addEventListener: listen, removeEventListener: leaveOut }, document: { addEventListener: listen, visibilityState: "visible" },
+      setTimeout: (...words) => this.timers[this.timers.push(begin(...words)) - 1], window: { addEventListener: listen }, document: { addEventListener: listen, visibilityState: "visible" },
     };
     for (const [name, value] of Object.entries(there)) Object.defineProperty(globalThis, name, { value, configurable: true, writable: true });
   }
 
-  // Tells the page something; whether it asks to stay.
+  // Tells the page something.
   tell(name) {
-    const event = { persisted: false, isAsking: false, preventDefault: () => { event.isAsking = true; } };
-    (this.listeners[name] ?? []).forEach((act) => act(event));
-    return event.isAsking;
+    (this.listeners[name] ?? []).forEach((act) => act({ persisted: false }));
   }
 
   // Leaves the page: what it had not written is lost. Its locks go with it, unless it isn't gone yet.
