@@ -54,11 +54,10 @@ export class Store {
   }
 
   constructor() {
-    Object.assign(this, { name: null, left: [], entries: [], isCut: false, turn: 0, there: null, unkept: null, now: null, isWriting: false, isLate: false, isGone: false });
+    Object.assign(this, { name: null, left: [], entries: [], isCut: false, turn: 0, there: null, unkept: null, now: null, isWriting: false, isLate: false });
     // a browser may end what a page does as it is left, but not twice
     window.addEventListener("pagehide", () => this.leave());
-    document.addEventListener("visibilitychange", () => (document.visibilityState === "hidden" ? this.leave() : this.comeBack()));
-    window.addEventListener("pageshow", ({ persisted }) => { if (persisted) this.comeBack(); });
+    document.addEventListener("visibilitychange", () => (document.visibilityState === "hidden" ? this.leave() : formerVisit()));
   }
 
   async read(first) {
@@ -122,7 +121,6 @@ export class Store {
   wrote(value) {
     this.there = value;
     if (this.unkept === value) this.unkept = null;
-    if (this.isGone) return;
     if (this.unkept === null) forgetNote(this.name);
     this.left.forEach(forgetNote);
     this.left = [];
@@ -140,14 +138,7 @@ export class Store {
   }
 
   leave() {
-    this.isGone = true;
     noteLeaving(true);
     if (!this.note()) noteLeaving(false);
-  }
-
-  // The page is shown again as it was left.
-  comeBack() {
-    formerVisit();
-    this.isGone = false;
   }
 }
