@@ -25,6 +25,7 @@ IS_KEPT = """new Promise((settle) => { const opening = indexedDB.open('saxtegun'
     const request = opening.result.transaction('kept').objectStore('kept').get(sessionStorage.getItem('saxtegun-tab'));
     request.onsuccess = () => { opening.result.close(); const it = request.result; settle(it !== undefined && it.text === document.getElementById('source').value
         && it.work.name === document.getElementById('name').value && it.work.inputs.length === document.querySelectorAll('#strip button').length); }; }; })"""
+IS_FRESH = "document.querySelectorAll('#strip button').length === 0 && document.getElementById('some').hidden && document.getElementById('put-back').disabled && Object.keys(localStorage).length === 0"
 FORGET = """new Promise((settle) => { localStorage.clear(); sessionStorage.clear(); const opening = indexedDB.open('saxtegun', 1); opening.onsuccess = () => {
     const it = opening.result.transaction('kept', 'readwrite'); it.objectStore('kept').clear(); it.oncomplete = () => { opening.result.close(); settle(1); }; }; })"""
 # Nothing else is written as long as the page stays, or window.isHeld is true: a transaction of its own goes on and on.
@@ -44,10 +45,12 @@ class Page:
         self.browser.open(self.file, is_ready=READY)
 
     def begin(self):
-        """Opens the page as one that nothing was kept for."""
+        """Opens the page as one that nothing was kept for. What it keeps while that is forgotten is there again, and is forgotten next."""
         self.visit()
-        self.browser.value("(localStorage.clear(), sessionStorage.clear(), indexedDB.deleteDatabase('saxtegun'), 1)")
-        self.visit()
+        while any(self.value(f"document.getElementById('{name}').value") != text for name, text in (("name", ""), ("source", GAME))) or not self.value(IS_FRESH):
+            self.wait_until_kept()
+            self.value(FORGET)
+            self.visit()
 
     def value(self, script):
         return self.browser.value(script)
