@@ -46,11 +46,12 @@ export function download(name, content) {
   setTimeout(() => URL.revokeObjectURL(address), 10_000);
 }
 
-// Hands on files that are chosen, dropped or pasted: take(name, bytes).
-export function takeFiles(take) {
-  const takeAll = async (files) => {
+// Hands on files that are chosen, dropped or pasted: take(name, bytes). That some are being read is told by during(promise).
+export function takeFiles(take, during) {
+  const takeEach = async (files) => {
     for (const file of files) await take(file.name, new Uint8Array(await file.arrayBuffer()));
   };
+  const takeAll = (files) => during(takeEach(files));
   at("open").addEventListener("click", () => at("file").click());
   at("file").addEventListener("change", async () => {
     await takeAll([...at("file").files]);

@@ -1,6 +1,7 @@
 // A state as it is kept between visits, and back. What is kept has a version; what can't be read is no state.
-import { packed, unpacked } from "./packing.mjs";
-import { MOST_PAST } from "./past.mjs";
+import { textOfValue, withNote } from "./notes.mjs";
+import { packed, takePack, unpacked } from "./packing.mjs";
+import { MOST_PAST, remembering } from "./past.mjs";
 import { SessionFile } from "./session-file.mjs";
 import { beginning } from "./work.mjs";
 
@@ -8,10 +9,17 @@ const VERSION = 2;
 const ORDERS_OF_CELLS = ["columns", "rows"];
 
 const keptFile = (file) => file && packed(file);
+const keptLosses = new WeakMap();
 
-// What is kept of a state: what was made by hand. `isBusy` is whether something was played when it was kept.
-export function keptOf({ text, order, work, file, isUnsaved, past, tab, isTicked }, isBusy) {
-  return { version: VERSION, kept: Date.now(), text, order, work, file: keptFile(file), isUnsaved, tab, isTicked, isBusy, past: past.map((it) => ({ ...it, ...(it.file ? { file: keptFile(it.file) } : {}) })) };
+// What is kept of something that can be put back: the same each time.
+function keptLoss(lost) {
+  if (!keptLosses.has(lost)) keptLosses.set(lost, lost.file ? { ...lost, file: keptFile(lost.file) } : lost);
+  return keptLosses.get(lost);
+}
+
+// What is kept of a state: what was made by hand, and keys that wait. `isBusy` is whether something was played when it was kept.
+export function keptOf({ text, order, work, queue, file, isUnsaved, past, tab, isTicked }, isBusy) {
+  return { version: VERSION, kept: Date.now(), text, order, work, queue, file: keptFile(file), isUnsaved, tab, isTicked, isBusy, past: past.map(keptLoss) };
 }
 
 class Unreadable extends Error {}
@@ -23,22 +31,32 @@ function wanted(isSo) {
 const isText = (value) => typeof value === "string";
 const isWhole = (value) => Number.isSafeInteger(value) && value >= 0;
 
+const isKeptInput = (input) => ["undo", "restart", "tick"].includes(input) || (isWhole(input) && input <= 4);
+
 function workFrom({ own, index, inputs, name, opened }, file) {
-  wanted((own === null || isText(own)) && isWhole(index) && isText(name) && Array.isArray(inputs));
-  wanted(inputs.every((input) => ["undo", "restart", "tick"].includes(input) || (isWhole(input) && input <= 4)));
+  wanted((own === null || isText(own)) && isWhole(index) && isText(name) && Array.isArray(inputs) && inputs.every(isKeptInput));
   return { own, index, inputs, name, opened: isWhole(opened) && opened < (file?.entries.length ?? 0) ? opened : null };
+}
+
+function queueFrom(queue) {
+  const isKey = ({ input, behind, looked }) => isKeptInput(input) && [behind, looked].every((number) => number === null || isWhole(number));
+  wanted(Array.isArray(queue) && queue.every(isKey));
+  return queue.map(({ input, behind, looked }) => ({ input, behind, looked }));
 }
 
 function fileFrom(value) {
   if (!value) return null;
   const bytes = unpacked(value);
   wanted(isText(value.name) && bytes instanceof Uint8Array);
-  return new SessionFile(value.name, bytes);
+  return takePack(new SessionFile(value.name, bytes), value);
 }
 
-function lostFrom({ text, work, file, isUnsaved }) {
+function lostFrom(value) {
+  const { text, work, file, isUnsaved } = value;
   wanted(text === undefined || isText(text));
-  return { ...(isText(text) ? { text } : {}), ...(work ? { work: workFrom(work, null) } : {}), ...(file ? { file: fileFrom(file), isUnsaved: Boolean(isUnsaved) } : {}) };
+  const lost = { ...(isText(text) ? { text } : {}), ...(work ? { work: workFrom(work, null) } : {}), ...(file ? { file: fileFrom(file), isUnsaved: Boolean(isUnsaved) } : {}) };
+  keptLosses.set(lost, value);
+  return lost;
 }
 
 // As pages kept it that had no versions.
@@ -50,13 +68,21 @@ function fromFirst({ source, index, inputs, name, opened, order, file, former, i
 // What a value of the store was kept of, or null where it can't be read.
 export function stateFrom(value, example) {
   try {
-    const { version, text, order, work, file: bytes, isUnsaved, past, tab, isTicked, isBusy } = value.version === undefined ? fromFirst(value) : value;
+    const { version, text, order, work, queue = [], file: bytes, isUnsaved, past, tab, isTicked, isBusy } = value.version === undefined ? fromFirst(value) : value;
     wanted(version === VERSION && isText(text) && ORDERS_OF_CELLS.includes(order) && Array.isArray(past));
     const file = fileFrom(bytes);
-    return { ...beginning(example), text, order, work: workFrom(work, file), file, isUnsaved: Boolean(isUnsaved), past: past.map(lostFrom).slice(-MOST_PAST), tab: tab === "sessions" ? tab : "game", isTicked: Boolean(isTicked), isHeld: Boolean(isBusy) };
+    return { ...beginning(example), text, order, work: workFrom(work, file), queue: queueFrom(queue), file, isUnsaved: Boolean(isUnsaved), past: past.map(lostFrom).slice(-MOST_PAST), tab: tab === "sessions" ? tab : "game", isTicked: Boolean(isTicked), isHeld: Boolean(isBusy) };
   } catch {
     return null;
   }
+}
+
+// What an entry was kept of, as far as it was noted since, or null where it can't be read. What a note had no room for can be put back.
+function stateOfEntry({ value, note = null }, example) {
+  if (value === undefined) return stateFrom(note, example);
+  const before = stateFrom(value, example), whole = before && withNote(value, note), after = whole && stateFrom(whole, example);
+  if (after === null) return before;
+  return note.isCut ? remembering(before, after) : after;
 }
 
 // What another tab left, as it can be put back.
@@ -66,9 +92,17 @@ function leftBy({ text, work, file, isUnsaved, past, example }) {
   return Object.keys(own).length === 0 ? past : [...past, own];
 }
 
-// The state to begin with, of all entries that were kept: { state, read, unreadable }, where `read` are the names of those that it has in it.
+// What other tabs left, but for what a state has itself, as a copy of one that isn't gone does.
+function leftBeside(others, state) {
+  const textOf = (lost) => textOfValue(keptLoss(lost)), there = new Set(others.length > 0 ? leftBy(state).map(textOf) : []);
+  return others.flatMap(leftBy).filter((lost) => !there.has(textOf(lost)));
+}
+
+// The state to begin with, of all entries that were kept: { state, read, unreadable, isCut }, where `read` are the names of those that it has in it, and
+// `isCut` is whether there was no room for all of one.
 export function stateOfVisit(entries, example) {
-  const found = entries.map(({ name, value }) => ({ name, state: stateFrom(value, example) })), readable = found.filter(({ state }) => state !== null);
-  const [first = beginning(example), ...others] = readable.map(({ state }) => state), past = [...others.flatMap(leftBy), ...first.past].slice(-MOST_PAST);
-  return { state: { ...first, past }, read: readable.map(({ name }) => name), unreadable: found.length - readable.length };
+  const found = entries.map((entry) => ({ ...entry, state: stateOfEntry(entry, example) })), readable = found.filter(({ state }) => state !== null);
+  const [first = beginning(example), ...others] = readable.map(({ state }) => state), past = [...leftBeside(others, first), ...first.past].slice(-MOST_PAST);
+  const isCut = readable.some(({ note }) => note?.isCut);
+  return { state: { ...first, past }, read: readable.map(({ name }) => name), unreadable: found.length - readable.length, isCut };
 }

@@ -29,6 +29,12 @@ export function packed(file) {
   return packs.get(file);
 }
 
+// Takes what was kept of a file for what is kept of it again.
+export function takePack(file, pack) {
+  packs.set(file, pack);
+  return file;
+}
+
 // The bytes of what was kept of a file.
 export function unpacked({ bytes, texts, pieces }) {
   return bytes ?? new TextEncoder().encode(pieces.map((piece) => (typeof piece === "number" ? texts[piece] : piece)).join(""));

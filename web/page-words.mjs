@@ -46,6 +46,18 @@ export function clockTold(state) {
   return isRefused ? { text: "A game with `realtime_interval` isn't played here, but a recording holds its ticks: play it without that line, with its ticks as recorded?", isAsked: true } : null;
 }
 
+const UNREADABLE = "What this browser kept of an earlier visit can't be read by this page. It stays where it is.";
+const NO_ROOM = "This browser had no room for all that was changed just before the page was left: an older file, or less to put back, may be here.";
+
+// What is said of what was kept of earlier visits, or null.
+export const visitTold = (unreadable, isCut) => (unreadable === 0 && !isCut ? null : [...(unreadable > 0 ? [UNREADABLE] : []), ...(isCut ? [NO_ROOM] : [])].join(" "));
+
+// What is promised of where the work is: whether the browser kept it, or null where that takes long.
+export function keepingTold(isKept) {
+  const told = isKept === null ? "This browser has not kept your last changes yet. Wait, or save your work as files." : isKept ? "What you work on stays in this browser; save it as files." : "This browser keeps nothing for a page from the disk: save your work as files.";
+  return `Nothing leaves this machine. ${told}`;
+}
+
 // What stands above the level: { text, close }.
 export function statusOf(state) {
   if (state.told !== null) return state.told;

@@ -13,6 +13,8 @@ import { Refusal, SessionFile } from "./session-file.mjs";
 import { following, isFailure } from "./session-list.mjs";
 import { RECORDINGS, comparedWithLines, filed, savedAs, withOtherFile, withRecordings } from "./filing.mjs";
 import { framesOf, isAtEnd, shownOf } from "./replaying.mjs";
+import { keepingTold, visitTold } from "./page-words.mjs";
+import { say } from "./saying.mjs";
 import { linePointedAt, lookedAtActed, stageChosen } from "./staging.mjs";
 import { rowsOf, sessionOpened } from "./suite.mjs";
 import { RECORDED_ORDER, edited, inOrder, lookedAt, lookedAtInput, pressed, released, withGame } from "./work.mjs";
@@ -127,24 +129,23 @@ class Playground {
 
   // Keeps what was made by hand, where that has changed.
   keep(state, isBusy) {
-    const { text, order, work, file, isUnsaved, past, tab, isTicked } = state, values = [text, order, work, file, isUnsaved, past, tab, isTicked, isBusy];
+    const { text, order, work, queue, file, isUnsaved, past, tab, isTicked } = state, values = [text, order, work, queue, file, isUnsaved, past, tab, isTicked, isBusy];
     if (this.kept?.every((value, place) => value === values[place])) return;
     this.kept = values;
-    this.store.keep(keptOf(state, isBusy), (isKept) => {
-      if (!isKept) at("promise").textContent = "Nothing leaves this machine. This browser keeps nothing for a page from the disk: save your work as files.";
-    });
+    this.store.keep(keptOf(state, isBusy), (isKept) => say("promise", keepingTold(isKept)));
   }
 }
 
 async function start() {
   const example = json("example-game"), [engine, store] = await Promise.all([startEngine(), Store.open()]);
-  const { state, read, unreadable } = stateOfVisit(store.entries, example);
+  const { state, read, unreadable, isCut } = stateOfVisit(store.entries, example), told = visitTold(unreadable, isCut || store.isCut);
   await store.goOn(read);
   const page = new Playground(state, engine, store);
   listen(page);
-  takeFiles((name, bytes) => page.take(name, bytes));
+  takeFiles((name, bytes) => page.take(name, bytes), (coming) => page.runner.during(coming));
   window.addEventListener("resize", () => page.runner.show());
-  page.runner.update((now) => (unreadable > 0 ? { ...now, told: { text: "What this browser kept of an earlier visit can't be read by this page. It stays where it is.", close: null } } : now));
+  page.runner.update((now) => (told === null ? now : { ...now, told: { text: told, close: null } }));
+  document.body.inert = false;
   await page.runner.idle();
   at("stage").focus({ preventScroll: true });
   document.documentElement.dataset.opened = "true";

@@ -16,6 +16,7 @@ export class Runner {
     Object.assign(this, { state, engine, draw, keep, pause });
     this.doing = { play: null, suite: null, stages: null, coverage: null }; // what is asked now: { wanted, controller, done, total, isSlow }
     this.typing = 0;
+    this.coming = 0; // files that are being read
     this.waiting = [];
   }
 
@@ -36,8 +37,16 @@ export class Runner {
     this.update(act);
   }
 
+  // Counts as busy until something that comes to the page is there.
+  async during(coming) {
+    this.coming += 1;
+    this.show();
+    await coming.finally(() => { this.coming -= 1; });
+    this.show();
+  }
+
   show() {
-    this.draw(this.state, this.doing, this.isBusy);
+    this.draw(this.state, this.doing, this.isBusy || this.coming > 0);
     this.keep(this.state, this.doing.play?.isSlow ?? false);
     if (!this.isBusy) this.waiting.splice(0).forEach((settle) => settle());
   }

@@ -1,0 +1,217 @@
+// What is kept between visits, without a browser: where the database is slow or broken, and notes have little room. What is expected is written by hand.
+import assert from "node:assert/strict";
+import { readFileSync } from "node:fs";
+import test from "node:test";
+import { Store } from "../../web/keeping.mjs";
+import { keptOf, stateOfVisit } from "../../web/kept-work.mjs";
+import { keepingTold, visitTold } from "../../web/page-words.mjs";
+import { SessionFile } from "../../web/session-file.mjs";
+import { beginning, edited, named, withGame } from "../../web/work.mjs";
+import { OneTab, until } from "./storages.mjs";
+
+const GAME = "title A game", LONG = Array.from({ length: 6 }, (_, number) => `title ${number} ${"x".repeat(10_000)}`);
+const FILE = new SessionFile("mine.json", new TextEncoder().encode(JSON.stringify([["one", ["", [1, 2], "background:0,"]]])));
+
+// A visit of the page, which keeps its states.
+class Visit {
+  static async of() {
+    const visit = new Visit();
+    visit.store = await Store.open();
+    const { state, read, unreadable, isCut } = stateOfVisit(visit.store.entries, GAME);
+    await visit.store.goOn(read);
+    Object.assign(visit, { state, told: visitTold(unreadable, isCut || visit.store.isCut), kept: [] });
+    visit.keep(state);
+    return visit;
+  }
+
+  keep(state) {
+    this.state = state;
+    this.store.keep(keptOf(state, false), (isKept) => this.kept.push(isKept));
+  }
+
+  act(change, ...words) {
+    this.keep(change(this.state, ...words));
+  }
+
+  // Waits until nothing more is written.
+  written() {
+    return until(() => !this.store.isWriting);
+  }
+}
+
+async function worked(browser, ...texts) {
+  const visit = await Visit.of();
+  texts.forEach((text) => visit.act(withGame, text));
+  await visit.written();
+  assert.ok(visit.kept.every((it) => it));
+  browser.database.isHeld = true;
+  return visit;
+}
+
+const textsOf = ({ text, past }) => [text, ...past.map((it) => it.text)];
+
+test("a note has what the database lacks, and nothing more", async () => {
+  const browser = new OneTab({ most: 25_000 }), visit = await worked(browser, ...LONG.slice(0, 5));
+  visit.act(withGame, LONG[5]);
+  visit.act(named, "mine");
+  browser.leave();
+  assert.equal(Object.values(browser.notes.room.items).length, 1);
+  const next = await Visit.of();
+  assert.deepEqual([next.told, next.state.work.name, textsOf(next.state)], [null, "mine", [LONG[5], ...LONG.slice(0, 5)]]);
+  await next.written();
+  assert.deepEqual(Object.values(browser.notes.room.items), []);
+});
+
+test("a file is noted where the database lacks it, and it alone knows of the sessions that are open", async () => {
+  const browser = new OneTab(), visit = await worked(browser);
+  visit.keep({ ...visit.state, file: FILE, isUnsaved: true, work: { ...visit.state.work, opened: 0 } });
+  browser.leave();
+  const next = await Visit.of();
+  assert.deepEqual([next.state.file.entries, next.state.isUnsaved, next.state.work.opened], [FILE.entries, true, 0]);
+  await next.written();
+  browser.database.isHeld = true;
+  next.act(named, "mine");
+  browser.leave();
+  assert.ok(Object.values(browser.notes.room.items)[0].length < 500);
+  const last = await Visit.of();
+  assert.deepEqual([last.state.file.entries, last.state.work.name], [FILE.entries, "mine"]);
+});
+
+test("of what has no room the text and the recording are noted alone, which is said, and what the database had is put back", async () => {
+  const browser = new OneTab({ most: 25_000 }), visit = await worked(browser, LONG[0]);
+  visit.act(withGame, LONG[1]);
+  visit.act(withGame, LONG[2]);
+  visit.act(withGame, LONG[3]);
+  browser.leave();
+  const next = await Visit.of();
+  assert.match(next.told, /^This browser had no room for all that was changed just before the page was left/);
+  assert.deepEqual(textsOf(next.state), [LONG[3], LONG[0]]);
+});
+
+test("where a note has no room at all, that is said of what is older", async () => {
+  const browser = new OneTab(), visit = await worked(browser, LONG[0]);
+  browser.notes.room.most = 0;
+  visit.act(withGame, LONG[1]);
+  browser.leave();
+  const next = await Visit.of();
+  assert.match(next.told, /^This browser had no room for all/);
+  assert.deepEqual(textsOf(next.state), [LONG[0]]);
+});
+
+test("where the database takes long, what waits is noted before the page is left, which is said", async () => {
+  const browser = new OneTab(), visit = await worked(browser, LONG[0]);
+  visit.act(withGame, LONG[1]);
+  await until(() => visit.kept.at(-1) === null);
+  const notes = () => Object.values(browser.notes.room.items).map((note) => JSON.parse(note).text);
+  assert.deepEqual(notes(), [LONG[1]]);
+  visit.act(withGame, LONG[2]);
+  assert.deepEqual(notes(), [LONG[2]]);
+  browser.database.release();
+  await visit.written();
+  assert.deepEqual([visit.kept.at(-1), notes()], [true, []]);
+});
+
+test("a page that is left is noted once it is hidden too, where the browser ended it before", async () => {
+  const browser = new OneTab(), visit = await worked(browser, LONG[0]);
+  browser.listeners.pagehide = [];
+  visit.act(withGame, LONG[1]);
+  Object.assign(globalThis.document, { visibilityState: "hidden" });
+  browser.tell("visibilitychange");
+  browser.leave({ isGone: false });
+  assert.deepEqual(textsOf((await Visit.of()).state), [LONG[1], LONG[0]]);
+});
+
+test("values are in the order in which they were kept, whatever the clock says", async () => {
+  const now = Date.now;
+  for (const later of [1000, 500]) {
+    const browser = new OneTab();
+    Date.now = () => 1000;
+    const visit = await worked(browser, LONG[0]);
+    Date.now = () => later;
+    visit.act(named, "mine");
+    browser.leave();
+    assert.equal((await Visit.of()).state.work.name, "mine");
+  }
+  Date.now = now;
+});
+
+test("a value that comes to the database after the page was left is no newer than the note", async () => {
+  const browser = new OneTab(), visit = await worked(browser);
+  visit.act(named, "one");
+  visit.act(named, "two");
+  await until(() => browser.database.waiting.length > 0);
+  browser.tell("pagehide");
+  browser.database.release();
+  await new Promise((settle) => setImmediate(settle));
+  assert.equal(Object.values(browser.notes.room.items).length, 1);
+  const [entry] = browser.database.entries.values();
+  assert.ok(["one", "two"].includes(entry.work.name));
+  browser.leave();
+  assert.equal((await Visit.of()).state.work.name, "two");
+});
+
+test("what was noted is found again by another tab, though the database never had it", async () => {
+  const browser = new OneTab(), visit = await Visit.of();
+  browser.database.isHeld = true;
+  visit.act(edited, LONG[0]);
+  browser.database.entries.clear();
+  browser.close();
+  const next = await Visit.of();
+  assert.equal(next.state.text, LONG[0]);
+  await next.written();
+  assert.deepEqual(Object.values(browser.notes.room.items), []);
+  assert.deepEqual([...browser.database.entries.values()].map(({ text }) => text), [LONG[0]]);
+});
+
+test("a page whose former one isn't gone goes on with a copy, and what that kept stays", async () => {
+  const browser = new OneTab(), visit = await worked(browser, LONG[0]);
+  visit.act(named, "mine");
+  browser.leave({ isGone: false });
+  const next = await Visit.of();
+  assert.deepEqual([next.state.text, next.state.work.name, next.told], [LONG[0], "mine", null]);
+  await next.written();
+  assert.equal(browser.database.entries.size, 2);
+  browser.leave();
+  const last = await Visit.of();
+  // what both have isn't put back
+  assert.deepEqual([last.state.work.name, textsOf(last.state)], ["mine", [LONG[0]]]);
+});
+
+test("what a broken database doesn't hand out stays where it is, and that is said", async () => {
+  const browser = new OneTab();
+  await worked(browser, LONG[0]);
+  browser.leave();
+  browser.database.isBroken = true;
+  const next = await Visit.of();
+  assert.match(next.told, /^What this browser kept of an earlier visit can't be read by this page/);
+  next.act(withGame, LONG[1]);
+  await next.written();
+  browser.database.isBroken = false;
+  next.act(withGame, LONG[2]);
+  await next.written();
+  assert.deepEqual([...browser.database.entries.values()].map(({ text }) => text).sort(), [LONG[0], LONG[2]].sort());
+});
+
+test("what a broken database doesn't take is noted", async () => {
+  const browser = new OneTab();
+  browser.database.isBroken = true;
+  const visit = await Visit.of();
+  visit.act(withGame, LONG[0]);
+  await visit.written();
+  assert.deepEqual([visit.kept.at(-1), Object.values(browser.notes.room.items).length], [false, 1]);
+});
+
+test("keys that wait are kept", async () => {
+  const browser = new OneTab(), visit = await worked(browser), queue = [{ input: 1, behind: null, looked: null }, { input: "undo", behind: 0, looked: 0 }];
+  visit.keep({ ...visit.state, queue });
+  browser.leave();
+  assert.deepEqual((await Visit.of()).state.queue, queue);
+  for (const wrong of [3, [{ input: 9, behind: null, looked: null }], [{ input: 1, behind: "", looked: null }], [null]]) {
+    assert.equal(stateOfVisit([{ name: "work", value: { ...keptOf(beginning(GAME), false), queue: wrong } }], GAME).unreadable, 1);
+  }
+});
+
+test("the page promises what it says once all is kept", () => {
+  const page = readFileSync(new URL("../../web/playground.html", import.meta.url), "utf-8");
+  assert.ok(page.includes(`<p id="promise" role="status">${keepingTold(true)}</p>`));
+});

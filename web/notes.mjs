@@ -1,0 +1,63 @@
+// What is noted of a value where the database doesn't have it yet: a page that is left has no time for that. A browser has little room for notes, so what
+// the database surely has is left out of them.
+const NOTE = "saxtegun-left ";
+const decoder = new TextDecoder("utf-8", { ignoreBOM: true }), encoder = new TextEncoder();
+
+// A value as a text. Bytes of it are those of texts.
+export const textOfValue = (value) => JSON.stringify(value, (_, it) => (it instanceof Uint8Array ? { text: decoder.decode(it) } : it));
+const valueOfText = (text) => JSON.parse(text, (key, it) => (key === "bytes" && it?.text !== undefined ? encoder.encode(it.text) : it));
+
+// The names under which something is noted.
+export function namesNoted() {
+  try {
+    return Object.keys(localStorage).filter((key) => key.startsWith(NOTE)).map((key) => key.slice(NOTE.length));
+  } catch {
+    return [];
+  }
+}
+
+// What is noted under a name, or null.
+export function noted(name) {
+  try {
+    return valueOfText(localStorage.getItem(NOTE + name));
+  } catch {
+    return null;
+  }
+}
+
+export function forgetNote(name) {
+  try {
+    localStorage.removeItem(NOTE + name);
+  } catch {
+    // a later value counts more
+  }
+}
+
+function hasRoom(name, part) {
+  try {
+    localStorage.setItem(NOTE + name, textOfValue(part));
+    return true;
+  } catch {
+    return false;
+  }
+}
+
+// Notes a value under a name, and whether there was room for all of it: else its text and its recording are noted alone. `isThere` says of its file, and
+// of each thing that can be put back, whether the database has it.
+export function noteDown(name, value, isThere) {
+  const { file, ...others } = value, least = { ...others, past: [] };
+  const whole = { ...least, past: value.past.filter((lost) => !isThere(lost)), ...(isThere(file) ? {} : { file }) };
+  if (hasRoom(name, whole)) return true;
+  hasRoom(name, { ...least, work: { ...value.work, opened: null }, isCut: true });
+  return false;
+}
+
+// Whether a note was made behind a value of the database. Earlier pages counted no turns.
+const isBehind = (note, value) => ((note.turn ?? 0) - (value.turn ?? 0) || (note.kept ?? 0) - (value.kept ?? 0)) > 0;
+
+// What the database has together with what was noted since; null where that is nothing.
+export function withNote(value, note) {
+  if (note === null || !isBehind(note, value)) return null;
+  const again = new Set(note.past.map(textOfValue));
+  return { ...value, ...note, past: [...(value.past ?? []).filter((lost) => !again.has(textOfValue(lost))), ...note.past] };
+}
