@@ -1,5 +1,6 @@
 """`saxtegun compare --engines` and `saxtegun shrink` with an engine that crashes, hangs, or writes a line of its own: each is told, with the session and the input."""
 import json
+import sys
 import tempfile
 import unittest
 import unittest.mock
@@ -7,6 +8,7 @@ from pathlib import Path
 from time import monotonic
 
 from day import OnSessions
+from test_why import GAME as YARD, LINE, PUSH
 from tool import run
 from saxtegun.commands import Refused
 from saxtegun.engines import Ended, Reader, answers
@@ -196,6 +198,57 @@ class Shrink(OnEngines):
         out, _, left, _ = self.shrink(self.engine("hang"), [3], [3, "undo", "undo"], source="\n".join([*STEPS_ALONE, "p."]), seconds="2")
         self.assertEqual(left, ["undo"])
         self.assertIn("has no answer after the start: not answered in 2 s\n", out)
+
+
+class Stages(OnSessions):
+    """Two engines over one game, of which the other pushes nothing, and what tells the stages of each."""
+
+    CALLS = {
+        "p": "import stand_in; stand_in.main(False)",
+        "q": "import stand_in; stand_in.PUSH = 'none'; stand_in.main(False)",
+        "s": "import stages_stand_in; stages_stand_in.tell_stages()",
+        "t": "import stand_in, stages_stand_in; stand_in.PUSH = stages_stand_in.PUSH = 'none'; stages_stand_in.tell_stages()",
+        "hangs": "import time; time.sleep(100)",
+        "lies": "print('{}')",
+    }
+
+    def setUp(self):
+        super().setUp()
+        for name, call in self.CALLS.items():
+            self.write(name, f"#!{sys.executable} -B\nimport sys\nsys.path.insert(0, {str(Path(__file__).resolve().parent)!r})\n{call}\n").chmod(0o755)
+        source = YARD.replace("RULE", PUSH)
+        self.sessions = self.write("r.json", json.dumps([["walk", [source, [1, 3, 3], ""]], ["stay", [source, [0], ""]]]))
+
+    def compare(self, *tellers):
+        return run("compare", "--engines", self.room / "p", self.room / "q", *(("--stages", *(self.room / it for it in tellers)) if tellers else ()), self.sessions)
+
+    def test_the_stage_and_the_rule_at_which_they_part_are_named(self):
+        answer = self.compare("s", "t")
+        self.assertEqual((answer.status, answer.errors), (1, ""))
+        lines = answer.out.splitlines()
+        at = lines.index(f"    stages: input 2 (right), early rule on line {LINE}: acts in p, not in q")
+        self.assertEqual(lines[at + 1], f"    in p, line {LINE}: {PUSH}")
+        self.assertEqual(lines[:at], self.compare().out.splitlines()[:at])
+        self.assertEqual(lines[-1], "2 sessions: 1 the same, 1 diverges")
+
+    def test_what_tells_no_stages_leaves_the_frames_told(self):
+        for teller, why in (("lies", "line 1 of what the program of stages wrote is no stage of its input"), ("hangs", "not all stages were looked at, since that took too long")):
+            with self.subTest(teller), unittest.mock.patch("saxtegun.verbs.compare.SECONDS_OF_STAGES", 1.0):
+                answer = self.compare("s", teller)
+                self.assertEqual((answer.status, answer.out.splitlines()[-1]), (1, "2 sessions: 1 the same, 1 diverges"))
+                self.assertIn("    stages: ", answer.out)
+                self.assertTrue(why in answer.out or teller == "hangs", answer.out)
+
+    def test_tellers_are_asked_for_with_engines_and_must_be_there(self):
+        self.assert_refused(run("compare", "--sources", self.sessions, self.sessions, "--stages", "s", "t", self.sessions), "--stages needs --engines")
+        self.assert_refused(run("compare", "--engines", self.room / "p", self.room / "q", "--stages", self.room / "none", self.room / "t", self.sessions), "there is no program at")
+
+    def test_shrinking_keeps_the_rule_at_which_they_part(self):
+        folder = self.room / "small"
+        answer = run("shrink", self.room / "p", self.room / "q", self.sessions, "walk", folder, "--stages", self.room / "s", self.room / "t")
+        self.assertEqual(answer.status, 0, answer.errors)
+        (_, (source, inputs, *_)), = json.loads((folder / "input.json").read_text(encoding="utf-8"))
+        self.assertEqual((inputs, PUSH in source), ([3], True))
 
 
 class Lines(unittest.TestCase):
