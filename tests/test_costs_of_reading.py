@@ -10,7 +10,7 @@ from resource import RUSAGE_SELF, getrusage
 import tool  # puts the package on the path
 from day import OnSessions
 from saxtegun import budget, hanging
-from saxtegun.acting import Text
+from saxtegun.acting import Text, block_told, loops_in
 from saxtegun.culprits import fault_told, repeated_in
 from saxtegun.explaining import told
 from saxtegun.finding import find
@@ -91,6 +91,15 @@ def led(size):
         raise AssertionError(sentence)
 
 
+def loops_told(size):
+    """Tells that each loop of a game acts: its three lines are told by the two words around them."""
+    source = f"{HEAD}RULES\n" + "startloop\n[ Player ] -> [ Player ]\nendloop\n" * size + TAIL
+    loops_in.cache_clear()
+    told_of = [block_told(acts(it), source) for it in range(source.count("\n", 0, source.index("startloop")) + 2, 3 * size + 7, 3)]
+    if len(set(told_of)) != size or told_of[-1] != f"early loop of lines {3 * size + 4} to {3 * size + 6}":
+        raise AssertionError(told_of[-1])
+
+
 # What is read of an input of a size, each from a size on that takes long enough to be timed.
 READINGS = {
     "blanks behind a title": (200_000, lambda size: trimmed("title x" + " " * size + "x")),
@@ -107,6 +116,7 @@ READINGS = {
     "rules": (2000, lambda size: repeated_in(rules(size))),
     "rules, and what is repeated of them": (1000, lambda size: things_of(rules(size))),
     "rules of groups at which two texts part": (1000, led),
+    "loops that act": (1000, loops_told),
     "objects": (2000, lambda size: objects_of(HEAD + "a\nred\n.....\n" * size)),
     "quotes": (50_000, lambda size: find("['a',['" + "\\n" * size + "',[],'']]")),
     "lists that begin": (20_000, lambda size: find('["' * size)),

@@ -19,16 +19,31 @@ class LeavingOut(unittest.TestCase):
     def test_each_rule_and_win_line_is_left_out_in_turn(self):
         leaving = Leaving(SOURCE)
         parts = leaving.parts()
-        self.assertEqual(parts, [(2, "rules", "[ a ] -> [ b ]"), (3, "rules", "+ [ b ] -> [ c ]"), (9, "winconditions", "all a on b")])
+        self.assertEqual([it.text for it in parts], ["[ a ] -> [ b ]", "+ [ b ] -> [ c ]", "late [ c ] ->  [ d ]", "all a on b"])
         self.assertEqual(leaving.without(parts[0]), SOURCE.replace("[ a ] -> [ b ]\n+", "\n "))
         self.assertEqual(leaving.without(parts[1]), SOURCE.replace("+ [ b ] -> [ c ]", ""))
-        self.assertEqual(leaving.without(parts[2]), SOURCE.replace("all a on b", ""))
+        self.assertEqual(leaving.without(parts[2]), SOURCE.replace("late [ c ] -> (aside) [ d ]", "(aside)"))
+        self.assertEqual(leaving.without(parts[3]), SOURCE.replace("all a on b", ""))
 
     def test_a_comment_that_holds_the_same_is_no_rule(self):
         leaving = Leaving("RULES\n([ a ] -> [ b ]) [ a ] -> [ b ]\n(c + d) + [ b ] -> [ c ]\n(late) + (e) [ c ] -> [ d ]\n")
-        first, second = leaving.parts()
-        self.assertEqual(leaving.without(first), "RULES\n() \n(c + d)   [ b ] -> [ c ]\n(late) + (e) [ c ] -> [ d ]\n")
+        first, second, third = leaving.parts()
+        self.assertEqual(leaving.without(first), "RULES\n([ a ] -> [ b ]) \n(c + d)   [ b ] -> [ c ]\n(late) + (e) [ c ] -> [ d ]\n")
         self.assertEqual(leaving.without(second), "RULES\n([ a ] -> [ b ]) [ a ] -> [ b ]\n(c + d) \n(late) + (e) [ c ] -> [ d ]\n")
+        self.assertEqual(leaving.without(third), "RULES\n([ a ] -> [ b ]) [ a ] -> [ b ]\n(c + d) + [ b ] -> [ c ]\n(late) (e)\n")
+
+    def test_comments_stay_where_a_line_goes(self):
+        for rule, left in (
+            ("[ a ] (c) -> [ b ]", "(c)"), ("([ a ]  -> [ b ]) [ a ] (c) -> [ b ]", "([ a ]  -> [ b ]) (c)"), ("\t[ a ] -> (of (two)\nlines) [ b ]", "\t (of (two)\nlines) [ b ]"),
+            ("(of\ntwo lines) [ a ] -> (and\nmore)", "(of\ntwo lines)  (and\nmore)"), ("[ a ] -> message (b) c", ""), ("[ a ] (b) -> message (b", "(b)"), ("[ a ] -> [ b ] ) c", ""),
+        ):  # fmt: skip
+            with self.subTest(rule):
+                leaving = Leaving(f"RULES\n{rule}\nWINCONDITIONS\n")
+                self.assertEqual(leaving.without(leaving.parts()[0]), f"RULES\n{left}\nWINCONDITIONS\n")
+
+    def test_the_next_line_of_a_group_begins_it_behind_its_comments(self):
+        leaving = Leaving("RULES\n[ a ] -> [ b ]\n(a + b) + [ b ] (c) -> [ c ]\n")
+        self.assertEqual(leaving.without(leaving.parts()[0]), "RULES\n\n(a + b)   [ b ] (c) -> [ c ]\n")
 
 
 class Memory(unittest.TestCase):
@@ -106,13 +121,13 @@ class DayOfCoverage(OfAGame):
             self.assertEqual((answer.status, answer.out), (2, ""))
             self.assertIn(f"no session is played over {self.game}, so none of its lines was left out: each has another text\n", answer.errors)
 
-    def test_a_line_that_a_comment_cuts_in_two_is_told(self):
-        """No session needs it, and it is not left out."""
+    def test_a_line_with_a_comment_inside_is_left_out(self):
+        """No session needs it, and each needs the one whose comment holds the text of another."""
         rule = "[ > Player | (so) Wall ] -> [ Player | Wall ]"
-        self.with_rule(f"{RULE}\n{rule}")
+        self.with_rule(f"({rule}) {RULE.replace('->', '(so) ->')}\n{rule}")
         answer = run("coverage", self.game, self.write_entries([self.entries[1]]))
-        self.assertEqual(answer.status, 2)
-        self.assertIn(f"{self.game}:{self.number(rule)}: not left out, since a comment cuts it in two: [ > Player |  Wall ] -> [ Player | Wall ]\n2 lines left out in turn: 0 ", answer.out)
+        self.assertEqual(answer.status, 1)
+        self.assertEqual(answer.out, f"{self.game}:{self.number(rule) + 1}: no session notices it: [ > Player |  Wall ] -> [ Player | Wall ]\n3 lines left out in turn: 1 that no session notices\n")
 
     def test_where_no_session_is_played_there_is_no_answer(self):
         sessions = self.write("refused.json", json.dumps([["a", ["", [], ""]]]))

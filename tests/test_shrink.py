@@ -144,6 +144,13 @@ class Shrink(OnAYard):
         self.assert_refused(run("shrink", self.one, self.room / "none", self.sessions, "idle"), "there is no program at")
         self.assertFalse((self.room / "case").exists())
 
+    def test_what_tells_no_stages_keeps_no_rules(self):
+        teller = self.write("teller", "#!/bin/sh\necho 'no stages' >&2\nexit 2\n")
+        teller.chmod(0o755)
+        answer = self.shrink("a long day*", self.room / "case", "--stages", teller, teller)
+        self.assert_refused(answer, "--stages: a long day in the yard was not played: no stages")
+        self.assertFalse((self.room / "case").exists())
+
 
 class Smaller(unittest.TestCase):
     """What each stage leaves out."""

@@ -3,7 +3,7 @@ import json
 import os
 import shutil
 import unittest
-from time import monotonic, sleep
+from time import monotonic, process_time, sleep
 from unittest import mock
 
 from day import OnSessions
@@ -203,6 +203,26 @@ class Guarded(OfAYard):
         with mock.patch.object(why, "stages_of", nothing), mock.patch.object(why, "SECONDS", 0.05), self.assertRaisesRegex(Refused, "in 0.05 s: name one by --input"):
             why.stop_in(asked, stopped)
         self.assertLess(len(played), 10)
+
+    def test_stages_without_end_are_not_drawn_without_end(self):
+        """A game of 7 KB has two million firings in one input. What the program of stages takes is no time of drawing."""
+        entry = sessions_in("x", json.dumps([["a", [self.text(PUSH).read_text(encoding="utf-8"), [3], ""]]])).entries[0]
+        asked = why.Asked(entry, None, Text(entry.source, "", "columns"), Engine())
+        drawn_lines = []
+
+        def endless(entry, at, engine):
+            begin = process_time()
+            while process_time() < begin + 0.2:
+                pass
+            while True:
+                yield Stage(0, "early", 0, (LINE,), True, (), (), "background:0,\n")
+
+        with mock.patch.multiple(why, stages_of=endless, stages_and_firings_of=endless, show=drawn_lines.append, SECONDS=0.05):
+            for has_firings in (False, True):
+                drawn_lines.clear()
+                with self.assertRaisesRegex(Refused, "^the stages behind are not drawn, since drawing took 0.05 s already: --json writes the lines of all$"):
+                    why.tell_stages(asked, 1, has_firings)
+                self.assertIn(f"early rule on line {LINE}", drawn_lines)
 
     def test_letters_that_a_terminal_obeys_are_told_by_their_numbers(self):
         self.game = self.text(PUSH, title="forged " + json.dumps(line_of(level="back\x1b[2J:0,\n", headings=[[200, 200, "p\x9b2J", "up"], [0, 0, "p\x9b2J", "up"]]) + "\n"))

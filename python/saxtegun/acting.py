@@ -1,6 +1,7 @@
 """A stage of a step in words and in the game's letters: what acted, what changed, and where pieces head."""
 from __future__ import annotations
 
+from bisect import bisect_left
 from functools import lru_cache
 from typing import Dict, List, Mapping, NamedTuple, Optional, Sequence, Tuple, Union
 
@@ -56,14 +57,23 @@ def where_told(entry: Entry, at: int, tick: int = 0) -> str:
 
 
 @lru_cache(maxsize=2)
-def loops_in(source: str) -> List[Repeated]:
-    return [it for it in repeated_in(source) if it.is_loop]
+def loops_in(source: str) -> Tuple[List[int], List[Repeated]]:
+    """The loops of a source in their order, none of which is in another, and before them their first lines."""
+    loops = [it for it in repeated_in(source) if it.is_loop]
+    return [it.first for it in loops], loops
+
+
+def loop_around(source: str, first: int, last: int) -> Optional[Repeated]:
+    """The loop in which these lines stand, or None."""
+    begins, loops = loops_in(source)
+    place = bisect_left(begins, first)
+    return loops[place - 1] if place and last < loops[place - 1].last else None
 
 
 def block_told(stage: Stage, source: str) -> str:
     """A group, a loop or a rule, by its lines."""
     first, last = min(stage.lines, default=0), max(stage.lines, default=0)
-    loop = next((it for it in loops_in(source) if it.first < first and last < it.last), None)
+    loop = loop_around(source, first, last)
     if loop is not None:
         return f"{stage.name} loop of lines {loop.first} to {loop.last}"
     return f"{stage.name} rule on line {first}" if first == last else f"{stage.name} group of lines {first} to {last}"

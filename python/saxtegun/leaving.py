@@ -1,20 +1,20 @@
 """A source with one rule or win line left out, its other lines where they were."""
 from __future__ import annotations
 
-from typing import List, NamedTuple, Sequence
+from typing import List, Sequence
 
 from saxtegun.commands import fold
-from saxtegun.sources import Line, lines_of
+from saxtegun.sources import WHITE, Line, lines_of, outside_comments, trimmed
 
 LOOP_WORDS = ("startloop", "endloop")
 
 
-class Part(NamedTuple):
-    """A line that can be left out."""
-
-    number: int
-    section: str
-    text: str
+def places_of(raw: str, line: Line) -> List[int]:
+    """The places of the letters of a line that stand in no comment, without the white space around them."""
+    head = len(raw) - len(raw.lstrip(WHITE))
+    places = [head + it for it in outside_comments(line.section, line.depth, trimmed(raw))[0]]
+    inked = [at for at, it in enumerate(places) if raw[it] not in WHITE]
+    return places[inked[0] : inked[-1] + 1]
 
 
 class Leaving:
@@ -26,26 +26,20 @@ class Leaving:
         # the rule that would begin a group where another that began it is left out
         self.heirs = {one.number: other for one, other in zip(rules, rules[1:]) if not one.text.startswith("+") and other.text.startswith("+")}
 
-    def parts(self) -> List[Part]:
-        """Each rule and win line that can be left out. One that a comment cuts in two is not among them."""
-        return [Part(*it) for it in parts_in(self.lines) if self.is_whole(it)]
+    def parts(self) -> List[Line]:
+        """Each rule and win line."""
+        return parts_in(self.lines)
 
-    def cut_in_two(self) -> List[Part]:
-        """Each rule and win line that a comment cuts in two."""
-        return [Part(*it) for it in parts_in(self.lines) if not self.is_whole(it)]
-
-    def is_whole(self, line: Line) -> bool:
-        return line.text in self.raw[line.number - 1]
-
-    def without(self, part: Part) -> str:
-        """The source without a line. Where it began a group, the next line of the group begins it."""
+    def without(self, part: Line) -> str:
+        """The source without a line, whose comments stay. Where it began a group, the next line of the group begins it."""
         raw = list(self.raw)
-        # a comment before it may hold the same text, or a plus
-        raw[part.number - 1] = raw[part.number - 1].replace(part.text, "")
+        gone = set(places_of(raw[part.number - 1], part))
+        raw[part.number - 1] = "".join(letter for at, letter in enumerate(raw[part.number - 1]) if at not in gone)
         heir = self.heirs.get(part.number)
         if heir is not None:
             line = raw[heir.number - 1]
-            raw[heir.number - 1] = line.replace(heir.text, f" {heir.text[1:]}") if heir.text in line else line.replace("+", " ", 1)
+            plus = places_of(line, heir)[0]
+            raw[heir.number - 1] = f"{line[:plus]} {line[plus + 1 :]}"
         return "\n".join(raw)
 
 

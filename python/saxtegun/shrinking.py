@@ -49,7 +49,8 @@ class Programs(NamedTuple):
         return Programs(one, other, self.tellers)
 
     def way(self, entry: Entry, one: Run, other: Run, wanted: Optional[Way] = None) -> Optional[Way]:
-        """In which way they part on an entry; where their stages are told, also by the rules of the first that parts, unless the rest isn't what is wanted."""
+        """In which way they part on an entry; where their stages are told, also by the rules of the first that parts, unless the rest isn't what is wanted.
+        Refused where these can't be told, unless it is known already what is wanted: nothing could be held to them."""
         way = way_of(one, other)
         if way is None or not self.tellers or fails(way) or (wanted is not None and wanted[: len(way)] != way):
             return way
@@ -59,12 +60,14 @@ class Programs(NamedTuple):
         sides = Side("one", entry, text, self.tellers[0]), Side("the other", entry, text, self.tellers[1])
         try:
             return (*way, rules_that_part(sides, (one, other), parting_of(one, other), self.one, SECONDS))
-        except Refused:
-            return (*way, ())
+        except Refused as why:
+            if wanted is None:
+                raise Refused(f"--stages: {why}") from None
+            return None
 
-    def ways(self, entries: Sequence[Entry]) -> List[Optional[Way]]:
+    def ways(self, entries: Sequence[Entry], wanted: Optional[Way] = None) -> List[Optional[Way]]:
         """In which way they part on each of these."""
-        return [self.way(entry, *runs) for entry, runs in zip(entries, self.pairs(entries))]
+        return [self.way(entry, *runs, wanted) for entry, runs in zip(entries, self.pairs(entries))]
 
 
 def close_of(run: Run) -> Tuple[str, str]:

@@ -18,11 +18,12 @@ CLOCK = "realtime_interval"
 
 
 class Line(NamedTuple):
-    """A line of a source without its comments."""
+    """A line of a source without its comments, and how many brackets are open before it."""
 
     number: int
     section: str
     text: str
+    depth: int = 0
 
 
 def trimmed(text: str) -> str:
@@ -51,11 +52,9 @@ def is_plain_from(section: str, is_first: bool, word: str, letter: str) -> bool:
     return False
 
 
-def without_comments(section: str, depth: int, line: str) -> Tuple[str, int]:
-    """A line without its comments, and how many brackets are open behind it, where so many are before it."""
-    if depth == 0 and "(" not in line:
-        return line, 0
-    left: List[str] = []
+def outside_comments(section: str, depth: int, line: str) -> Tuple[List[int], int]:
+    """The places of the letters of a line that stand in no comment, and how many brackets are open behind it, where so many are before it."""
+    places: List[int] = []
     word, is_first = "", True
     for at, letter in enumerate(line):
         if depth:
@@ -63,13 +62,21 @@ def without_comments(section: str, depth: int, line: str) -> Tuple[str, int]:
         elif letter == "(":
             depth = 1
         elif is_plain_from(section, is_first, word, letter):
-            return "".join(left) + line[at:], 0
+            return [*places, *range(at, len(line))], 0
         else:
-            left.append(letter)
+            places.append(at)
             ends = ends_word(section, is_first, word, letter)
             is_first = is_first and (not ends or (not word and bool(SPACE.match(letter))))
             word = "" if ends else (word + letter)[-WORD_KEPT:]
-    return "".join(left), depth
+    return places, depth
+
+
+def without_comments(section: str, depth: int, line: str) -> Tuple[str, int]:
+    """A line without its comments, and how many brackets are open behind it, where so many are before it."""
+    if depth == 0 and "(" not in line:
+        return line, 0
+    places, behind = outside_comments(section, depth, line)
+    return "".join(line[it] for it in places), behind
 
 
 @lru_cache(maxsize=8)
@@ -104,7 +111,7 @@ def read_source(source: str) -> Tuple[List[Line], List[str]]:
             section = heading
             headings.append(heading)
         elif not is_left_out:
-            lines.append(Line(number, section, text))
+            lines.append(Line(number, section, text, before))
     return lines, headings
 
 

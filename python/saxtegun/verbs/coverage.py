@@ -7,8 +7,7 @@ plays the suite again.
 
 A session notices that a line is gone if it closes differently; with a win line
 also if it wins differently. The lines of a game whose sessions are all refused
-are not tried, nor are lines without which the rest is refused. A line that a
-comment cuts in two is not tried either: move the comment to its end.
+are not tried, nor are lines without which the rest is refused.
 
 Exit status: 0 each line is noticed by some session, 1 some line by none, 2
 there is no whole answer."""
@@ -22,12 +21,13 @@ from saxtegun.commands import Refused, add_playing, add_ticks, cut, plural, prin
 from saxtegun.explaining import source_told
 from saxtegun.files import guard_output
 from saxtegun.games import game_of
-from saxtegun.leaving import Leaving, Part
+from saxtegun.leaving import Leaving
 from saxtegun.lines import UNANSWERED, Run
 from saxtegun.levelsets import wins_of
 from saxtegun.playing import engine_of, runs_played
 from saxtegun.sessions import Entry, Sessions, read_sessions
 from saxtegun.solving import MOST_INPUTS, ONE_MORE
+from saxtegun.sources import Line
 from saxtegun.texts import GameText, over, read_game, say_others
 
 USAGE = "coverage [GAME.txt] SESSIONS.json [--order rows|columns] [--workers N]"
@@ -56,7 +56,7 @@ class Trial(NamedTuple):
     of them would need much more memory than the game."""
 
     source: str
-    part: Part
+    part: Line
     entries: List[Entry]
 
 
@@ -118,7 +118,6 @@ class Coverage:
         self.sessions, self.given, self.text = sessions, given, text
         self.before: Dict[int, Tuple[Signature, Signature]] = {}
         self.unnoticed: List[Trial] = []
-        self.untried: List[Trial] = []
         self.tried, self.alone = 0, 0
 
     def signatures(self, entries: List[Entry]) -> List[Tuple[Signature, Signature]]:
@@ -139,9 +138,7 @@ class Coverage:
             raise Refused(f"no session is played over {self.text.path}, so none of its lines was left out: {self.unplayed_over(self.text)}")
         trials: List[Trial] = []
         for source, entries in of.items():
-            it = Leaving(source)
-            trials += [Trial(source, part, entries) for part in it.parts()]
-            self.untried += [Trial(source, part, entries) for part in it.cut_in_two()]
+            trials += [Trial(source, part, entries) for part in Leaving(source).parts()]
         return trials
 
     def unplayed_over(self, text: GameText) -> str:
@@ -189,10 +186,8 @@ def main(given: Namespace) -> int:
     coverage.run()
     for trial in coverage.unnoticed:
         print(printable(f"{coverage.place(trial)}: no session notices it: {cut(trial.part.text)}"))
-    for trial in coverage.untried:
-        print(printable(f"{coverage.place(trial)}: not left out, since a comment cuts it in two: {cut(trial.part.text)}"))
     sources: Set[str] = {it.source for it in coverage.unnoticed}
     alone = f", {plural(coverage.alone, 'line')} can't be left out alone" if coverage.alone else ""
     games = f" in {plural(len(sources), 'source')}" if len(sources) > 1 else ""
     print(f"{plural(coverage.tried, 'line')} left out in turn: {len(coverage.unnoticed)} that no session notices{games}{alone}")
-    return 1 if coverage.unnoticed else 2 if coverage.untried else 0
+    return 1 if coverage.unnoticed else 0

@@ -123,7 +123,7 @@ def write_case(folder: str, files: Dict[str, bytes]) -> None:
 def started_with(programs: Programs, found: Found) -> Entry:
     """Where shrinking begins: without the inputs behind the parting, if that is one still."""
     shorter = cut_behind(found.entry, parting_of(found.one, found.other), found.one, found.other)
-    return shorter if programs.ways([shorter]) == [found.way] else found.entry
+    return shorter if programs.ways([shorter], found.way) == [found.way] else found.entry
 
 
 def tell(entry: Entry, programs: Programs, given: Namespace) -> Run:

@@ -23,7 +23,7 @@ from __future__ import annotations
 import re
 import sys
 from argparse import ArgumentParser, ArgumentTypeError, Namespace
-from time import monotonic
+from time import monotonic, process_time
 from typing import NamedTuple, Optional
 
 from saxtegun.acting import Acted, Text, told_of, where_told
@@ -152,12 +152,16 @@ def no_stages_told(asked: Asked, at: int) -> str:
 
 
 def tell_stages(asked: Asked, at: int, has_firings: bool) -> None:
-    """Draws the stages of an input, one after the other, and the firings too where these are asked for."""
+    """Draws the stages of an input, one after the other, and the firings too where these are asked for. Refused where drawing takes too long: a small game may
+    have millions of them. Whoever reads slowly takes no time of the processor."""
     before: Optional[Acted] = None
-    count = 0
+    count, end = 0, 0.0
     show(f"session {asked.entry.number}, {cut(asked.entry.name)}: {where_told(asked.entry, at)}")
     tells = stages_and_firings_of if has_firings else stages_of
     for it in tells(asked.entry, at, asked.engine):
+        end = end or process_time() + SECONDS
+        if process_time() > end:
+            raise Refused(f"the stages behind are not drawn, since drawing took {SECONDS:g} s already: --json writes the lines of all")
         for line in told_of(it, before, asked.entry, at, asked.text):
             show(line)
         before = before if isinstance(it, Stop) else it
