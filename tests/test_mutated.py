@@ -5,6 +5,7 @@ import json
 import os
 import random
 import shutil
+import tempfile
 import unittest
 from unittest import mock
 
@@ -74,8 +75,8 @@ class Mutated(OnSessions):
 
     def answer(self, *words):
         """The status of a verb, called within this process; a refusal is 2, and anything else that it raises fails the test."""
-        output = io.TextIOWrapper(io.BytesIO(), encoding="utf-8")
-        with mock.patch("sys.argv", ["saxtegun", *words]), contextlib.redirect_stdout(output), contextlib.redirect_stderr(io.StringIO()):
+        output = tempfile.TemporaryFile("w", encoding="utf-8")
+        with output, mock.patch("sys.argv", ["saxtegun", *words]), contextlib.redirect_stdout(output), contextlib.redirect_stderr(io.StringIO()):
             try:
                 return calling.main()
             except Refused:
