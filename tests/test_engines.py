@@ -179,7 +179,7 @@ class Shrink(OnEngines):
         self.assertLessEqual(len(source[-1]), 3)
         self.assertIn("frame 4, after input 3 (restart)\n", out)
         # (20 s on a quiet machine; the gate's proofs run beside this)
-        self.assertLess(seconds, 90)
+        self.assertLess(seconds, 300)
 
     def test_a_crash_shrinks(self):
         out, source, left, _ = self.shrink(self.engine("crash", True), [3], [3, 1, "undo", 3, "undo", "undo", "undo", 3])
