@@ -26,10 +26,10 @@ SUMS = "SHA256SUMS"
 RELEASED = "released"
 # Who made this and its parts, and under which terms: it goes wherever a part of others goes.
 NOTICES = "NOTICES"
-MOST_RELEASED = 1_100_000
+MOST_RELEASED = 1_150_000
 GATE_ENDED = "The gate, ./check, passed on that commit; so its parts ended:"
 # The engine for Node and for pages, beside its module.
-GLUE = ["engine/saxtegun.mjs", "engine/saxtegun.d.ts", "engine/replay.mjs", "engine/stages.mjs", "engine/streams.mjs"]
+GLUE = ["engine/saxtegun.mjs", "engine/saxtegun.d.ts", "engine/replay.mjs", "engine/stages.mjs", "engine/describe.mjs", "engine/streams.mjs"]
 # What stands in a release as it stands here: the command with its package, the examples, and the documents for users.
 TAKEN = ["saxtegun", "VERSION", "README.md", "CHANGELOG.md", "CONTRIBUTING.md", "SECURITY.md", NOTICES, "python", "web", "examples", "docs", "adapters", "HANDLES", *GLUE]
 
@@ -202,7 +202,7 @@ def engine_files(top: Path, files: Dict[str, File], version: str) -> Dict[str, F
         "type": "module",
         "exports": {".": {"types": "./saxtegun.d.ts", "default": "./saxtegun.mjs"}, "./out/saxtegun.wasm": "./out/saxtegun.wasm"},
         "types": "./saxtegun.d.ts",
-        "bin": {"saxtegun-replay": "replay.mjs", "saxtegun-stages": "stages.mjs"},
+        "bin": {"saxtegun-replay": "replay.mjs", "saxtegun-stages": "stages.mjs", "saxtegun-describe": "describe.mjs"},
         "engines": {"node": ">=20"},
     }
     packed = {path.partition("/")[2]: files[path] for path in [*GLUE, MODULE]}

@@ -9,7 +9,7 @@ export interface Answer {
   /**
    * Why the file was refused, and else null: `not-json`, `bad-entry N`, `bad-level N`, `too-many` as docs/sessions.md has them; `memory`, where memory was
    * refused; `broken`, where the module stopped at a fault, its own or that of what it was built by, or a worker could not be started; `no-stages`, where
-   * stages or firings were asked of an older module, which gives none.
+   * stages or firings were asked of an older module, which gives none; `no-descriptions`, where a description was.
    */
   fault: string | null;
 }
@@ -98,6 +98,37 @@ export interface Stop {
   stop: string;
 }
 
+/**
+ * What the engine has read of a source. Lines are numbered from 1. Words of the prelude, of OBJECTS, LEGEND and LEVELS are told as they are written, those of
+ * layers, rules and win lines in lower case. A section whose heading comes again is told up to that. A source whose
+ * rules alone are refused has no program; one that is refused before them has no `layer`, `kind` or `members` either. Of one that is too long no line is told.
+ */
+export interface Description {
+  /** The first fault, by its code as in `refused BadRule:3`, and its line; line 0 is the whole source. */
+  fault: { code: string; line: number } | null;
+  /** Each layer, by its names. */
+  layers: { line: number; names: string[] }[];
+  /** Each definition of LEGEND: the words on both sides of its `=`, and what the name denotes, its members by their places in `objects`. */
+  legend: { left: string[]; line: number; right: string[]; kind?: 'object' | 'property' | 'aggregate'; members?: number[] }[];
+  /** The entries of LEVELS, as an index counts them: a message or a level, whose first row says how wide it is. */
+  levels: ({ line: number; message: string } | { line: number; rows: string[] })[];
+  /** Each line that isn't left out: its number, its section by the word of its heading, whether it is that heading, and its text without comments. */
+  lines: [number, string, boolean, string][];
+  /** Each object: all its names, the words of its colours, the rows of its sprite, and its layer, from 0. There are at most 512. */
+  objects: { colours: string[]; layer?: number; line: number; names: string[]; sprite: string[] }[];
+  /** The lines of the prelude: number, keyword, value. */
+  prelude: [number, string, string][];
+  /** The blocks before the movement and those after it: a group, or a loop of groups; of a group for each instance the line of its rule. */
+  program: { early: Block[]; late: Block[] } | null;
+  rules: { line: number; words: string[] }[];
+  wins: { line: number; words: string[] }[];
+}
+
+export interface Block {
+  groups: number[][];
+  loop: boolean;
+}
+
 export interface WorkerOptions extends Options {
   /** How many workers play at once, 1 to 64; where it is left out, one fewer than there are processors. */
   workers?: number;
@@ -122,6 +153,13 @@ export interface Engine {
   stages(session: Session, input: number, options?: StageOptions): { stages: (Stage | Firing | Stop)[]; fault: string | null };
   /** The lines of the stages of an input, of a session of a file that is numbered from 0. The status of an answer is 0 or 2. */
   stagesOf(text: string | ArrayBuffer | ArrayBufferView, session: number, input: number, options?: StageOptions): Answer;
+  /** Whether the module describes sources. */
+  readonly hasDescriptions: boolean;
+  /** What the engine has read of a source. Where there is a fault, not of the source but of the call, the description is null: `memory`, `not-json` of bytes that
+   * are no text, `too-many` of more than 16 MiB, `no-descriptions` of an older module. */
+  description(source: string | ArrayBuffer | ArrayBufferView): { description: Description | null; fault: string | null };
+  /** The same as bytes of JSON. The status of an answer is 0 or 2. */
+  descriptionOf(source: string | ArrayBuffer | ArrayBufferView): Answer;
   /** Plays a file in workers of its own, cut into files of consecutive sessions. The answer is that of `replay`. */
   replayInWorkers(text: string | ArrayBuffer | ArrayBufferView, options?: WorkerOptions): Promise<Answer>;
 }

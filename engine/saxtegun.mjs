@@ -19,7 +19,7 @@ const OUTCOME_BYTES = 24;
 const MOST_WORKERS = 64;
 const PARTS_OF_A_WORKER = 8;
 const WORKER = 'saxtegun-worker';
-const STAGES = 'saxtegun_stages', FIRINGS = 'saxtegun_firings'; // exports that older modules don't have
+const STAGES = 'saxtegun_stages', FIRINGS = 'saxtegun_firings', DESCRIPTION = 'saxtegun_description'; // exports that older modules don't have
 const MOST_NUMBER = 0xffff_ffff; // that the module is told; no file has so many sessions or inputs
 
 const isNode = typeof process === 'object' && typeof process.versions?.node === 'string';
@@ -47,7 +47,7 @@ function bytesOf(text) {
   // also one of another frame
   if (Object.prototype.toString.call(text) === '[object ArrayBuffer]') return new Uint8Array(text).subarray(0, MOST_BYTES + 1);
   if (ArrayBuffer.isView(text)) return new Uint8Array(text.buffer, text.byteOffset, Math.min(text.byteLength, MOST_BYTES + 1));
-  throw new TypeError('a sessions file is a string or bytes');
+  throw new TypeError('a sessions file, and a source, is a string or bytes');
 }
 
 function numberOf(order) {
@@ -88,7 +88,7 @@ class Instance {
     return { at: this.#exports.take_room(size) >>> 0, size };
   }
 
-  /** Asks a function of the module about a file, once again where the room was too small for the lines. */
+  /** Asks a function of the module about a file or a source, once again where the room was too small for the lines. */
   ask(file, call) {
     const input = this.#take(file.length);
     const outcome = this.#take(OUTCOME_BYTES);
@@ -168,6 +168,21 @@ class Engine {
     return valuesOf('stages', this.stagesOf(fileOfOne(session), 0, input, options));
   }
 
+  get hasDescriptions() {
+    return this.#has(DESCRIPTION);
+  }
+
+  descriptionOf(source) {
+    if (!this.#has(DESCRIPTION)) return refused('no-descriptions');
+    if (bytesOf(source)?.length > MOST_BYTES) return refused('too-many');
+    return this.#ask(source, (exports, input, room, outcome) =>
+      exports[DESCRIPTION](input.at, BigInt(input.size), room.at, BigInt(room.size), outcome));
+  }
+
+  description(source) {
+    return valueOf('description', this.descriptionOf(source));
+  }
+
   async replayInWorkers(text, { order = 'columns', workers = idleProcessors(), progress = () => {}, signal } = {}) {
     numberOf(order);
     if (!Number.isInteger(workers) || workers < 1 || workers > MOST_WORKERS) throw new TypeError(`there are 1 to ${MOST_WORKERS} workers`);
@@ -239,6 +254,16 @@ function valuesOf(name, { lines, fault }) {
     return { [name]: parse(lines), fault };
   } catch (error) {
     return { [name]: [], fault: faultOf(error) };
+  }
+}
+
+/** The value of an answer's text by a name, with its fault. */
+function valueOf(name, { lines, fault }) {
+  if (fault !== null) return { [name]: null, fault };
+  try {
+    return { [name]: JSON.parse(new TextDecoder().decode(lines)), fault };
+  } catch (error) {
+    return { [name]: null, fault: faultOf(error) };
   }
 }
 

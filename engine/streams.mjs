@@ -78,10 +78,10 @@ export async function run(command) {
   try {
     process.exitCode = await command(process.argv.slice(2));
   } catch (error) {
+    // an error that is thrown on would end this with 1, which says that some sessions did not pass
     process.exitCode = 2;
-    if (!(error instanceof Refusal)) throw error;
     try {
-      patiently(() => writeSync(2, `${error.message}\n`));
+      patiently(() => writeSync(2, `${error instanceof Refusal ? error.message : error.stack}\n`));
     } catch {
       // nobody can be told
     }

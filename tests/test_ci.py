@@ -109,7 +109,7 @@ class Runner:
         self.work.mkdir(parents=True)
         self.temp.mkdir()
         known = {name: value for name, value in os.environ.items() if name == "HOME" or name.startswith("LANG")}
-        self.env = {**known, "PATH": f"{Path(sys.executable).parent}:/usr/bin:/bin", "GITHUB_WORKSPACE": str(self.work), "RUNNER_TEMP": str(self.temp), **dict(env)}
+        self.env = {**known, "PATH": f"{Path(sys.executable).parent}:/usr/bin:/bin", "GITHUB_WORKSPACE": str(self.work), "RUNNER_TEMP": str(self.temp), "TMPDIR": str(self.temp), **dict(env)}
         for name in ("GITHUB_PATH", "GITHUB_OUTPUT", "GITHUB_STEP_SUMMARY"):
             self.env[name] = str(room / name)
             (room / name).touch()
@@ -278,8 +278,29 @@ class InACi(unittest.TestCase):
         self.assertEqual((runner.work / "lines").read_text(encoding="utf-8"), (TOP / "examples/day.lines").read_text(encoding="utf-8"))
         self.assertIn("a recording that has gone stale", (runner.work / "report.html").read_text(encoding="utf-8"))
 
+    def gitlab_job(self):
+        return next(it["replay"] for it in files_of_page() if "script" in it.get("replay", {}))
+
+    def test_nothing_that_a_repository_has_takes_a_part_of_the_release(self):
+        """A checkout has modules of Python's names, a package in the place of a module, a command, and a link by the name of what is fetched."""
+        job, kept = self.gitlab_job(), self.kept / "kept"
+        kept.write_text("kept")
+        runners = [self.runner(env={**job["variables"], "FROM": self.address, "SHA256": self.sum}), self.runner()]
+        for runner in runners:
+            release = runner.work / f"saxtegun-{self.version}-linux-x86_64"
+            for path in ("argparse.py", "python/argparse.py", "python/pathlib.py", "python/saxtegun/commands/__init__.py", "saxtegun"):
+                put(release / path, b"#!/usr/bin/env python3\nraise SystemExit(0)\n")
+            shutil.copy(release / "argparse.py", runner.work)
+            (runner.work / "archive.tar.gz").symlink_to(kept)
+        by_script = runners[0].run({"run": "\n".join(job["script"])})
+        _, by_action, _ = self.act(runners[1], sha256=self.sum)
+        for status, out, errors in (by_script, by_action):
+            self.assertEqual(status, 1, errors)
+            self.assertIn("5 sessions: 4 passed, 1 differs", out)
+        self.assertEqual(kept.read_text(), "kept")
+
     def test_the_job_for_gitlab_runs(self):
-        job = next(it["replay"] for it in files_of_page() if "script" in it.get("replay", {}))
+        job = self.gitlab_job()
         runner = self.runner(env={**job["variables"], "FROM": self.address, "SHA256": self.sum})
         status, out, errors = runner.run({"run": "\n".join(job["script"])})
         self.assertEqual((status, errors), (1, ""))
@@ -302,9 +323,10 @@ class InACi(unittest.TestCase):
         runner = self.runner()
         ended = [self.do(runner, step, kept) for step in jobs["replay"]["steps"]]
         self.assertEqual([it[0] for it in ended if it][-1], 1)
-        self.assertEqual((runner.work / "lines").read_text(encoding="utf-8"), lines_of_example(EXAMPLE.read_text(encoding="utf-8")))
-        for path in next(it["with"]["path"] for it in jobs["replay"]["steps"] if "upload" in it.get("uses", "")).split():
-            self.assertTrue((runner.work / path).is_file(), path)
+        self.assertEqual((runner.temp / "lines").read_text(encoding="utf-8"), lines_of_example(EXAMPLE.read_text(encoding="utf-8")))
+        runner.values["runner.temp"] = str(runner.temp)
+        for path in next(it["with"]["path"] for it in jobs["replay"]["steps"] if "upload" in it.get("uses", "")).splitlines():
+            self.assertTrue(Path(runner.filled(path)).is_file(), path)
 
     def do(self, runner, step, kept=None):
         """Does a step of the matrix: the action, its shell, or what a download puts there."""

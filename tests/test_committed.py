@@ -1,8 +1,11 @@
 """`saxtegun test` in a git folder: where a session that broke parts from the committed text, and that a hostile repository runs nothing."""
+import hashlib
 import json
+import os
 import shutil
 import subprocess
 import unittest
+import zlib
 from time import sleep
 from unittest import mock
 
@@ -136,6 +139,43 @@ class Hostile(InAGitFolder):
                 git(self.room, "cat-file", "blob", "HEAD:./game.txt")
                 self.assertTrue(trace.exists(), "the trap isn't set")
                 trace.unlink()
+
+    def test_no_protocol_is_allowed(self):
+        """A protocol may have any name, also none: a program of that name speaks it."""
+        for name in ("none", ""):
+            program, trace = self.hacks("speak")
+            program.rename(self.room / f"git-remote-{name}")
+            for environment, is_trapped in ({**committed.OFFLINE}, False), ({"GIT_ALLOW_PROTOCOL": name}, True):
+                words = ["git", "-C", self.room, "-c", "remote.origin.url=/x", "-c", f"remote.origin.vcs={name}", "fetch", "origin"]
+                subprocess.run(words, stdout=subprocess.PIPE, stderr=subprocess.PIPE, env={**os.environ, "PATH": f"{self.room}:{os.environ['PATH']}", **environment})
+                self.assertEqual(trace.exists(), is_trapped, name)
+            trace.unlink()
+
+    @unittest.skipUnless(committed.BOUND, "there is no shell")
+    def test_a_commit_that_grows_takes_no_memory(self):
+        """A commit of some megabytes that is larger than the memory of git once it is read."""
+        piece, count = b" " * 2**20, committed.MOST_MEMORY // 2**20
+        head = git(self.room, "cat-file", "commit", "HEAD").stdout
+        begin = b"commit %d\0" % (len(head) + count * len(piece)) + head
+        packer, digest = zlib.compressobj(1), hashlib.sha1(begin)
+        packed = packer.compress(begin)
+        for _ in range(count):
+            packed += packer.compress(piece)
+            digest.update(piece)
+        name = digest.hexdigest()
+        file = self.room / ".git/objects" / name[:2] / name[2:]
+        file.parent.mkdir(exist_ok=True)
+        file.write_bytes(packed + packer.flush())
+        self.assertEqual(committed_text(str(self.game)), self.source)
+        (self.room / ".git/HEAD").write_text(f"{name}\n", encoding="ascii")
+        self.assertIsNone(committed_text(str(self.game)))
+
+    def test_the_time_is_that_of_all_answers(self):
+        self.write("git", "#!/bin/sh\nsleep 0.4\necho 5\n").chmod(0o755)
+        with mock.patch.dict(committed.os.environ, PATH=f"{self.room}:{os.environ['PATH']}"):
+            for seconds, text in ((5, "5\n"), (0.6, None)):
+                with mock.patch.object(committed, "SECONDS", seconds):
+                    self.assertEqual(committed_text(str(self.game)), text)
 
     def test_the_environment_names_no_other_repository(self):
         words = {"GIT_DIR": "/nowhere", "GIT_OBJECT_DIRECTORY": "/nowhere", "GIT_ALLOW_PROTOCOL": "ext"}

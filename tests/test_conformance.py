@@ -6,6 +6,7 @@ import unittest
 from fnmatch import fnmatchcase
 from xml.etree import ElementTree
 
+from test_guarding import is_command
 from tool import CASES, TOP, InARoom
 
 RUN = TOP / "conformance/run"
@@ -14,7 +15,10 @@ UNDO = "undo-with-nothing-past-then-undo-of-a-move"
 
 class Runner(InARoom):
     def program(self, script):
-        path = self.room / "program"
+        return self.program_at("program", script)
+
+    def program_at(self, name, script):
+        path = self.room / name
         path.write_text(f"#!/bin/sh\n{script}\n", encoding="utf-8")
         path.chmod(0o755)
         return path
@@ -49,6 +53,14 @@ class Runner(InARoom):
     def test_a_line_that_is_none_is_told(self):
         for change, wanted in ((lambda it: "no line\n" + it, "answered: no line"), (lambda it: "", "answered: nothing"), (lambda it: it + "\x1b[2J\n", "answered: \\u{1b}[2J")):
             self.assertIn(wanted, self.ran("--only", UNDO, self.answers(UNDO, change))[1])
+
+    def test_no_word_of_a_program_or_of_a_call_is_a_command_of_a_ci(self):
+        program = self.program("echo '##[error]x'; echo '::error::y' >&2")
+        for words in (("--only", UNDO, program), ("--both", program, self.program_at("other", "echo '##vso[task]'"), CASES / UNDO / "input.json"), ("##[group]none",)):
+            status, out, errors = self.ran(*words)
+            with self.subTest(words=words):
+                self.assertEqual((status, [it for it in (out + errors).splitlines() if is_command(it)]), (2 if len(words) == 1 else 1, []))
+                self.assertIn("#\\u{23}[", out + errors)
 
     def test_a_status_and_a_word_of_failure_are_told(self):
         status, out, _ = self.ran("--only", "file-with-a-fraction", self.program("echo memory >&2; exit 3"))

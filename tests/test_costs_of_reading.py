@@ -1,30 +1,38 @@
 """What explaining costs: not much more than twice as much for an input of twice the size, and with one budget of time for all of it."""
+import gc
 import io
 import json
+import subprocess
+import sys
 import tempfile
 import unittest
 from contextlib import redirect_stderr
 from pathlib import Path
 from resource import RUSAGE_SELF, getrusage
+from time import monotonic, sleep
 
-import tool  # puts the package on the path
 from day import OnSessions
-from saxtegun import budget, hanging
-from saxtegun.acting import Text, block_told, loops_in
+from tool import TOP  # which puts the package on the path
+from saxtegun import budget, differences, hanging
+from saxtegun.acting import Text, block_told, drawn
+from saxtegun.belonging import Tests, start_fault
 from saxtegun.culprits import fault_told, repeated_in
 from saxtegun.explaining import told
 from saxtegun.finding import find
-from saxtegun.games import Game
-from saxtegun.hanging import Finder, things_of
+from saxtegun.games import MOST_NAMES, Game
+from saxtegun.hanging import Finder, source_from, things_of
 from saxtegun.leading import Parted, Side, Telling
-from saxtegun.levelsets import drawn_columns
+from saxtegun.levelsets import drawn_columns, drawn_start, level_of_recorded
 from saxtegun.lines import Frame, Run
+from saxtegun.pages import source_lines
 from saxtegun.playing import Engine
 from saxtegun.sessions import sessions_in
+from saxtegun.smaller import blocks_of_levels, of_columns
 from saxtegun.smaller import things_of as objects_of
 from saxtegun.sources import lines_of, trimmed
 from saxtegun.stages import Stage
-from saxtegun.texts import GameText, of_another_text, plain_text
+from saxtegun.terminal import Depth, lettered, painted
+from saxtegun.texts import GameText, of_another_text
 from saxtegun.verbs.add import add_to
 
 HEAD = "OBJECTS\nBackground .\nblack\nPlayer p\nwhite\n"
@@ -70,7 +78,6 @@ def added(size):
 def held_against(size):
     """Looks which of many texts is the one at hand."""
     entries = sessions_in("x", json.dumps([["a", [f"title {it}", [], ""]] for it in range(size // 100)])).entries
-    plain_text.cache_clear()
     if len(of_another_text(entries, GameText("game.txt", "title x\r\n" * (size // 10)))) != size // 100:
         raise AssertionError("a text is the one at hand")
 
@@ -94,10 +101,108 @@ def led(size):
 def loops_told(size):
     """Tells that each loop of a game acts: its three lines are told by the two words around them."""
     source = f"{HEAD}RULES\n" + "startloop\n[ Player ] -> [ Player ]\nendloop\n" * size + TAIL
-    loops_in.cache_clear()
     told_of = [block_told(acts(it), source) for it in range(source.count("\n", 0, source.index("startloop")) + 2, 3 * size + 7, 3)]
     if len(set(told_of)) != size or told_of[-1] != f"early loop of lines {3 * size + 4} to {3 * size + 6}":
         raise AssertionError(told_of[-1])
+
+
+def started_in(size):
+    """Draws where as many sessions begin as a game has messages, each at another one before its only level."""
+    source = f"{HEAD}{TAIL[:-3]}" + "message x\n" * size + "p" * 100 + "\n"
+    entry = sessions_in("x", json.dumps([["a", [source, [], ""]]])).entries[0]
+    if any(len(drawn_start(entry._replace(index=it), order) or ()) != 100 for it in range(size) for order in ("rows", "columns")):
+        raise AssertionError("it begins elsewhere")
+
+
+def entry_of(source, level="", index=0):
+    return sessions_in("x", json.dumps([["a", [source, [], level, index]]])).entries[0]
+
+
+def level_of(names, cells):
+    """A level text of so many cells of so many names each."""
+    return " ".join(f"a{it}" for it in range(names)) + ":0," + "0," * (cells - 1)
+
+
+def objects_in_layers(count):
+    """OBJECTS with so many objects more, and the layers of all, each in one of its own."""
+    names = [f"a{it}" for it in range(count)]
+    return "OBJECTS\nBackground .\nblack\n\nPlayer p\nwhite\n\n" + "".join(f"{it}\nred\n\n" for it in names), "COLLISIONLAYERS\nBackground\nPlayer\n" + "\n".join(names) + "\n"
+
+
+def rows_of_cells(size):
+    """A level of as many cells as each has names, as it is drawn."""
+    return [[tuple(sorted(f"a{it}" for it in range(size)))] * size]
+
+
+def started(size):
+    """Looks whether the first frame of a run, of as many cells as names in each, is the level that its source draws."""
+    run = Run(0, "a", "differs", None, [Frame(0, "start", level_of(size, size))])
+    if start_fault(entry_of(HEAD + TAIL), run, Tests(order="columns", is_drawn=True)) is None:
+        raise AssertionError("it is that level")
+
+
+def begun_in_levels(size):
+    """Draws where as many sessions begin as a game has objects, each in another level, whose letter draws all of them."""
+    objects, layers = objects_in_layers(size)
+    source = f"{objects}LEGEND\nq = {' and '.join(f'a{it}' for it in range(size))}\n{layers}WINCONDITIONS\nLEVELS\n" + "q\n\n" * size
+    entry = entry_of(source)
+    if any(len((drawn_start(entry._replace(index=it), "columns") or [()])[0]) != size + 1 for it in range(size)):
+        raise AssertionError("other cells are drawn")
+
+
+def likened(size):
+    """Looks which level a recorded one is of, where as many have its size as it has names in a cell."""
+    source = HEAD + TAIL + "\npp\n" * size + "\n..\n" * size
+    level_of_recorded(entry_of(source, level_of(size, 2).replace("a0 ", "player ")), "columns")
+
+
+def property_in_rules(size):
+    """Looks at as many rules as the property in them has objects."""
+    objects, layers = objects_in_layers(size)
+    source = f"{objects}LEGEND\nall = {' or '.join(f'a{it}' for it in range(size))}\n{layers}RULES\n" + "[ > Player | all ] -> [ > Player | > all ]\n" * size + TAIL
+    if differences.placed_told.__wrapped__(source):
+        raise AssertionError("a rule places what moves")
+
+
+def inputs_heeded(size):
+    """Looks whether a game has `noundo`, for as many sessions as it has lines."""
+    entry = entry_of(rules(size))._replace(inputs=["undo"])
+    if any(differences.input_told(entry) for _ in range(size)):
+        raise AssertionError("it has")
+
+
+def acted(size):
+    """Tells what a stage did to a level of as many cells as each has names."""
+    level = level_of(size, size)
+    drawn(acts(7)._replace(level=level), acts(8)._replace(level=level), Text(HEAD + TAIL, "", "columns"), True)
+
+
+def hung_from(size):
+    """Draws a level of as many cells as each has names as the source of what is played."""
+    run = Run(0, "a", "stopped", "loop-limit", [Frame(0, "start", level_of(size, size).replace("a0 ", "background "))])
+    source = HEAD + "COLLISIONLAYERS\nBackground\nPlayer\n" + TAIL
+    source_from(source, hanging.rows_before(run, source, "columns"), frozenset())
+
+
+def shown_in_a_page(cause, size):
+    """Shows of as many sessions of one game as it has rules the lines that their cause is about."""
+    source = rules(size)
+    for _ in range(size):
+        source_lines(source, cause)
+
+
+def read_behind(size):
+    """Reads a session with as many texts behind it, each with the letters of the word that demands, in another order."""
+    if len(sessions_in("x", f"""[["a",["",[],""]{',"devlos","lo"' * size}]]""").entries) != 1:
+        raise AssertionError("it was not read")
+
+
+def narrowed(size):
+    """Takes the first column of each of many levels."""
+    entry = sessions_in("x", json.dumps([["a", [HEAD + "LEVELS\n" + "p.\n\n" * size, [], ""]]])).entries[0]
+    count, without = of_columns(entry)
+    if "p." in without(set(range(0, count, 2))).source.split("LEVELS")[1]:
+        raise AssertionError("a column is still there")
 
 
 # What is read of an input of a size, each from a size on that takes long enough to be timed.
@@ -106,7 +211,7 @@ READINGS = {
     "blanks in a source": (200_000, lambda size: Game("title x" + " " * size + "x\n" + HEAD + TAIL)),
     "returns at the end of a line": (200_000, lambda size: told(Run(0, "a", "refused", "BadRule:1", []), sessions_in("x", json.dumps([["a", ["\r" * size + "x", [], ""]]])).entries[0])),
     "names that stand for one another": (2000, lambda size: Game(legend_chain(size))),
-    "letters that stand for one another": (1000, lambda size: drawn_columns.__wrapped__(legend_of_letters(size), 0)),
+    "letters that stand for one another": (1000, lambda size: drawn_columns.__wrapped__(legend_of_letters(size), 1)),
     "a name that is not there, of many letters": (20_000, lambda size: line_told("Unknown", "[ " + "ab" * size + " ]", f"{'ba' * size}\nred\nRULES\n")),
     "many names that are not there": (500, lambda size: line_told("Unknown", "[ " + " ".join(LETTERS[:size]) + " ]")),
     "many names that are": (2000, lambda size: line_told("Unknown", "[ playr ]", "".join(f"a{it}\nred\n\n" for it in range(size)) + "RULES\n")),
@@ -117,6 +222,11 @@ READINGS = {
     "rules, and what is repeated of them": (1000, lambda size: things_of(rules(size))),
     "rules of groups at which two texts part": (1000, led),
     "loops that act": (1000, loops_told),
+    "sessions that begin at a message": (2000, started_in),
+    "sessions of one game that hang": (200, lambda size: shown_in_a_page("loop-limit", size)),
+    "sessions of one game that is refused": (2000, lambda size: shown_in_a_page("BadRule:9", size)),
+    "rows of a level": (5000, lambda size: blocks_of_levels(HEAD + "LEVELS\n" + "p.\n" * size)),
+    "levels that lose a column": (1000, narrowed),
     "objects": (2000, lambda size: objects_of(HEAD + "a\nred\n.....\n" * size)),
     "quotes": (50_000, lambda size: find("['a',['" + "\\n" * size + "',[],'']]")),
     "lists that begin": (20_000, lambda size: find('["' * size)),
@@ -127,15 +237,69 @@ READINGS = {
     "lists that are cut off": (20_000, lambda size: find('["a"x' * size)),
     "recordings of one name": (2000, added),
     "texts that are held against one": (100_000, held_against),
+    "names of a cell that is recorded": (2000, lambda size: level_of_recorded(entry_of(HEAD + TAIL, level_of(size, size)), "columns")),
+    "names of a cell that is recorded, and levels": (1000, likened),
+    "names of a cell in a first frame": (2000, started),
+    "names of a cell that is painted": (1000, lambda size: painted(Game(objects_in_layers(size)[0]), rows_of_cells(size), Depth.ALL)),
+    "names of a cell that is drawn by letters": (2000, lambda size: lettered(Game(HEAD + TAIL), rows_of_cells(size))),
+    "names of a cell in which a stage acts": (1000, acted),
+    "names of a cell in a level before it hung": (1000, hung_from),
+    "objects of sessions that begin in levels": (500, begun_in_levels),
+    "objects of a property in rules": (500, property_in_rules),
+    "sessions of one game with an undo": (500, inputs_heeded),
+    "texts behind a session": (20_000, read_behind),
     "numbers": (50_000, lambda size: find("['a',[''," + "[" + "1," * size + "1],'']]")),
 }
 
 
+# Texts of one piece again and again, with what stands before and behind it: each piece is a round of a group of some pattern.
+ROUNDS = {
+    "breaks before a text": ("[", "<br>", ""),
+    "breaks before a text of HTML": ("[", "&nbsp;", "&quot;"),
+    "breaks that are escaped before a list": ('"', "\\n", ""),
+    "breaks that are escaped before a text": ('"[', "\\n", ""),
+    "breaks behind a text": ('["a",', "<br>", "1]"),
+    "marks behind a text": ('["a",', "\ufeff", "1]"),
+    "a text of JSON": ('[["a",["', "\\n", '",[],""]]]'),
+    "a text in double quotes": ('[["a",["', "\\'", '",[],""]]]'),
+    "a text in single quotes": ("[['a',['", "\\n", "',[],'']]]"),
+    "a text in backquotes": ("[['a',[`", "$", "`,[],'']]]"),
+    "a text of a word processor": ("[['a',[\u201c", "\\n", "\u201d,[],'']]]"),
+    "a text that has lost its quotes": ('[\\"', "\\n", ""),
+    "inputs": ('[["a",["",[', '"undo",', '1],""]]]'),
+}
+# Letters of such a text, and bytes that a process may take to read it. A round that is remembered takes 80 bytes or more.
+LONG, MOST_BYTES = 4_000_000, 5 * 2**25
+READ = f"""
+import sys
+from resource import RLIMIT_AS, setrlimit
+from saxtegun.finding import find
+from saxtegun.verbs.split import entries_in
+setrlimit(RLIMIT_AS, ({MOST_BYTES}, {MOST_BYTES}))
+read, before, piece, behind = sys.argv[1:]
+text = before + piece * ({LONG} // len(piece)) + behind
+find(text) if read == "find" else entries_in(text, {LONG})
+"""
+
+
+def remembering():
+    """The functions of the package that remember what they told. An equal text of an earlier call would be compared with, letter by letter."""
+    modules = [module for name, module in sys.modules.items() if name.startswith("saxtegun.")]
+    return {id(it): it for module in modules for it in vars(module).values() if hasattr(it, "cache_clear")}.values()
+
+
 def seconds_of(act, size):
-    lines_of.cache_clear()
-    begin = getrusage(RUSAGE_SELF).ru_utime
-    act(size)
-    return getrusage(RUSAGE_SELF).ru_utime - begin
+    """What an act takes of a processor where nothing is remembered, and garbage isn't collected: that takes more from some size on, whatever the act."""
+    for cached in remembering():
+        cached.cache_clear()
+    gc.collect()
+    gc.disable()
+    try:
+        begin = getrusage(RUSAGE_SELF).ru_utime
+        act(size)
+        return getrusage(RUSAGE_SELF).ru_utime - begin
+    finally:
+        gc.enable()
 
 
 def growth_of(act, size):
@@ -151,8 +315,33 @@ class Costs(unittest.TestCase):
     def test_twice_the_input_takes_about_twice_the_time(self):
         for what, (size, act) in READINGS.items():
             with self.subTest(what):
-                growth = next((it for it in (growth_of(act, size) for _ in range(8)) if it <= MOST), None)
+                # A larger size is tried where one doesn't fit into a processor's cache any more: what is quadratic grows too much at each.
+                growth = next((it for it in (growth_of(act, size << it // 3) for it in range(9)) if it <= MOST), None)
                 self.assertIsNotNone(growth, f"more than {MOST} times the time")
+
+
+    def test_of_synonyms_each_is_gone_through_once(self):
+        game = Game(legend_of_letters(2000))
+        self.assertLess(MOST_NAMES - game.names_left, 5000)
+        self.assertEqual(game.notes, [])
+class Far(unittest.TestCase):
+    def test_texts_behind_a_session_take_no_longer_than_reading_them(self):
+        """A million of them take a second or so, where a comparison of each with a word would take ten."""
+        self.assertLess(seconds_of(read_behind, 500_000), 5)
+
+
+class Memory(unittest.TestCase):
+    def assert_read(self, *words):
+        ran = subprocess.run([sys.executable, "-B", "-X", "utf8", "-c", READ, *words], cwd=TOP / "python", stdout=subprocess.PIPE, stderr=subprocess.STDOUT)
+        self.assertEqual((ran.returncode, ran.stdout.decode()), (0, ""))
+
+    def test_no_round_is_remembered(self):
+        for what, text in ROUNDS.items():
+            with self.subTest(what):
+                self.assert_read("find", *text)
+
+    def test_what_is_split_is_not_held_twice(self):
+        self.assert_read("split", "[", "[],", "[]]")
 
 
 class Counting(Finder):
@@ -201,6 +390,32 @@ class Budget(OnSessions):
         self.assertEqual(finder.told(entry, run), f"; where is {budget.NOT_LOOKED_AT}")
         self.assertEqual(told(run, entry), (f"{told(run)[0]}; {budget.NOT_LOOKED_AT}", []))
         self.assertEqual(finder.played, [])
+
+    def test_time_that_ends_in_the_midst_of_a_session_is_heeded(self):
+        """Of what takes many seconds to say only what was played is said, soon behind the end of the time."""
+        _, entry, run, _ = self.hung(30, 7)
+        behind, comments = run._replace(close="differs", cause=None), "(" * 3_000_000
+        sources = {
+            "comments": comments,
+            "names": entry.source.replace("LEGEND\n", "LEGEND\n" + "".join(f"{one} = {other} and Player\n" for one, other in zip(LETTERS, LETTERS[1:])) * 5),
+            "levels": entry.source + "\np.\n" * 300_000,
+        }
+        for what, source in sources.items():
+            with self.subTest(what):
+                budget.EXPLAINING.left = 0.05
+                begin = monotonic()
+                sentence, below = told(behind, entry._replace(source=source, level="player background:0,background:1,\n"))
+                self.assertTrue(sentence.endswith(budget.NOT_LOOKED_AT), sentence)
+                self.assertEqual(below, [])
+                self.assertLess(monotonic() - begin, 1.5)
+                self.assertLess(budget.EXPLAINING.left, 0)
+
+    def test_what_explains_within_what_explains_is_taken_off_once(self):
+        budget.EXPLAINING.left = 100
+        with budget.EXPLAINING.spent(), budget.EXPLAINING.spent():
+            sleep(0.2)
+            self.assertLess(budget.EXPLAINING.seconds_left(), 100)
+        self.assertAlmostEqual(budget.EXPLAINING.left, 99.8, 1)
 
     def test_what_explains_takes_from_the_budget(self):
         _, entry, run, _ = self.hung(30, 7)

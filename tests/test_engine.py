@@ -8,7 +8,7 @@ import sys
 import unittest
 from pathlib import Path
 
-from test_stages import OnCases
+from test_stages import OnCases, compact
 from tool import InARoom, TOP
 
 sys.path.insert(0, str(TOP / "engine"))
@@ -18,6 +18,9 @@ ENGINE, OWN = TOP / "engine", Path(__file__).resolve().parent / "engine"
 NODE, COMPILER, VALGRIND = (shutil.which(it) for it in ("node", "cc", "valgrind"))
 # Beside the proofs, when ./check has SAXTEGUN_PROGRAM=none, a module that is there is that of an earlier run.
 IS_BUILT = os.environ.get("SAXTEGUN_PROGRAM") != "none" and (ENGINE / "out" / "saxtegun.wasm").is_file()
+# The names of its exports stand in a module as they are.
+IS_DESCRIBING = IS_BUILT and b"saxtegun_description" in (ENGINE / "out" / "saxtegun.wasm").read_bytes()
+DESCRIPTIONS = sorted((TOP / "conformance/descriptions").glob("*.json"))
 
 
 @unittest.skipUnless(COMPILER, "there is no C compiler")
@@ -150,6 +153,64 @@ class EngineStages(OnStages, OnCases):
         self.hold_to_cases([NODE, ENGINE / "stages.mjs"], {it: value for it, value in os.environ.items() if it != "SAXTEGUN_MODULE"})
 
 
+class OnDescriptions(InARoom):
+    """Tests engine/describe.mjs, and the glue about descriptions."""
+
+    def describe(self, *words, module=""):
+        ran = subprocess.run([NODE, ENGINE / "describe.mjs", *words], env={**os.environ, "SAXTEGUN_MODULE": str(module)}, stdout=subprocess.PIPE, stderr=subprocess.PIPE, check=False)
+        return ran.returncode, ran.stdout.decode(), ran.stderr.decode()
+
+    def pass_the_glue(self, **module):
+        ran = subprocess.run([NODE, "--test", "--test-reporter=tap", OWN / "descriptions.test.mjs"], env={**os.environ, **module}, stdout=subprocess.PIPE, stderr=subprocess.STDOUT, check=False)
+        self.assertEqual(ran.returncode, 0, ran.stdout.decode(errors="replace"))
+
+    def write(self, content):
+        (self.room / "game.txt").write_bytes(content)
+        return self.room / "game.txt"
+
+
+@unittest.skipUnless(NODE, "there is no node")
+class TheDescriptions(OnDescriptions):
+    """The description of a source where no module is there, and the command line of engine/describe.mjs."""
+
+    def test_the_glue_without_a_module(self):
+        self.pass_the_glue(SAXTEGUN_MODULE=str(self.room / "none"))
+
+    def test_words_that_are_no_command_line(self):
+        for words in ([], ["a", "b"]):
+            with self.subTest(words):
+                self.assertEqual(self.describe(*words), (2, "", "bad command line\n"))
+
+    def test_a_file_that_is_not_there(self):
+        self.assertEqual(self.describe(self.room / "none"), (2, "", "open-fault\n"))
+
+    def test_a_module_without_descriptions(self):
+        (self.room / "empty.wasm").write_bytes(b"\0asm\1\0\0\0")
+        self.assertEqual(self.describe(self.write(b""), module=self.room / "empty.wasm"), (2, "", "no-descriptions\n"))
+
+    def test_each_case_says_its_rule_and_no_two_have_one_source(self):
+        cases = [json.loads(path.read_text(encoding="utf-8")) for path in DESCRIPTIONS]
+        self.assertGreaterEqual(len({case["source"] for case in cases}), 20)
+        self.assertEqual([path.stem for path, case in zip(DESCRIPTIONS, cases) if set(case) != {"rule", "source", "told"} or not case["rule"].endswith(".")], [])
+
+
+@unittest.skipUnless(NODE and IS_DESCRIBING, "there is no node, or the module is not built or gives no descriptions")
+class EngineDescriptions(OnDescriptions):
+    """The descriptions that the module gives; the name begins with Engine, by which ./check finds it."""
+
+    def test_the_glue(self):
+        self.pass_the_glue()
+
+    def test_what_is_no_text_is_refused(self):
+        self.assertEqual(self.describe(self.write(b"\xff")), (2, "", "not-json\n"))
+
+    def test_each_case_is_told_as_it_was_worked_out(self):
+        for path in DESCRIPTIONS:
+            with self.subTest(path.stem):
+                case = json.loads(path.read_text(encoding="utf-8"))
+                self.assertEqual(self.describe(self.write(case["source"].encode())), (0, compact(case["told"]), ""))
+
+
 @unittest.skipUnless(NODE and IS_BUILT, "there is no node, or the module is not built")
 class EngineGlue(InARoom):
     """The exports, the functions of the glue and their refusals; the name begins with Engine, by which ./check finds it."""
@@ -170,7 +231,7 @@ class EngineGlue(InARoom):
 
     def test_the_module_is_small(self):
         module = (ENGINE / "out" / "saxtegun.wasm").read_bytes()
-        self.assertLessEqual(len(module), 600_000)
+        self.assertLessEqual(len(module), 620_000)
         self.assertLessEqual(len(gzip.compress(module)), 200_000)
 
 

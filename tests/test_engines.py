@@ -1,4 +1,6 @@
 """`saxtegun compare --engines` and `saxtegun shrink` with an engine that crashes, hangs, or writes a line of its own: each is told, with the session and the input."""
+import contextlib
+import io
 import json
 import sys
 import tempfile
@@ -10,6 +12,8 @@ from time import monotonic
 from day import OnSessions
 from test_why import GAME as YARD, LINE, PUSH
 from tool import run
+from saxtegun import calling
+from saxtegun.budget import NOT_LOOKED_AT, Budget
 from saxtegun.commands import Refused
 from saxtegun.engines import Ended, Reader, answers
 from saxtegun.lines import runs_in
@@ -132,6 +136,19 @@ class Compare(OnEngines):
         answer = self.compare(self.engine("hang"), "--timeout", "2")
         self.assertEqual((answer.status, answer.out), (1, "session 1, session of 5: hang-false has no answer after input 3 (undo): not answered in 2 s\n3 sessions: 2 the same, 1 diverges\n"))
 
+    def test_where_an_engine_hangs_late_is_looked_for_no_longer_than_may_be_explained(self):
+        """Each look takes all the time of a session, so what is left of the whole is what the last of them has."""
+        self.sessions(*([[3, 1, "undo", "undo", "undo", *([3, 1] * 500)]] * 3))
+        shown, budget = io.StringIO(), Budget(2.5)
+        words = ["saxtegun", "compare", "--engines", str(self.engine("none")), str(self.engine("hang", True)), str(self.room / "sessions.json"), "--timeout", "1"]
+        begin = monotonic()
+        with unittest.mock.patch("saxtegun.engines.EXPLAINING", budget), unittest.mock.patch("sys.argv", words), contextlib.redirect_stdout(shown):
+            self.assertEqual(calling.main(), 1)
+        # each session is played twice at most, and then 2.5 s for all of them
+        self.assertLess(monotonic() - begin, 15)
+        told = f"has no answer: not answered in 1 s; behind which input is {NOT_LOOKED_AT}"
+        self.assertEqual([it.split(": hang-true ")[1] for it in shown.getvalue().splitlines()[:-1]], [told] * 3)
+
     def test_a_line_that_is_none_is_told_with_its_text(self):
         self.sessions([3], [3, "undo", "undo"], [1])
         answer = self.compare(self.engine("say"))
@@ -180,6 +197,17 @@ class Shrink(OnEngines):
         self.assertIn("frame 4, after input 3 (restart)\n", out)
         # (20 s on a quiet machine; the gate's proofs run beside this)
         self.assertLess(seconds, 300)
+
+    def test_shrinking_ends_in_its_time(self):
+        """What was found until then is the case, and it is said that there may be a smaller one."""
+        self.sessions([3], [*[3, "undo"] * 20, "undo"])
+        begin = monotonic()
+        answer = run("shrink", self.engine("none"), self.engine("hang"), self.room / "sessions.json", "*", self.room / "case", "--timeout", "2", "--within", "0.5")
+        self.assertLess(monotonic() - begin, 30)
+        self.assertEqual((answer.status, answer.errors), (0, "shrink: stopped behind 0.5 s; with a larger --within it may get smaller\n"))
+        self.assertIn("not answered in 2 s\n", answer.out)
+        [[_, [_, left, _, _]]] = json.loads((self.room / "case/input.json").read_text(encoding="utf-8"))
+        self.assertIn("undo", left)
 
     def test_a_crash_shrinks(self):
         out, source, left, _ = self.shrink(self.engine("crash", True), [3], [3, 1, "undo", 3, "undo", "undo", "undo", 3])

@@ -4,7 +4,9 @@ import re
 import unittest
 
 from day import EXAMPLE, OnSessions, case, cases_in_rows
-from tool import run
+from tool import TOP, run
+from saxtegun.commands import Refused
+from saxtegun.sessions import sessions_in
 
 # The example's session 4, worked out by hand from its level and its inputs.
 STALE = """\
@@ -123,11 +125,29 @@ class Explain(OnSessions):
             ('[["\\ud800", ["", [0], ""]]]', "session 0, line 1: a text of it holds half a letter"),
             ("[" * 100_000, "no JSON list of sessions"),
             ("[NaN]", "NaN is no JSON"),
-            (f"[{'1' * 5000}]", "no JSON list of sessions (a number of it has too many digits)"),
+            (f"[{'1' * 5000}]", ".. is beyond the largest number)"),
+            ('[["a", ["", [-0], ""]]]', "session 0, line 1: its input 0 is neither"),
+            ('[["a", ["", [], "", -0]]]', "session 0, line 1: its index is no whole number"),
+            ('[["a", ["", [0], "", 0, 1e999]]]', "1e999 is beyond the largest number"),
+            ('[["a", ["", [0], ""], [{"x": -1e400}]]]', "-1e400 is beyond the largest number"),
         ):
             with self.subTest(what):
                 self.assert_refused(run("explain", self.write("sessions.json", text), self.lines), what)
         self.assert_refused(run("explain", self.room / "nothing", self.lines), "nothing can't be read")
+
+    def test_what_the_program_refuses_of_numbers_is_refused(self):
+        """What an entry doesn't need isn't handed on to the program, so its numbers are judged here: as docs/sessions.md has them."""
+        names = [it.name for it in (TOP / "conformance/cases").iterdir() if re.search("number-that-rounds|whole-number|nought|index-of-four|exponent|no-float|beyond-the-largest", it.name)]
+        self.assertGreater(len(names), 6)
+        for name in names:
+            case = TOP / "conformance/cases" / name
+            text, is_refused = (case / "input.json").read_text(encoding="utf-8"), (case / "status").read_text() == "2\n"
+            with self.subTest(name):
+                try:
+                    sessions_in("s.json", text)
+                    self.assertFalse(is_refused)
+                except Refused:
+                    self.assertTrue(is_refused)
 
     def test_a_long_cause_of_another_engine_is_cut(self):
         sessions = self.write("s.json", '[["a", ["no game", [], ""]]]')

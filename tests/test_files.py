@@ -1,5 +1,6 @@
 """Files that are too long, that change while they are written, or whose folder is gone."""
 import html
+import io
 import json
 import os
 import re
@@ -7,11 +8,14 @@ import subprocess
 import sys
 import unittest
 import unittest.mock
+from contextlib import redirect_stdout
 
 from day import EXAMPLE, OnSessions
 from tool import TOP, environment, run
+from saxtegun import files
 from saxtegun.commands import Refused
-from saxtegun.files import Changed, read_text, write_again
+from saxtegun.files import Changed, locked, read_lines, read_text, write_again
+from saxtegun.lines import Frame
 from saxtegun.sessions import MOST_BYTES, sessions_in
 from saxtegun.telling import Failure, markdown
 from saxtegun.verbs import play
@@ -22,8 +26,10 @@ ENTRY = '["n %d", ["OBJECTS", [3], "background:0,", %d]]'
 PLAYER = f"""#!{sys.executable}
 import json, sys
 for number, (name, (source, inputs, level, *more)) in enumerate(json.load(open(sys.argv[-1], encoding="utf-8"))):
-    print(json.dumps({{"at": 0, "frame": 0, "kind": "start", "level": level, "session": number}}, separators=(",", ":")))
-    print(json.dumps({{"close": "passed", "frames": 1, "name": name, "session": number}}, separators=(",", ":")))
+    kinds = ["start", *("move" if isinstance(it, int) else it for it in inputs)]
+    for at, kind in enumerate(kinds):
+        print(json.dumps({{"at": at, "frame": at, "kind": kind, "level": level, "session": number}}, separators=(",", ":")))
+    print(json.dumps({{"close": "passed", "frames": len(kinds), "name": name, "session": number}}, separators=(",", ":")))
 """
 
 LETTERS = 8_000_000
@@ -60,6 +66,15 @@ class Sizes(OnSessions):
 
     def test_a_file_that_is_as_long_as_it_may_be_is_read(self):
         self.assert_refused(run("explain", self.long("s.json", MOST_BYTES)), "no JSON list of sessions")
+
+    def test_no_line_is_read_that_has_no_end(self):
+        """Of lines that are read one by one each has a limit."""
+        path = self.write("lines", "1234567\n12345678\n123456789012\n")
+        with unittest.mock.patch.object(files, "MOST_OF_LINE", 8):
+            with self.assertRaisesRegex(Refused, "lines, line 2: it has more than 0 MiB, and is not read"):
+                list(read_lines(str(path)))
+        with unittest.mock.patch.object(files, "MOST_OF_LINE", 13):
+            self.assertEqual([len(it) for _, it in read_lines(str(path))], [8, 9, 13])
 
     def test_what_could_not_be_read_again_is_not_written(self):
         """By the largest file that is read, of one entry with a long name."""
@@ -104,6 +119,16 @@ class Sizes(OnSessions):
         self.assert_refused(run("explain", path), "x.json, line 3: byte 2 of it is not UTF-8")
 
 
+class Empty(OnSessions):
+    def test_a_file_without_a_session_among_others_is_told(self):
+        program, one, none = self.write("program", PLAYER), self.write("one.json", f"[{ENTRY % (1, 1)}]"), self.write("none.json", "[]\n")
+        program.chmod(0o755)
+        answer = run("test", one, none, "--program", program, "--quiet")
+        self.assertEqual((answer.status, answer.errors), (0, ""))
+        self.assertIn(f"{none} has no session, so nothing of it was played\n1 session: 1 passed", answer.out)
+        self.assertNotIn("has no session", run("test", one, "--program", program).out)
+
+
 class Memory(unittest.TestCase):
     @unittest.skipUnless(sys.platform == "linux", "memory is told in other units elsewhere")
     def test_a_text_in_quotes_takes_a_few_times_its_length(self):
@@ -125,6 +150,21 @@ class Changes(OnSessions):
             self.assertIn(b"1 recording added", it.communicate()[1])
         self.assertEqual(sorted(it[0] for it in json.loads(sessions.read_text())), [f"n {it}" for it in range(6)])
 
+    def test_nobody_waits_long_for_who_holds_a_folder(self):
+        """What was played isn't lost by that."""
+        path = self.write("s.json", "[]\n")
+        held = play.Play.__new__(play.Play)
+        held.inputs, held.frames, held.index = [3], [Frame(0, "start", "background:0,\n")], 0
+        with unittest.mock.patch.object(files, "MOST_SECONDS_LOCKED", 0.1), locked(str(path)):
+            with self.assertRaisesRegex(Refused, "s.json can't be written: another has held its folder for 0.1 s"):
+                write_again(str(path), "[]\n", "x")
+            shown = io.StringIO()
+            with redirect_stdout(shown), self.assertRaisesRegex(Refused, "what was played stands on standard output"):
+                held.save("mine", str(path))
+        self.assertEqual(json.loads(shown.getvalue()), ["mine", ["", [3], "background:0,\n", 0]])
+        self.assertEqual(path.read_text(), "[]\n")
+        write_again(str(path), "[]\n", "x")
+
     def test_a_file_that_has_changed_is_not_written_over(self):
         path = self.write("s.json", "one")
         write_again(str(path), "one", "two")
@@ -133,6 +173,45 @@ class Changes(OnSessions):
                 write_again(str(path), was, "three")
         self.assertEqual(read_text(str(path)), "two")
         self.assertEqual(sorted(it.name for it in self.room.iterdir() if it.name.startswith(".saxtegun")), [])
+
+    def test_what_this_tells_is_not_written_over(self):
+        for word in ("--markdown", "--junit", "--report"):
+            for place in ("/dev/stdout", "/dev/fd/1", "/proc/self/fd/1"):
+                with self.subTest(f"{word} {place}"):
+                    log = self.write("log", "earlier lines\n")
+                    with open(log, "ab") as output:
+                        ran = subprocess.run([sys.executable, TOP / "saxtegun", "test", EXAMPLE, word, place], stdin=subprocess.DEVNULL, stdout=output, stderr=subprocess.PIPE, env=environment())
+                    self.assertEqual((ran.returncode, log.read_text()), (2, "earlier lines\n"))
+                    self.assertIn(f"{place} is where this tells what it does: write to another file", ran.stderr.decode())
+
+    def test_a_pipe_of_a_shell_takes_what_is_written(self):
+        program = self.write("program", PLAYER)
+        program.chmod(0o755)
+        answer = run("test", self.write("s.json", f"[{ENTRY % (0, 0)}]"), "--markdown", "/dev/stdout", "--program", program)
+        self.assertEqual((answer.status, answer.errors), (0, ""))
+        self.assertIn("**1 session&#58; 1 passed", answer.out)
+
+    def test_a_program_is_not_written_over(self):
+        program = self.write("program", PLAYER)
+        program.chmod(0o755)
+        self.assert_refused(run("test", EXAMPLE, "--program", program, "--junit", program), "is read: write to another file")
+        self.assert_refused(run("compare", EXAMPLE, "--engines", program, "x", "--report", program), "is read: write to another file")
+        self.assertEqual(program.read_text(), PLAYER)
+
+    def test_standard_input_is_read_once(self):
+        for verb in ("explain", "report", "accept", "junit", "source", "coverage"):
+            with self.subTest(verb):
+                answer = run(verb, "-", "-", stdin=EXAMPLE.read_bytes())
+                self.assertEqual((answer.status, "Traceback" in answer.errors, answer.errors.count("\n")), (2, False, 1), answer.errors)
+
+    def test_a_new_file_has_the_rights_that_are_wanted(self):
+        for taken, rights in ((0o077, 0o600), (0o022, 0o644), (0o002, 0o664)):
+            before = os.umask(taken)
+            try:
+                files.write_whole(str(self.room / f"new {taken}"), "x")
+            finally:
+                os.umask(before)
+            self.assertEqual((self.room / f"new {taken}").stat().st_mode & 0o777, rights)
 
     def test_a_working_folder_that_is_gone_is_told(self):
         gone = self.room / "gone"

@@ -86,6 +86,14 @@ class TestData(InARoom):
     def test_one_without_a_name_gets_its_title_and_level(self):
         self.assertEqual(json.loads(run("testdata", FORMS / "body-alone.txt").out)[0][0], "Two Steps, level 1")
 
+    def test_what_stands_behind_the_body_stays_where_only_brackets_are_missing(self):
+        whole = '["a",["title x\\nOBJECTS",[1],"b:0,",0],"solved",7'
+        for end in ("]", "", "\n", "\nVM1: more", "] "):
+            self.assertEqual([it.rest for it in find(whole + end).found], [('"solved"', "7")], end)
+        for end in ('["a",["title x\\nOBJECTS",[1],"b:0,",0],"sol', "[\"a\",[\"title x\\nOBJECTS\",[1],\"b:0,\",0],'solved", '["a",["title x\\nOBJECTS",[1],"b:0,",0],7,"'):
+            found = find(end)
+            self.assertEqual((found.found, [it.what for it in found.skipped]), ([], ["cut-off"]), end)
+
     def test_what_is_cut_off_gives_status_1(self):
         answer = run("testdata", FORMS / "cut-off-and-then-whole.txt")
         self.assertEqual((answer.status, len(json.loads(answer.out))), (1, 1))

@@ -3,6 +3,8 @@ import json
 import os
 import random
 import re
+import subprocess
+import sys
 import unittest
 
 from day import EXAMPLE, OnSessions
@@ -16,7 +18,16 @@ SEED, COUNT = (int(os.environ.get(name, count)) for name, count in (("SEED", "75
 COMMANDS = ("::error::x", "::set-output name=x::y", "::add-mask::passed", "::stop-commands::x", "##[error]x", "##[set-output name=x;]y", "##[add-mask]passed", "##vso[task.setvariable variable=x]y", "##teamcity[buildProblem description='x']")
 BEFORE = ("", " ", "\t", "\r", "\u00a0", "\u2028", "\u2029", "\x85", "\x0b", "\x0c", "\x1c", "\u200b", "\ufeff", "\u3000", "a\r", "a\n", "#", "##", "%0A", "::")
 # A program that plays nothing: it writes the lines that lie beside it.
-WRITES = '#!/bin/sh\ncat "$(dirname "$0")/shown"\nexit 1\n'
+# Shows one level of each session, at its start and at each of its inputs, all of them undo.
+WRITES = f"""#!{sys.executable}
+import json, sys
+for number, (name, (source, inputs, *more)) in enumerate(json.load(open(sys.argv[-1], encoding="utf-8"))):
+    kinds = ["start", *inputs]
+    for at, kind in enumerate(kinds):
+        print(json.dumps({{"at": at, "frame": at, "kind": kind, "level": "background wall:0,", "session": number}}, separators=(",", ":")))
+    print(json.dumps({{"close": "differs", "frames": len(kinds), "name": name, "session": number}}, separators=(",", ":")))
+sys.exit(1)
+"""
 
 
 def is_command(line):
@@ -57,15 +68,11 @@ class Logs(OnSessions):
         source = json.loads(EXAMPLE.read_text(encoding="utf-8"))[0][1][0]
         title = "title ::add-mask::passed\n"
         entries = [[name, [title + source, [], "background:0,"]] for name in names]
-        frame = {"at": 0, "frame": 0, "kind": "start", "level": "background wall:0,"}
-        lines = []
-        for number, name in enumerate(names):
-            lines += [{**frame, "session": number}, {"close": "differs", "frames": 1, "name": name, "session": number}]
         self.sessions = self.write("s.json", json.dumps(entries))
-        self.lines = self.write("shown", "".join(json.dumps(it, separators=(",", ":")) + "\n" for it in lines))
-        self.other = self.write("other", self.lines.read_text(encoding="utf-8").replace("wall:0", "player:0"))
         self.program = self.write("program", WRITES)
         self.program.chmod(0o755)
+        self.lines = self.write("shown", subprocess.run([self.program, self.sessions], stdout=subprocess.PIPE).stdout.decode())
+        self.other = self.write("other", self.lines.read_text(encoding="utf-8").replace("wall:0", "player:0"))
         self.refuses = self.write("refuses", "#!/bin/sh\necho '##[error]x' >&2\necho '::error::y' >&2\necho bad-level 0 >&2\nexit 2\n")
         self.refuses.chmod(0o755)
         stage = {"input": 0, "tick": 0, "stage": "input", "changed": True, "commands": [], "level": "##[error]x ::y background:0,", "headings": [[0, 0, "##[error]x", "up"]]}

@@ -25,8 +25,8 @@ class Lines(OnSessions):
     def test_standard_input_is_handed_on(self):
         program = self.program('[ "$*" = "--order columns" ] || exit 7\ncat')
         for words in ((), ("-",)):
-            answer = run("lines", *words, "--program", program, stdin=b"some\n")
-            self.assertEqual((answer.status, answer.out, answer.errors), (0, "some\n", ""))
+            answer = run("lines", *words, "--program", program, stdin=b"[]\n")
+            self.assertEqual((answer.status, answer.out, answer.errors), (0, "[]\n", ""))
 
     def test_a_failure_is_reported_with_its_file_and_entry(self):
         program = self.program('echo "bad-level 4" >&2\nexit 2')

@@ -1,17 +1,26 @@
 """`saxtegun play`: keys on standard input, and what is saved of them; what a terminal is told is looked at by itself."""
+import fcntl
 import json
+import os
+import pty
+import select
+import shlex
 import signal
+import struct
 import subprocess
 import sys
+import termios
 import time
 import unittest
+from random import Random
 
 from test_test import OfAGame
 from tool import TOP, environment, plays, run
 from saxtegun.games import Game
-from saxtegun.terminal import lettered, painted, pixels_of
+from saxtegun.terminal import CLEAR, Depth, Screen, codes_of, depth_of, fitted, lettered, marked, painted, pixels_of
 
 START = "####..\n#.O#..\n#..###\n#@P..#\n#..*.#\n#..###\n####..\n"
+ENDS = (signal.SIGINT, signal.SIGTERM, signal.SIGHUP)
 RIGHT = START.replace("#@P..#", "#@.P.#")
 
 
@@ -27,6 +36,11 @@ class DayOfPlaying(OfAGame):
         self.assertEqual(run("test", self.game, suite).status, 0)
         self.assertEqual(run("play", self.game, "--save", "more", suite, "--level", 2, stdin=b"").status, 0)
         self.assertEqual([(it[0], it[1][3]) for it in json.loads(suite.read_text(encoding="utf-8"))], [("mine", 0), ("more", 1)])
+
+    def test_a_key_that_the_game_switches_off_is_left_out(self):
+        self.game.write_text("noaction\n" + self.game.read_text(encoding="utf-8"), encoding="utf-8")
+        answer = run("play", self.game, stdin=b"xd")
+        self.assertEqual([line for line in answer.out.splitlines() if "input" in line], [f"Simple Block Pushing Game: {it}" for it in ("0 inputs ", "0 inputs the game has noaction: the key is left out", "1 input ")])
 
     def test_a_level_that_is_solved_is_reported(self):
         keys = "".join("wasd"[it] if it != "undo" else "z" for it in self.entries[0][1][1])
@@ -67,7 +81,7 @@ class DayOfPlaying(OfAGame):
 
     def test_what_ends_the_play_saves_it(self):
         suite = self.room / "mine.json"
-        for number, it in enumerate((signal.SIGINT, signal.SIGTERM, signal.SIGHUP), 1):
+        for number, it in enumerate(ENDS, 1):
             with self.playing("--save", "mine", suite) as ran:
                 ran.stdin.write(b"da")
                 self.wait_for(ran, b"2 inputs")
@@ -75,6 +89,20 @@ class DayOfPlaying(OfAGame):
                 out, errors = ran.communicate()
             self.assertEqual((ran.returncode, errors.decode()), (0, f"play: mine: 2 inputs saved in {suite}\n"))
             self.assertEqual([entry[1][1] for entry in json.loads(suite.read_text(encoding="utf-8"))], [[3, 1]] * number)
+
+    def test_signals_that_come_together_save_it_too(self):
+        """All three at once, as they meet a process that was stopped, and then bursts of them."""
+        suite, random = self.room / "mine.json", Random(1)
+        together = [signal.SIGSTOP, *ENDS, signal.SIGCONT]
+        for number, sent in enumerate([together, *([random.choice(ENDS) for _ in range(40)] for _ in range(10))], 1):
+            with self.subTest(number), self.playing("--save", "mine", suite) as ran:
+                ran.stdin.write(b"da")
+                self.wait_for(ran, b"2 inputs")
+                for it in sent:
+                    ran.send_signal(it)
+                out, errors = ran.communicate()
+                self.assertEqual((ran.returncode, errors.decode()), (0, f"play: mine: 2 inputs saved in {suite}\n"))
+                self.assertEqual([entry[1][1] for entry in json.loads(suite.read_text(encoding="utf-8"))], [[3, 1]] * number)
 
     def test_a_key_takes_under_20_ms(self):
         keys = b"da" * 150
@@ -84,14 +112,115 @@ class DayOfPlaying(OfAGame):
         self.assertLess(time.monotonic() - began, 300 * 0.04 + 1)
 
 
+class Window:
+    """A terminal of so many columns and rows, in which a shell with job control runs a command."""
+
+    def __init__(self, columns, rows, command, **changed):
+        self.left = b""
+        self.pid, self.end = pty.fork()
+        if self.pid == 0:
+            self.resize(columns, rows, 0)
+            os.execvpe("bash", ["bash", "--norc", "-c", f"set -m; {command}"], {**environment(), "TERM": "xterm-256color", "COLORTERM": "", "NO_COLOR": "", **changed})
+
+    def resize(self, columns, rows, end=None):
+        fcntl.ioctl(self.end if end is None else end, termios.TIOCSWINSZ, struct.pack("HHHH", rows, columns, 0, 0))
+
+    def press(self, keys):
+        os.write(self.end, keys)
+
+    def until(self, words, seconds=60):
+        """What is shown up to these words, and behind what was looked at before."""
+        end = time.monotonic() + seconds
+        while words.encode() not in self.left:
+            if time.monotonic() > end:
+                raise AssertionError(f"not shown: {words!r}, but {self.left.decode()!r}")
+            if select.select([self.end], [], [], 1)[0]:
+                self.left += os.read(self.end, 65536)
+        before, self.left = self.left.split(words.encode(), 1)
+        return before.decode().replace("\r\n", "\n") + words
+
+    def close(self):
+        os.close(self.end)
+        os.waitpid(self.pid, 0)
+
+
+@plays
+class DayOfTerminals(OfAGame):
+    """In a real terminal: what is drawn there, and that it can be made larger, left and taken up again."""
+
+    def window(self, columns, rows, behind="", **changed):
+        window = Window(columns, rows, shlex.join([sys.executable, *map(str, (TOP / "saxtegun", "play", self.game))]) + behind, **changed)
+        self.addCleanup(window.close)
+        return window
+
+    def test_what_fits_is_drawn_in_colours_and_what_does_not_by_letters(self):
+        window = self.window(80, 30)
+        self.assertIn("\x1b[38;5;", window.until("q ends"))
+        window.resize(20, 12)
+        self.assertEqual(window.until("acts,").lstrip(), f"{CLEAR}{START}Simple Block Pushing\narrows move, x acts,")
+        window.press(b"d")
+        self.assertIn(RIGHT, window.until("acts,"))
+
+    def test_colours_are_those_that_the_terminal_has(self):
+        for changed, code in (({"COLORTERM": "truecolor"}, "\x1b[38;2;"), ({"TERM": "xterm"}, "\x1b[33;"), ({"NO_COLOR": "1"}, f"{CLEAR}{START}"), ({"TERM": "dumb"}, f"{START}Simple")):
+            with self.subTest(changed):
+                shown = self.window(80, 30, **changed).until(": 0 inputs")
+                self.assertIn(code, shown)
+                self.assertEqual(CLEAR in shown, changed.get("TERM") != "dumb")
+
+    def test_it_is_left_by_ctrl_z_and_taken_up_again(self):
+        window = self.window(80, 30, "; stty -a; echo left; fg; stty -a; echo over", NO_COLOR="1")
+        window.until("q ends")
+        window.press(b"d")
+        window.until("1 input")
+        window.press(b"\x1a")
+        self.assertIn(" icanon", window.until("left"))
+        self.assertIn(f"{CLEAR}{RIGHT}", window.until("q ends"))
+        window.press(b"z")
+        self.assertEqual(window.until(": 2 inputs").split(CLEAR)[-1], f"{START}Simple Block Pushing Game: 2 inputs")
+        window.press(b"q")
+        self.assertIn(" icanon", window.until("over"))
+
+
 class Terminal(OfAGame):
+    LOOK = "OBJECTS\nBackground .\n#112233\n\nPlayer p\n#fff transparent\n0....\n.1...\n.....\n.....\n....0\n\nWall #\nred\n\nMark\nblue\n\nLEGEND\nCOLLISIONLAYERS\nBackground\nPlayer, Wall\nMark\n"
+
     def test_a_cell_is_drawn_layer_by_layer(self):
-        game = Game("OBJECTS\nBackground\n#112233\n\nPlayer\n#fff transparent\n0....\n.1...\n.....\n.....\n....0\n\nLEGEND\nCOLLISIONLAYERS\nBackground\nPlayer\n")
+        game = Game(self.LOOK)
         pixels = pixels_of(game, ("player", "background"))
         self.assertEqual((pixels[0][0], pixels[1][1], pixels[4][4], pixels[2][2]), ("#ffffff", "#112233", "#ffffff", "#112233"))
-        rows = painted(game, [[("background",), ("background", "player")]])
+        rows = painted(game, [[("background",), ("background", "player")]], Depth.ALL)
         self.assertEqual((len(rows), rows[0].startswith("\x1b[38;2;17;34;51;48;2;17;34;51m\u2580\u2580\u2580\u2580\u2580\x1b[38;2;255;255;255")), (3, True))
-        self.assertEqual(lettered(game, [[("nobody",)]]), ["?"])
+
+    def test_a_cell_without_a_letter_has_the_nearest_underlined(self):
+        game, row = Game(self.LOOK), [("background", "mark", "player"), ("background", "mark"), ("mark",), ("nobody",), ("background", "player")]
+        self.assertEqual(lettered(game, [row]), ["????p"])
+        self.assertEqual(marked(game, [row]), ["\x1b[4mp\x1b[24m\x1b[4m.\x1b[24m??p"])
+
+    def test_what_does_not_fit_is_drawn_around_the_player(self):
+        game, row = Game(self.LOOK), [("background",)] * 30
+        level = [row] * 10 + [[*row[:20], ("background", "player"), *row[21:]]] + [[("background", "wall")] * 30] * 2
+        for rows, wanted in ((13, ["." * 30] * 10 + ["." * 20 + "p" + "." * 9] + ["#" * 30] * 2), (5, ["." * 30] * 2 + ["." * 20 + "p" + "." * 9] + ["#" * 30] * 2)):
+            self.assertEqual(fitted(game, level, Screen(30, rows, Depth.ALL), False), wanted)
+        self.assertEqual(fitted(game, level, Screen(10, 3, None), False), ["..........", ".....p....", "#" * 10])
+        self.assertEqual(fitted(game, [[("background", "wall")] * 4], Screen(2, 1, None), False), ["##"])
+        self.assertTrue(fitted(game, [row[:4]], Screen(20, 3, Depth.ALL), False)[0].startswith("\x1b[38;2;"))
+        self.assertEqual(fitted(game, [row[:4]], Screen(20, 3, Depth.ALL), True), ["...."])
+        self.assertEqual(fitted(game, [row[:4]], Screen(19, 3, Depth.ALL), False), ["...."])
+        self.assertEqual(fitted(game, [row[:4]], Screen(20, 2, Depth.ALL), False), ["...."])
+
+    def test_colours_are_told_as_terminals_number_them(self):
+        self.assertEqual(codes_of("#102030", Depth.ALL), ("38;2;16;32;48", "48;2;16;32;48"))
+        for colour, number in (("#000000", 16), ("#ffffff", 231), ("#ff0000", 196), ("#00005f", 17), ("#080808", 232), ("#eeeeee", 255), ("#808080", 244)):
+            self.assertEqual(codes_of(colour, Depth.NUMBERED), (f"38;5;{number}", f"48;5;{number}"))
+        for colour, codes in (("#000000", ("30", "40")), ("#cd0000", ("31", "41")), ("#ff0000", ("91", "101")), ("#ffffff", ("97", "107"))):
+            self.assertEqual(codes_of(colour, Depth.FIRST), codes)
+
+    def test_the_environment_says_how_many_colours_there_are(self):
+        for told, depth in (({}, Depth.FIRST), ({"TERM": "xterm"}, Depth.FIRST), ({"TERM": "screen-256color"}, Depth.NUMBERED), ({"TERM": "xterm-direct"}, Depth.ALL),
+                            ({"TERM": "xterm-256color", "COLORTERM": "24bit"}, Depth.ALL), ({"COLORTERM": "truecolor", "NO_COLOR": "1"}, None), ({"COLORTERM": "truecolor", "NO_COLOR": ""}, Depth.ALL)):
+            with self.subTest(told):
+                self.assertEqual(depth_of(told), depth)
 
 
 if __name__ == "__main__":

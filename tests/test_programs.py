@@ -45,9 +45,10 @@ class InAFreshClone(InARoom):
         """Puts a Node onto the path, which says with which module and how it was called."""
         self.put(self.path / "node", f'#!/bin/sh\nif test "$1" = --version; then echo {version}; else echo "$SAXTEGUN_MODULE" "$@"; fi\n')
 
-    def called(self, *words):
+    def called(self, *words, path=None, folder=None):
         env = {name: value for name, value in os.environ.items() if not name.startswith("SAXTEGUN_")}
-        ran = subprocess.run([sys.executable, str(self.top / "saxtegun"), *map(str, words)], env={**env, "PATH": f"{self.path}"}, stdout=subprocess.PIPE, stderr=subprocess.PIPE)
+        env["PATH"] = f"{self.path}" if path is None else path
+        ran = subprocess.run([sys.executable, str(self.top / "saxtegun"), *map(str, words)], cwd=folder, env=env, stdout=subprocess.PIPE, stderr=subprocess.PIPE)
         return ran.returncode, ran.stdout.decode(), ran.stderr.decode()
 
 
@@ -88,6 +89,24 @@ class Programs(InAFreshClone):
         self.assertEqual(self.called("lines", self.empty), (2, "", f"saxtegun lines: the program is not built here, and there is no Node: {HOW}"))
         self.put(self.path / "node", "#!/bin/sh\nexit 1\n")
         self.assertEqual(self.called("lines", self.empty), (2, "", f"saxtegun lines: the program is not built here, and there is no Node: {HOW}"))
+
+    def test_a_node_in_a_relative_entry_of_the_path_is_not_taken(self):
+        """Neither where the entry is the current folder nor below it, and not before one that is whole, which is taken then."""
+        self.release()
+        strange = self.room / "stranger"
+        self.put(strange / "node", f"#!/bin/sh\ntouch {self.room}/ran\necho v22.0.0\n")
+        self.put(strange / "bin/node", f"#!/bin/sh\ntouch {self.room}/ran\necho v22.0.0\n")
+        why = "isn't taken, since another folder would have another: write the entry in full"
+        for entry, told in ((".", "the relative entry '.'"), ("", "an empty entry, which is the current folder"), ("bin", "the relative entry 'bin'"), ("./bin", "the relative entry './bin'")):
+            for path in (f"{entry}:/none", f"/none:{entry}"):
+                with self.subTest(path):
+                    errors = f"saxtegun lines: the program is not built here, and there is no Node; the one that PATH names by {told} {why}: {HOW}"
+                    self.assertEqual(self.called("lines", self.empty, path=path, folder=strange), (2, "", errors))
+            with self.subTest(entry):
+                self.node("v20.0.0")
+                self.assertEqual(self.called("lines", self.empty, path=f"{entry}:{self.path}", folder=strange)[::2], (0, f"saxtegun: {PLAYED}20.0.0\n"))
+        self.assertEqual(self.called("lines", self.empty, path="", folder=strange)[0], 2)
+        self.assertFalse((self.room / "ran").exists())
 
     def test_a_node_that_is_too_old_is_reported(self):
         self.release()
@@ -171,7 +190,7 @@ class Released(InAFreshClone):
         self.assertEqual(files, ["SHA256SUMS", "saxtegun.html", "saxtegun.wasm"])
         checked = subprocess.run(["sha256sum", "--check", "--quiet", "--strict", "SHA256SUMS"], cwd=TOP / "released", stdout=subprocess.PIPE, stderr=subprocess.PIPE)
         self.assertEqual((checked.returncode, checked.stdout, checked.stderr), (0, b"", b""))
-        self.assertLess(sum((TOP / "released" / it).stat().st_size for it in files), 1_100_000)
+        self.assertLess(sum((TOP / "released" / it).stat().st_size for it in files), 1_150_000)
 
     def test_a_fresh_clone_plays(self):
         status, out, errors = self.called("lines", EXAMPLE)

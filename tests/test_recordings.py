@@ -10,7 +10,7 @@ from tool import PROGRAM, TOP, plays, run
 PULLED = "[ < Player | Crate ] -> [ < Player | < Crate ]"
 PUSHED = "[ > Player | Crate ] -> [ > Player | > Crate ]"
 # Entries as a file may have them, with a seed and white space that no writer of JSON would give back.
-ODD = '[ ["a\\u0041", [ "one" ,[0, "undo"],\t"",null, 1e400 ], {"x" : 1.0}],\n["b",["two",[],"x:0,",7]] ]\n'
+ODD = '[ ["a\\u0041", [ "one" ,[0, "undo"],\t"",null, 1e300 ], {"x" : 1.0}],\n["b",["two",[],"x:0,",7]] ]\n'
 
 
 class WithSource(OnSessions):

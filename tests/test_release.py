@@ -1,5 +1,6 @@
 """Releases: the same bytes from the same commit, what they hold, and what is refused."""
 import fnmatch
+import gzip
 import io
 import json
 import os
@@ -11,16 +12,18 @@ import tarfile
 import tempfile
 import unittest
 from pathlib import Path
+from unittest import mock
 
 TOP = Path(__file__).resolve().parent.parent
 sys.path.insert(0, str(TOP / "dev"))
 from releasing import MODULE, NOTICES, PROGRAM, Broken, Built, check_version, ends_in, gate_of, headline, make, make_released, package_files, release_of, sum_of, told  # noqa: E402
 from crates import all_below, read_crates, read_uses  # noqa: E402
 from freshness import newer  # noqa: E402
-from forging import EVIL, forged, forged_packages  # noqa: E402
+from forging import EVIL, bombs, digits, forged, forged_packages, lengths, member, sparse, speaking, with_blocks, with_data  # noqa: E402
 from symbols import c_library_of  # noqa: E402
-from tool import PROGRAM as PROVED, plays  # noqa: E402
-from verifying import differences  # noqa: E402
+from test_guarding import is_command  # noqa: E402
+from tool import PROGRAM as PROVED, Answer, plays  # noqa: E402
+from verifying import HIDDEN, differences  # noqa: E402
 
 # The sources of the kit's libraries, each with its terms.
 KIT = Path("/opt/rattle/rattle")
@@ -195,7 +198,7 @@ class Release(unittest.TestCase):
     def test_the_package_for_node_has_what_npm_wants(self):
         with tarfile.open(self.release / f"saxtegun-engine-{self.version}.tgz") as tar:
             content = {info.name: tar.extractfile(info).read() for info in tar}
-        wanted = ["NOTICES", "out/saxtegun.wasm", "package.json", "replay.mjs", "saxtegun.d.ts", "saxtegun.mjs", "stages.mjs", "streams.mjs"]
+        wanted = ["NOTICES", "describe.mjs", "out/saxtegun.wasm", "package.json", "replay.mjs", "saxtegun.d.ts", "saxtegun.mjs", "stages.mjs", "streams.mjs"]
         self.assertEqual(sorted(content), [f"package/{it}" for it in wanted])
         said = json.loads(content["package/package.json"])
         self.assertEqual((said["name"], said["version"]), ("saxtegun-engine", self.version))
@@ -227,7 +230,7 @@ class Release(unittest.TestCase):
     def changed(self, name, change):
         """A file of the release in which what `change` makes of the bytes of each member stands, if it is no archive of all."""
         file = Path(self.kept.name) / f"changed-{name}"
-        with tarfile.open(self.release / name) as old, tarfile.open(file, "w:gz") as new:
+        with tarfile.open(self.release / name) as old, tarfile.open(file, "w:gz", format=tarfile.GNU_FORMAT) as new:
             for info in old:
                 content = change(info, old.extractfile(info).read())
                 info.size = len(content)
@@ -241,15 +244,17 @@ class Release(unittest.TestCase):
         another = STAND_IN._replace(module=b"another module")
         self.assertEqual(differences(self.one, self.archive, another), ["differs: engine/out/saxtegun.wasm", "differs: saxtegun.html"])
 
-    def test_a_member_with_other_rights_or_of_another_kind_is_named(self):
+    def test_a_member_with_other_rights_or_of_another_kind_is_told(self):
         def changes(info, content):
             info.mode = 0o4755 if info.name.endswith("/pz_replayer") else info.mode
-            if info.name.endswith("/VERSION"):
+            if info.name.endswith("/saxtegun"):
                 info.type, info.linkname = tarfile.SYMTYPE, "/etc/passwd"
                 return b""
             return content
 
-        self.assertEqual(differences(self.one, self.changed(self.archive.name, changes), STAND_IN), ["differs: VERSION", "differs: bin/pz_replayer"])
+        first, *others = differences(self.one, self.changed(self.archive.name, changes), STAND_IN)
+        self.assertEqual(first, "differs: bin/pz_replayer")
+        self.assertRegex(" ".join(others), r"^differs: the file itself, of which the rest isn't read: at byte \d+ of what it unpacks to a header has b'2' as its kind$")
 
     def test_what_was_changed_in_the_package_for_node_is_named(self):
         changed = self.changed(f"saxtegun-engine-{self.version}.tgz", lambda info, content: content + (b"//" if info.name.endswith("replay.mjs") else b""))
@@ -262,8 +267,12 @@ class Release(unittest.TestCase):
         put(room / "DEBIAN/postinst", b"#!/bin/sh\n")
         (room / "usr/lib/saxtegun/examples/day.lines").unlink()
         changed = Path(self.kept.name) / "changed.deb"
-        subprocess.run(["dpkg-deb", "--root-owner-group", "--build", str(room), str(changed)], check=True, stdout=subprocess.DEVNULL)
+        builds = ["dpkg-deb", "--root-owner-group", "--build", str(room), str(changed)]
+        subprocess.run([*builds[:1], "-Zgzip", *builds[1:]], check=True, stdout=subprocess.DEVNULL)
         self.assertEqual(differences(self.one, changed, STAND_IN), ["differs: DEBIAN/postinst", "differs: usr/lib/saxtegun/examples/day.lines"])
+        subprocess.run([*builds[:1], "-Zxz", *builds[1:]], check=True, stdout=subprocess.DEVNULL)
+        with self.assertRaisesRegex(Broken, "it is no Debian package of a release: control.tar.gz isn't at its place"):
+            differences(self.one, changed, STAND_IN)
 
     def assert_forged(self, ways, ending, unpacks, path):
         """None of these files is taken for ours, and the first of them does unpack to another program."""
@@ -276,8 +285,9 @@ class Release(unittest.TestCase):
         file.write_bytes(ways["a member that Python skips"])
         self.assertEqual(subprocess.run([*unpacks, str(file)], cwd=room, capture_output=True).returncode, 0)
         self.assertEqual((room / path).read_bytes(), EVIL)
-        hidden = ["differs: the file itself, in bytes that no member shows: it was packed otherwise, or hides another file"]
-        self.assertEqual(differences(self.one, file, STAND_IN), hidden)
+        self.assertRegex(" ".join(differences(self.one, file, STAND_IN)), r"^differs: the file itself, .* a header has b'ZZZZZZZ.* as its device$")
+        file.write_bytes(ways["another compression"])
+        self.assertEqual(differences(self.one, file, STAND_IN), [HIDDEN])
 
     def test_a_forged_archive_is_not_taken_for_ours(self):
         path = f"saxtegun-{self.version}-linux-x86_64/bin/pz_replayer"
@@ -293,6 +303,83 @@ class Release(unittest.TestCase):
         room = Path(self.kept.name) / "unpacked.deb"
         unpacks = ["sh", "-c", f'dpkg-deb -x "$0" "{room}"']
         self.assert_forged(forged_packages(genuine, f"./{path}"), ".deb", unpacks, path)
+
+    def verified(self, top, content):
+        """What `dev/release --verify` answers of a file."""
+        file = top.parent / "stranger"
+        file.write_bytes(content)
+        return Answer(subprocess.run([str(top / "dev/release"), "--verify", str(file)], capture_output=True))
+
+    def test_a_text_of_a_stranger_neither_acts_nor_speaks(self):
+        node, package = (self.release / it for it in (f"saxtegun-engine-{self.version}.tgz", f"saxtegun_{self.version}_amd64.deb"))
+        top = self.gate()
+        for way, (content, status) in speaking(node.read_bytes(), package.read_bytes(), self.commit).items():
+            with self.subTest(way):
+                answer = self.verified(top, content)
+                lines = [*answer.out.split("\n"), *answer.errors.split("\n")]
+                self.assertEqual([it for it in lines if not it.isprintable() or is_command(it)], [])
+                self.assertEqual(answer.status, status, answer.errors)
+                if status == 2:
+                    self.assertRegex(answer.errors, r"^release: .*\n$")
+                    self.assertNotIn("fault of saxtegun's own", answer.errors)
+                else:
+                    self.assertIn("x\\u{a}::error::spoken\\u{d}::error::again\\u{1b}[2J", answer.out)
+
+    def verified_in_little(self, file):
+        """What `dev/release --verify` answers of a file where there is not much memory and time."""
+        words = ["sh", "-c", 'ulimit -v 600000; exec "$0" "$@"', str(self.gate() / "dev/release"), "--verify", str(file)]
+        return Answer(subprocess.run(words, capture_output=True, timeout=60))
+
+    def test_what_unpacks_to_more_than_a_release_is_not_read(self):
+        file = Path(self.kept.name) / "bomb"
+        for way, content in bombs((self.release / f"saxtegun_{self.version}_amd64.deb").read_bytes()).items():
+            with self.subTest(way):
+                file.write_bytes(content)
+                self.assertLess(len(content), 2**21)
+                answer = self.verified_in_little(file)
+                self.assertEqual((answer.status, answer.out), (2, ""), answer.errors)
+                self.assertRegex(answer.errors, r"^release: (it unpacks to more than 128 MiB, which no release does|.* is no (archive|package) of a release: .*)\n\Z")
+
+    def test_what_no_release_has_ends_the_reading(self):
+        """In the package for Node, which is quickly made, and in that for Debian: behind the last member it is told, and before the first nothing is known."""
+        node, package = (self.release / it for it in (f"saxtegun-engine-{self.version}.tgz", f"saxtegun_{self.version}_amd64.deb"))
+        file = Path(self.kept.name) / "strange"
+        for way, blocks in {**sparse("package/x"), **digits("package/x"), **lengths("package/x")}.items():
+            with self.subTest(way):
+                file.write_bytes(with_blocks(node.read_bytes(), blocks))
+                self.assertRegex(" ".join(differences(self.one, file, STAND_IN)), "^differs: the file itself, of which the rest isn't read: at byte ")
+        for way, blocks in sparse("./usr/x").items():
+            with self.subTest(f"for Debian, {way}"):
+                file.write_bytes(with_data(package.read_bytes(), lambda data, it=blocks: with_blocks(data, it)))
+                self.assertRegex(" ".join(differences(self.one, file, STAND_IN)), "^differs: the file itself, of which the rest isn't read: at byte ")
+                file.write_bytes(gzip.compress(blocks + bytes(1024)))
+                with self.assertRaisesRegex(Broken, "is no archive of a release: at byte 0 of what it unpacks to a header has "):
+                    differences(self.one, file, STAND_IN)
+
+    def test_what_is_ours_is_not_read(self):
+        with mock.patch("verifying.contents_of", side_effect=AssertionError), mock.patch("verifying.contents_of_package", side_effect=AssertionError):
+            for file in sorted(self.release.iterdir()):
+                if file.name != "SHA256SUMS":  # the archive beside it says how the gate ended
+                    with self.subTest(file.name):
+                        self.assertEqual(differences(self.one, file, STAND_IN), [])
+
+    def test_texts_that_are_longer_than_any_are_not_read(self):
+        long = b"9" * 2**24
+        for ending, said in ((".json", b'{"gitHead": %b}' % long), (".txt", b"commit   %b\n%b" % (self.commit.encode(), long))):
+            names = {".json": "package/package.json", ".txt": "x/PROVED.txt"}
+            with self.subTest(ending), self.assertRaisesRegex(Broken, "is no (archive|package) of a release: "):
+                put(Path(self.kept.name) / "said", gzip.compress(member(names[ending], said) + bytes(1024)))
+                differences(self.one, Path(self.kept.name) / "said", STAND_IN)
+        put(Path(self.kept.name) / "sums", (b"0" * 64 + b"  x.tar.gz\n") * 2**15)
+        with self.assertRaisesRegex(Broken, "is no file of a release"):
+            differences(self.one, Path(self.kept.name) / "sums", STAND_IN)
+
+    def test_a_file_that_is_longer_than_a_release_is_not_read(self):
+        file = Path(self.kept.name) / "long"
+        with open(file, "wb") as long:
+            long.truncate(2**40)
+        answer = self.verified_in_little(file)
+        self.assertEqual((answer.status, answer.out, answer.errors), (2, "", f"release: {file} has more than 128 MiB, and is not read\n"))
 
     def test_sums_with_another_line_are_not_taken_for_ours(self):
         room = Path(self.kept.name) / "more sums"
@@ -331,7 +418,7 @@ class Release(unittest.TestCase):
                     differences(other, file, STAND_IN)
         for content in (b"", b"no release\n", b"\x1f\x8b", b"!<arch>\n"):
             put(Path(self.kept.name) / "none", content)
-            with self.subTest(content), self.assertRaises((Broken, OSError, EOFError, tarfile.TarError)):
+            with self.subTest(content), self.assertRaises(Broken):
                 differences(self.one, Path(self.kept.name) / "none", STAND_IN)
 
     def test_what_is_proved_is_reported(self):
@@ -389,7 +476,7 @@ class Release(unittest.TestCase):
         called = subprocess.run([str(top / "dev/release"), "--released"], capture_output=True, text=True)
         self.assertEqual((called.returncode, called.stderr), (0, ""))
         self.assert_released(top)
-        with self.assertRaisesRegex(Broken, "more than 1100000"):
+        with self.assertRaisesRegex(Broken, "more than 1150000"):
             make_released(top, self.version, os.urandom(1_000_000))
         (top / "README.md").write_text("changed\n")
         called = subprocess.run([str(top / "dev/release"), "--released"], capture_output=True, text=True)

@@ -1,17 +1,23 @@
 """How a program is run: in bounds that are told, and ended with the command; and wrong programs, which must not be believed."""
 import json
 import os
+import shutil
 import signal
 import subprocess
 import sys
+import tempfile
 import time
 import unittest
+from pathlib import Path
+from unittest import mock
 
 from day import EXAMPLE, OnSessions, lines_of_example
 from tool import TOP, environment, run
-from saxtegun import running
+from saxtegun import playing, running
 from saxtegun.commands import Refused
+from saxtegun.lines import Run
 from saxtegun.playing import Engine, batches, runs_of
+from saxtegun.running import Unanswered
 from saxtegun.sessions import MOST_BYTES, Sessions, read_sessions, sessions_in
 
 # Answers each session of its file at once, but for one that is named slow, whose answer takes as long as nobody waits.
@@ -22,8 +28,10 @@ with open(sys.argv[0] + ".log", "a") as log:
     log.write(f"{{len(entries)}}\\n")
 for number, (name, (source, inputs, level, *more)) in enumerate(entries):
     time.sleep(1000 if name == "slow" else 0.001)
-    print(json.dumps({{"at": 0, "frame": 0, "kind": "start", "level": level, "session": number}}, separators=(",", ":")))
-    print(json.dumps({{"close": "passed", "frames": 1, "name": name, "session": number}}, separators=(",", ":")))
+    kinds = ["start", *("move" if isinstance(it, int) else it for it in inputs)]
+    for at, kind in enumerate(kinds):
+        print(json.dumps({{"at": at, "frame": at, "kind": kind, "level": level, "session": number}}, separators=(",", ":")))
+    print(json.dumps({{"close": "passed", "frames": len(kinds), "name": name, "session": number}}, separators=(",", ":")))
 """
 LEVEL = "background:0,\n"
 # What a program may do wrong that is called to play; `exec` keeps what it starts from being left behind.
@@ -84,6 +92,25 @@ class Time(Programs):
         self.assertEqual(answer.out.count("passed, not solved: "), 30)
         self.assertIn("session 20, slow: unanswered: not answered in 1 s\n", answer.out)
         self.assertIn("31 sessions: 30 passed, 0 differ, 0 stopped, 0 refused, 1 not answered; 0 solved, 0 solved in part, 30 not solved\n", answer.out)
+
+    def test_sessions_that_are_not_answered_take_about_their_limits(self):
+        """Where none is answered only the first batch takes its time for nothing; else finding each takes its time some times more."""
+        for names, most in (("ssss", 5), ("s" * 200, 201), ("qs" * 40, 82), ("q" * 63 + "s", 8), ("q" * 40 + "s" + "q" * 100, 9), ("q" * 300, 0)):
+            with self.subTest(names):
+                entries = sessions_in("s", json.dumps([[it, ["", [], ""]] for it in names])).entries
+                waited = []
+
+                def played(some, of, engine, seconds):
+                    if any(it.name == "s" for it in some):
+                        waited.append(seconds)
+                        raise Unanswered("not answered")
+                    return [Run(place, it.name, "passed", None, []) for place, it in enumerate(some)]
+
+                with mock.patch.object(playing, "runs_within", played), mock.patch.object(playing, "monotonic", lambda: sum(waited)):
+                    runs = list(playing.runs_in_time(entries, None, playing.Engine(seconds=1.0)))
+                self.assertEqual([it.number for it in runs], list(range(len(names))))
+                self.assertEqual([it.close for it in runs], ["unanswered" if it == "s" else "passed" for it in names])
+                self.assertLessEqual(len(waited), most)
 
     def test_reports_have_what_is_not_answered(self):
         sessions = self.suite(["quick", "slow"])
@@ -148,6 +175,14 @@ class Bounds(Programs):
             time.sleep(0.05)
         self.fail(f"process {number} is left")
 
+    def test_what_holds_only_the_lines_is_ended_too(self):
+        """The program ends, and what it has started keeps standard output open, but not standard error."""
+        program = self.program(f"(exec 2>/dev/null; echo $$ >left; exec sleep 1000) &\nwhile [ ! -s left ]; do :; done\ncat {self.lines}\nexit 1")
+        begin = time.monotonic()
+        answer = run("lines", EXAMPLE, "--program", program, "--timeout", "60")
+        self.assertEqual((answer.status, answer.out), (1, self.lines.read_text(encoding="utf-8")))
+        self.assertLess(time.monotonic() - begin, 30)
+
     def test_the_command_takes_its_program_and_its_folders_with_it(self):
         script = f"echo $$ >'{self.room}/number'; exec sleep 1000"
         for number in (signal.SIGTERM, signal.SIGHUP, signal.SIGINT):
@@ -164,6 +199,187 @@ class Bounds(Programs):
                 self.assertEqual(ran.wait(timeout=20), 2 if number == signal.SIGINT else -number)
                 self.assertEqual(list(folder.iterdir()), [])
                 self.assert_gone(int((self.room / "number").read_text()))
+
+
+class Ended(Exception):
+    """What a signal raises here."""
+
+
+# A command that is done, and to which a signal comes as it ends.
+DONE = """
+import atexit, os, sys
+from saxtegun.commands import serve
+atexit.register(lambda: os.kill(os.getpid(), int(sys.argv[1])))
+serve("done", lambda: 0)
+"""
+
+
+# A command to which a signal comes where Python tidies up behind it, which tells of no exception.
+TIDIES = """
+import os, sys, time
+from saxtegun.commands import serve
+class Left:
+    def __del__(self):
+        os.kill(os.getpid(), int(sys.argv[1]))
+        os.getpid()
+def act():
+    Left()
+    time.sleep(20)
+    return 0
+serve("tidies", act)
+"""
+
+
+# A command in which a signal is caught by what catches all, and which takes its time to tidy up behind the next.
+DEAFENED = """
+import os, sys, time
+from saxtegun.commands import serve
+def act():
+    try:
+        os.kill(os.getpid(), int(sys.argv[1]))
+        time.sleep(20)
+    except BaseException:
+        pass
+    try:
+        time.sleep(20)
+    finally:
+        for _ in range(20):
+            time.sleep(0.02)
+        print("tidied up", flush=True)
+    return 0
+serve("deafened", act)
+"""
+
+
+# A command to which Ctrl-C comes soon behind what ends it: while it tidies up, and while what is still held is let go.
+HURRIED = """
+import gc, os, signal, sys, time
+from saxtegun.commands import serve
+class Left:
+    def __del__(self):
+        os.kill(os.getpid(), signal.SIGINT)
+        time.sleep(0.1)
+        print("let go", flush=True)
+def act():
+    held = Left()
+    held.itself = held
+    del held
+    try:
+        os.kill(os.getpid(), int(sys.argv[1]))
+        time.sleep(20)
+    finally:
+        os.kill(os.getpid(), signal.SIGINT)
+        time.sleep(0.1)
+        print("tidied up", flush=True)
+gc.disable()
+serve("hurried", act)
+"""
+
+
+# Begins the command, to which Ctrl-C comes as the first part of the package is read.
+BEGUN = """
+import os, runpy, signal, sys
+class Finder:
+    def find_spec(self, name, path=None, target=None):
+        if name == "saxtegun.calling":
+            os.kill(os.getpid(), signal.SIGINT)
+sys.meta_path.insert(0, Finder())
+sys.argv = ["saxtegun", "--version"]
+sys.path.insert(0, "python")
+runpy.run_path("saxtegun", run_name="__main__")
+"""
+
+
+class Done(unittest.TestCase):
+    def test_a_signal_as_the_command_begins_ends_it_without_a_word(self):
+        for ignores, status in ((hear_signals, -signal.SIGINT), (lambda: signal.signal(signal.SIGINT, signal.SIG_IGN), 0)):
+            with self.subTest(status=status):
+                ran = subprocess.run([sys.executable, "-B", "-c", BEGUN], cwd=TOP, stdin=subprocess.DEVNULL, capture_output=True, preexec_fn=ignores)
+                self.assertEqual((ran.returncode, ran.stderr), (status, b""))
+
+    def test_what_lies_beside_the_command_or_where_it_is_called_is_no_module_of_it(self):
+        """Modules of the names of Python's own lie beside the command, and where it is called, beside a link to it."""
+        with tempfile.TemporaryDirectory() as name:
+            top, away = Path(name) / "top", Path(name) / "away"
+            away.mkdir()
+            shutil.copytree(TOP / "python", top / "python", ignore=shutil.ignore_patterns("__pycache__"))
+            shutil.copy(TOP / "saxtegun", top / "saxtegun")
+            (away / "saxtegun").symlink_to(top / "saxtegun")
+            for module in ("argparse", "gc", "json", "os", "pathlib", "re", "saxtegun", "signal", "subprocess", "sys", "tempfile", "typing"):
+                for folder in (top, away):
+                    (folder / f"{module}.py").write_text("raise SystemExit('a stranger was run')\n")
+            os.unlink(top / "saxtegun.py")
+            for command, folder in ((top / "saxtegun", top), (top / "saxtegun", away), (away / "saxtegun", away)):
+                with self.subTest(command=command, folder=folder):
+                    ran = subprocess.run([sys.executable, "-B", str(command), "lines", "--help"], cwd=folder, stdin=subprocess.DEVNULL, capture_output=True)
+                    self.assertEqual((ran.returncode, ran.stderr), (0, b""))
+
+    def test_who_presses_ctrl_c_behind_another_signal_sees_it_end_by_that(self):
+        for number in (signal.SIGTERM, signal.SIGHUP):
+            with self.subTest(number):
+                words = [sys.executable, "-B", "-c", HURRIED, str(int(number))]
+                ran = subprocess.run(words, cwd=TOP / "python", stdin=subprocess.DEVNULL, capture_output=True, preexec_fn=hear_signals, timeout=15)
+                self.assertEqual((ran.returncode, ran.stdout, ran.stderr), (-number, b"tidied up\nlet go\n", b""))
+
+    def test_a_signal_that_something_has_caught_comes_again_and_waits_for_what_tidies_up(self):
+        for number in (signal.SIGTERM, signal.SIGHUP):
+            with self.subTest(number):
+                words = [sys.executable, "-B", "-c", DEAFENED, str(int(number))]
+                ran = subprocess.run(words, cwd=TOP / "python", stdin=subprocess.DEVNULL, capture_output=True, preexec_fn=hear_signals, timeout=15)
+                self.assertEqual((ran.returncode, ran.stdout, ran.stderr), (-number, b"tidied up\n", b""))
+
+    def test_a_signal_that_nobody_has_heard_comes_again(self):
+        for number in (signal.SIGTERM, signal.SIGHUP, signal.SIGINT):
+            with self.subTest(number):
+                words = [sys.executable, "-B", "-c", TIDIES, str(int(number))]
+                ran = subprocess.run(words, cwd=TOP / "python", stdin=subprocess.DEVNULL, capture_output=True, preexec_fn=hear_signals, timeout=15)
+                self.assertEqual((ran.returncode, ran.stdout, ran.stderr), (2 if number == signal.SIGINT else -number, b"", b""))
+
+    def test_a_signal_that_comes_behind_all_else_ends_it_without_a_word(self):
+        for number in (signal.SIGTERM, signal.SIGHUP, signal.SIGINT):
+            with self.subTest(number):
+                words = [sys.executable, "-B", "-c", DONE, str(int(number))]
+                ran = subprocess.run(words, cwd=TOP / "python", stdin=subprocess.DEVNULL, capture_output=True, preexec_fn=hear_signals)
+                self.assertEqual((ran.returncode, ran.stdout, ran.stderr), (-number, b"", b""))
+
+
+class Held(Programs):
+    def setUp(self):
+        super().setUp()
+        for number in (signal.SIGTERM, signal.SIGINT):
+            self.addCleanup(signal.signal, number, signal.signal(number, self.hear))
+
+    def hear(self, number, frame):
+        raise Ended(number)
+
+    def test_a_signal_comes_behind_what_is_not_left_halfway(self):
+        done = []
+        for number in (signal.SIGTERM, signal.SIGINT):
+            with self.assertRaises(Ended), running.held():
+                os.kill(os.getpid(), number)
+                done.append(number)
+            self.assertEqual((done[-1], signal.getsignal(number)), (number, self.hear))
+
+    def test_what_is_ignored_stays_ignored(self):
+        signal.signal(signal.SIGTERM, signal.SIG_IGN)
+        with running.held():
+            os.kill(os.getpid(), signal.SIGTERM)
+        self.assertEqual(signal.getsignal(signal.SIGTERM), signal.SIG_IGN)
+
+    def test_a_program_that_begins_as_a_signal_comes_is_ended(self):
+        """The signal comes where the program runs already, and nobody has been told of it."""
+        begun, ran = subprocess.Popen, []
+
+        def begin(*words, **options):
+            ran.append(begun(*words, **options))
+            os.kill(os.getpid(), signal.SIGTERM)
+            time.sleep(0.1)
+            return ran[0]
+
+        with mock.patch.object(subprocess, "Popen", begin), self.assertRaises(Ended), running.started(["sleep", "1000"], None, subprocess.DEVNULL):
+            self.fail("it goes on")
+        self.assertEqual(ran[0].poll(), -signal.SIGTERM)
+        ran[0].stderr.close()
 
 
 # A program that hears neither TERM nor HUP, and notes its number.
@@ -276,8 +492,8 @@ class Copies(Programs):
         game, recordings = self.write("game.txt", text), self.write("r.json", json.dumps(entries))
         answer = run("lines", recordings, "--game", game, "--program", self.program(PLAYER))
         self.assertEqual((answer.status, answer.errors), (0, ""))
-        frame = {"at": 0, "frame": 0, "kind": "start", "level": LEVEL}
-        wanted = [line for it in range(310) for line in ({**frame, "session": it}, {"close": "passed", "frames": 1, "name": f"session {it}", "session": it})]
+        frames = [{"at": at, "frame": at, "kind": kind, "level": LEVEL} for at, kind in enumerate(("start", "move"))]
+        wanted = [line for it in range(310) for line in (*({**frame, "session": it} for frame in frames), {"close": "passed", "frames": 2, "name": f"session {it}", "session": it})]
         self.assertEqual([json.loads(it) for it in answer.out.splitlines()], wanted)
         self.assertGreater(len((self.room / "program.log").read_text().split()), 1)
 

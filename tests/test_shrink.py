@@ -1,13 +1,19 @@
 """`saxtegun shrink`: of a long session on which two small engines part the smallest is left, which was worked out by hand."""
 import json
+import os
 import unittest
 from pathlib import Path
+from unittest import mock
 
 from day import OnSessions
 import tool  # puts the package on the path
 from tool import PROGRAM, plays, run
+from saxtegun.lines import Run
+from saxtegun.playing import Engine
+from saxtegun.shrinking import Programs, Shrinking
 from saxtegun.smaller import STAGES, of_columns, of_inputs, of_levels, of_lines, of_loops, of_objects
 from saxtegun.sessions import Entry
+from saxtegun.verbs.shrink import first_that_parts, write_case
 
 SOURCE = """title A yard (with a comment
 of two lines)
@@ -144,12 +150,80 @@ class Shrink(OnAYard):
         self.assert_refused(run("shrink", self.one, self.room / "none", self.sessions, "idle"), "there is no program at")
         self.assertFalse((self.room / "case").exists())
 
+    def test_a_case_takes_another_name_where_its_own_is_there_meanwhile(self):
+        """The second program makes the folder once it is called, as another call would."""
+        case = self.room / "case"
+        other = self.engine("maker", f"__import__('os').makedirs({str(case)!r}, exist_ok=True) is None")
+        answer = run("shrink", self.one, other, self.sessions, "a long day*", case)
+        self.assertEqual((answer.status, answer.errors), (0, f"shrink: {case} has come to be there meanwhile: the case is written as {case}-2\n"))
+        self.assertIn(f"the case is {case}-2\n", answer.out)
+        self.assertEqual((list(case.iterdir()), (self.room / "case-2/status").read_text()), ([], "0\n"))
+        self.assertEqual(list(self.room.glob(".saxtegun-*")), [])
+
+    def test_a_case_is_written_over_nothing(self):
+        """The first names are of a full folder, an empty one, a file and a link to nothing; and into one that was free another writes first."""
+        names = [str(self.room / name) for name in ("c", "c-2", "c-3", "c-4", "c-5", "c-6")]
+        self.room.joinpath("c").mkdir()
+        self.write("c/kept", "")
+        self.room.joinpath("c-2").mkdir()
+        self.write("c-3", "")
+        self.room.joinpath("c-4").symlink_to("nothing")
+        rename = os.rename
+
+        def late(room, name):
+            if name == names[4]:
+                self.write("c-5/strange", "")
+            rename(room, name)
+
+        with mock.patch("os.rename", late):
+            self.assertEqual(write_case(names[0], {"status": b"0\n"}), names[5])
+        self.assertEqual([os.listdir(names[it]) for it in (0, 1, 4, 5)], [["kept"], [], ["strange"], ["status"]])
+        self.assertEqual(write_case(f"{self.room}/d/", {"status": b""}), f"{self.room}/d/")
+        self.assertEqual(write_case(f"{self.room}/d/", {"status": b""}), f"{self.room}/d-2")
+
+    def test_a_program_that_shows_something_else_each_time_makes_no_case(self):
+        """It has the bug in its first call, and then in none."""
+        flaky = self.engine("flaky", "(lambda log: log.write('x') and log.tell() == 1)(open(__file__ + '.log', 'a'))")
+        answer = run("shrink", self.one, flaky, self.sessions, "a long day*", self.room / "case")
+        self.assert_refused(answer, "no longer parts as it did before: a program doesn't show the same each time")
+        self.assertFalse((self.room / "case").exists())
+
     def test_what_tells_no_stages_keeps_no_rules(self):
         teller = self.write("teller", "#!/bin/sh\necho 'no stages' >&2\nexit 2\n")
         teller.chmod(0o755)
         answer = self.shrink("a long day*", self.room / "case", "--stages", teller, teller)
         self.assert_refused(answer, "--stages: a long day in the yard was not played: no stages")
         self.assertFalse((self.room / "case").exists())
+
+
+class Counting(Programs):
+    """Programs that part on the sessions whose names begin with x, and count what they play."""
+
+    played = []
+
+    def pairs(self, entries):
+        self.played.append(len(entries))
+        for it in entries:
+            yield Run(0, it.name, "passed", None, []), Run(0, it.name, "differs" if it.name[0] == "x" else "passed", None, [])
+
+
+class First(unittest.TestCase):
+    def test_the_first_that_parts_is_found_by_playing_few_behind_it(self):
+        """Each may take all the time that a session has, where a program hangs."""
+        for count, parting, wanted in ((1000, 0, [1]), (1000, 5, [1, 2, 4]), (5, 5, [1, 2, 2])):
+            with self.subTest(parting):
+                Counting.played = []
+                entries = [ENTRY._replace(name="x" if it >= parting else "a") for it in range(count)]
+                found = first_that_parts(Counting(Engine(), Engine()), entries)
+                self.assertEqual((found is not None, Counting.played), (parting < count, wanted))
+
+
+    def test_what_each_lets_go_may_be_kept_by_all_together(self):
+        """As where a program doesn't show the same each time."""
+        shrinking = Shrinking(Programs(Engine(), Engine()), ENTRY, (), lambda *_: None)
+        for answers, wanted in (([[0, 1], []], {5}), ([[0, 1], [0]], {5, 1}), ([[0, 1], [0, 1]], {5, 1, 2}), ([[], []], {5})):
+            with mock.patch.object(Shrinking, "places_that_part", side_effect=map(iter, answers)), mock.patch("saxtegun.shrinking.fails", return_value=False):
+                self.assertEqual(shrinking.gone_with([{1}, {2}], {5}, lambda gone: ENTRY), wanted)
 
 
 class Smaller(unittest.TestCase):

@@ -6,6 +6,7 @@ import re
 import subprocess
 import sys
 import unittest
+from pathlib import Path
 from xml.etree import ElementTree
 
 from day import EXAMPLE, OnSessions
@@ -15,16 +16,26 @@ from tool import TOP, environment, run
 LONG = "long " * 1000
 STRANGE = [*NAMES, "a\rb\x1b[2J\x1b]0;title\x07", "\u0085\u2028\u2029\x0b\x0c", "::error::no ##[error]no", "see www.example.org", "| a | `b` | <b>", "\u202eright to left", LONG]
 SOURCE = "OBJECTS\nBackground .\nred\nPlayer p\nred\nLEGEND\nCOLLISIONLAYERS\nBackground\nPlayer\nRULES\n%s\nLEVELS\np.\n"
-# An engine that refuses the sessions that begin at entry 0, and shows one frame of the others.
+# An engine that refuses the sessions that begin at entry 0, and shows one level of the others.
 ENGINE = """#!%s
 import json, sys
 for number, (name, (source, inputs, level, index)) in enumerate(json.load(open(sys.argv[-1], encoding="utf-8"))):
     lines = [{"cause": "BadRule:11", "close": "refused", "frames": 0, "name": name}]
     if index:
-        frame = {"at": 0, "frame": 0, "kind": "start", "level": "background player:0,background:1,\\n"}
-        lines = [frame, {"close": "differs", "frames": 1, "name": name}]
+        kinds = ["start", *inputs]
+        lines = [{"at": at, "frame": at, "kind": kind, "level": "background player:0,background:1,\\n"} for at, kind in enumerate(kinds)]
+        lines.append({"close": "differs", "frames": len(kinds), "name": name})
     for line in lines:
         print(json.dumps({**line, "session": number}))
+sys.exit(1)
+"""
+# Plays the example.
+PLAYER = f"""#!{sys.executable}
+import sys
+sys.path.insert(0, "{Path(__file__).parent}")
+from day import lines_of_example
+sys.stdout.write(lines_of_example(open(sys.argv[-1], encoding="utf-8").read()))
+sys.stdout.flush()
 sys.exit(1)
 """
 # What may stand in a line of a terminal.
@@ -34,12 +45,13 @@ LINE = re.compile(r"[^\x00-\x1f\x7f-\x9f\u2028\u2029\u202e]*")
 class OnStreams(OnSessions):
     def setUp(self):
         super().setUp()
-        self.program = self.write("program", f"#!/bin/sh\ncat {self.lines} || exit 2\nexit 1\n")
+        self.program = self.write("program", PLAYER)
         self.program.chmod(0o755)
         self.tell_stages(b'{"changed":false,"commands":[],"headings":[],"input":1,"level":"background:0,","stage":"end","tick":0}\n')
         parts = self.room / "parts"
         parts.mkdir()
-        (parts / "parts.txt").write_text(json.dumps({"first": 0, "names": [it[0] for it in json.loads(EXAMPLE.read_text(encoding="utf-8"))]}) + "\n")
+        names = [it[0] for it in json.loads(EXAMPLE.read_text(encoding="utf-8"))]
+        (parts / "parts.txt").write_text(json.dumps({"first": 0, "names": names}) + "\n" + json.dumps({"sessions": len(names)}) + "\n")
         (parts / "00000000.lines").write_bytes(self.lines.read_bytes())
         played = ["--program", self.program]
         self.calls = [

@@ -8,7 +8,7 @@ import re
 import unittest
 from itertools import accumulate
 
-from tool import CASES, InARoom, run
+from tool import CASES, TOP, InARoom, run
 
 SESSION = re.compile(r'"session":(\d+)}$')
 SUITES = ("nine-sessions-with-workers-1", "the-second-of-three-sessions-has-a-refused-source")
@@ -121,6 +121,13 @@ class Suite(InARoom):
 
     def test_a_part_is_no_larger_than_a_file_may_be(self):
         self.assert_refused(self.split(1, f"[{','.join('0' * 65537)}]"), "more parts")
+        entry = f'["{"x" * 10_000_000}"]'
+        self.assert_refused(self.split(1, f"[{entry}, {entry}]"), "the part from session 0 on is larger than a file may be: ask for more parts")
+
+    def test_what_can_not_be_split_is_not_read_to_its_end(self):
+        text = f"[{'0,' * 131_072}0, and what is no list"
+        self.assert_refused(self.split(2, text), "there are more than 131,072 sessions, and a part has at most 65,536: ask for more parts")
+        self.assert_refused(self.split(3, text), "is no JSON list")
 
     def test_a_folder_that_is_there_is_left_alone(self):
         self.parts.mkdir()
@@ -134,16 +141,48 @@ class Suite(InARoom):
         self.assert_refused(run("join", self.parts), f"{missing.name} is missing")
 
     def test_a_part_that_was_cut_off_is_reported(self):
+        """Within its last session, or behind the one before."""
         self.split_and_play(SUITES[0], 3)
         part = self.files()[2]
         lines, sessions = part.with_suffix(".lines"), len(json.loads(part.read_text()))
-        lines.write_text("".join(lines.read_text().splitlines(keepends=True)[:-1]))
-        self.assert_refused(run("join", self.parts), f"closes {sessions - 1} of {sessions} sessions")
+        within = lines.read_text().splitlines(keepends=True)[:-1]
+        before = [it for it in within if f'"session":{sessions - 1}}}' not in it]
+        self.assertLess(len(before), len(within))
+        for left, what in ((within, f"the lines end within session {sessions - 1}"), (before, f"closes {sessions - 1} of {sessions} sessions")):
+            lines.write_text("".join(left))
+            self.assert_refused(run("join", self.parts), what)
 
     def test_the_lines_of_another_part_are_reported(self):
         self.split_and_play(SUITES[0], 9)
         self.files()[0].with_suffix(".lines").write_text('{"close":"passed","frames":0,"name":"","session":1}\n')
-        self.assert_refused(run("join", self.parts), "has no line of session 0")
+        self.assert_refused(run("join", self.parts), "line 1: session 1 where session 0 is wanted")
+
+    def test_what_is_no_line_of_the_program_in_its_place_is_reported(self):
+        """Lines of a part are torn, doubled, swapped or lost, and numbers are written in other digits than the program's."""
+        whole = (TOP / "examples/day.lines").read_text(encoding="utf-8")
+        names = [json.loads(it)["name"] for it in whole.splitlines() if it.startswith('{"close"')]
+        self.assertEqual(self.split(1, json.dumps([[it, ["", [], ""]] for it in names])).status, 0)
+        file = self.parts / "00000000.lines"
+        file.write_text(whole, encoding="utf-8")
+        self.assertEqual((run("join", self.parts).out, run("join", self.parts).status), (whole, 1))
+        lines = whole.splitlines(keepends=True)
+        torn = lines[2][:30] + lines[2][40:]
+        for text, what in (
+            ([*lines[:2], *lines[3:]], "line 3: not frame 2 of session 0"),
+            ([*lines[:3], *lines[2:]], "line 4: not frame 3 of session 0"),
+            ([*lines[:2], torn, *lines[3:]], "line 3: no line of the program"),
+            ([*lines[:2], "\n", *lines[2:]], "line 3: no line of the program"),
+            ([*lines[:2], lines[2].replace('"session":0', '"session":\u0660'), *lines[3:]], "line 3: no line of the program"),
+            ([*lines[:2], lines[2].replace('"session":0}', '"session":0 }'), *lines[3:]], "line 3, doesn't end as a line of session 0"),
+            ([re.sub('("close":"passed","frames":)[0-9]+', r"\g<1>0", it) for it in lines], "no close of a session of"),
+            ([re.sub('("close":"passed","frames":[0-9]+)', r"\1.0", it) for it in lines], "no close of a session of"),
+            ([it.replace('"close":"passed"', '"close":"well","kind":"start"') for it in lines], "no close of a session of"),
+            ([*lines, lines[0].replace('"session":0', f'"session":{len(names)}').rstrip("\n")], f"doesn't end as a line of session {len(names)}"),
+            ([*lines, lines[0].replace('"session":0', f'"session":{len(names)}')], "the lines end within session"),
+        ):
+            with self.subTest(what):
+                file.write_text("".join(text), encoding="utf-8")
+                self.assert_refused(run("join", self.parts), what)
 
     def test_a_part_that_is_gone_is_reported(self):
         self.split_and_play(SUITES[0], 9)
@@ -155,6 +194,58 @@ class Suite(InARoom):
         self.split_and_play(SUITES[0], 9)
         (self.parts / "00000010.lines").write_text("")
         self.assert_refused(run("join", self.parts), "is of no part")
+
+    def test_a_part_that_has_not_been_played_and_is_not_named_is_reported(self):
+        """The end of parts.txt is lost with the lines of the last part, whose sessions are there still."""
+        self.split_and_play(SUITES[0], 9)
+        self.without_lines(8)
+        self.files()[8].with_suffix(".lines").unlink()
+        self.change_last_line({"sessions": 8})
+        self.assert_refused(run("join", self.parts), "00000008.json is of no part")
+        (self.parts / "00000008.json").rename(self.parts / "notes.json")
+        self.assertEqual(run("join", self.parts).status, 1)
+
+    def test_a_manifest_without_its_end_is_reported(self):
+        """Also where all that it doesn't name is gone, and where it is of an older split."""
+        self.split_and_play(SUITES[0], 9)
+        self.without_lines(9)
+        for way in ("of an older split", "cut off"):
+            with self.subTest(way):
+                answer = run("join", self.parts)
+                self.assert_refused(answer, "doesn't end with the number of its sessions: it is cut off, or of an older saxtegun split; split the sessions again")
+                self.assertEqual(answer.out, "")
+            self.without_lines(8)
+            for ending in ("lines", "json"):
+                (self.parts / f"00000008.{ending}").unlink(missing_ok=True)
+
+    def test_a_manifest_that_names_other_sessions_than_it_counts_is_reported(self):
+        self.split_and_play(SUITES[0], 9)
+        for count, what in ((8, "names 9 sessions where it counts 8"), (10, "names 9 sessions where it counts 10")):
+            self.change_last_line({"sessions": count})
+            self.assert_refused(run("join", self.parts), what)
+        for count in (9.0, "9", None, [9]):
+            self.change_last_line({"sessions": count})
+            self.assert_refused(run("join", self.parts), "doesn't end with the number of its sessions")
+
+    def test_a_number_that_is_not_whole_is_no_first_session(self):
+        for first in (0.0, -0.0, False, "0", None):
+            with self.subTest(first):
+                self.parts = self.room / repr(first)
+                self.split_and_play(SUITES[0], 1)
+                manifest = self.parts / "parts.txt"
+                manifest.write_text(manifest.read_text().replace('"first": 0,', f'"first": {json.dumps(first)},'))
+                self.assert_refused(run("join", self.parts), "line 1: not the part that begins with session 0")
+
+    def without_lines(self, count):
+        """Cuts the manifest behind so many lines."""
+        manifest = self.parts / "parts.txt"
+        manifest.write_text("".join(manifest.read_text().splitlines(keepends=True)[:count]))
+
+    def change_last_line(self, value):
+        """Puts a value in place of the number of sessions, or behind the parts where there is none."""
+        manifest = self.parts / "parts.txt"
+        lines = [it for it in manifest.read_text().splitlines() if "first" in it]
+        manifest.write_text("".join(f"{it}\n" for it in [*lines, json.dumps(value)]))
 
     def test_swapped_parts_are_reported(self):
         names = "[" + ",".join(json.dumps([name, ["", [], ""]]) for name in "abcd") + "]"

@@ -1,6 +1,7 @@
 """`saxtegun test`: on the example, of which is known by hand what passes and what is solved, and on games with one fault each."""
 import json
 import os
+import re
 import signal
 import subprocess
 import sys
@@ -15,8 +16,9 @@ from saxtegun.games import Game
 from saxtegun.lines import Frame, Run
 from saxtegun.levelsets import count_of_levels, entries_of_levels, first_level, still_in
 from saxtegun.sessions import sessions_in
-from saxtegun.telling import Failure, annotation, markdown
+from saxtegun.telling import Failure, annotation, markdown, within
 from saxtegun.texts import same_text
+from saxtegun.watching import times_of
 
 # Of the example's sessions the first two play both levels to their end, the others stay within a level.
 ENDS = ("passed, solved: both levels solved", "passed, solved: the second level alone", "passed, not solved: half way through the first", "passed, not solved: there and back again")
@@ -186,6 +188,20 @@ class DayOfTests(OfAGame):
                 ran.kill()
 
 
+class Saves(OnSessions):
+    def test_another_file_of_the_same_size_and_time_is_a_save(self):
+        file, other = self.write("game.txt", "one"), self.write("other.txt", "two")
+        before, times = times_of([str(file)]), os.stat(file)
+        self.assertEqual(times_of([str(file)]), before)
+        os.utime(other, ns=(times.st_atime_ns, times.st_mtime_ns))
+        os.replace(other, file)
+        self.assertNotEqual(times_of([str(file)]), before)
+        before = times_of([str(file)])
+        file.write_text("six", encoding="utf-8")
+        os.utime(file, ns=(times.st_atime_ns, times.st_mtime_ns))
+        self.assertNotEqual(times_of([str(file)]), before)
+
+
 class Words(OfAGame):
     def test_the_names_near_a_name_are_reported(self):
         source = self.source.replace(RULE, "[ > Player | Create ] -> [ zzz | > Crate ]")
@@ -227,6 +243,16 @@ class Words(OfAGame):
         told = annotation(Failure("a,b:c\n::error::", "differs", "50%\r\n::x", ["::error::y"], "g:1,a", 7))
         self.assertEqual(told.count("\n"), 0)
         self.assertTrue(told.startswith("::error file=g%3A1%2Ca,line=7,title=a%2Cb%3Ac"))
+
+    def test_a_summary_is_no_longer_than_github_shows(self):
+        """Each failure has some of its lines, and one that says how many are left out; so it is where a fence is long."""
+        for line in ("x" * 200, "`" * 30_000, "\u202e" * 5_000, "::" * 20_000, "y" * 3_000_000):
+            with self.subTest(line[:2]):
+                failures = [Failure(f"n{it}" + "|" * 300, "differs", "*" * 300, [line] * 2_000, "", 1) for it in range(30)]
+                text = markdown(failures, "30 sessions")
+                self.assertLess(len(text.encode()), 2**20)
+                self.assertEqual(len(re.findall(r"(?m)^and [0-9]+ more lines: it is cut here, since GitHub shows no summary of more than 1 MiB$", text)), 20)
+        self.assertEqual(within(["some", "lines"], 11), ["some", "lines"])
 
     def test_a_summary_holds_no_markup_of_a_game(self):
         failures = [Failure(name, "differs", name, ["````", name], "", 1) for name in NAMES * 4]

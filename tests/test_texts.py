@@ -4,10 +4,14 @@ import re
 import subprocess
 import sys
 import unittest
+from difflib import get_close_matches
+from random import Random
 
 from day import OnSessions
 from test_test import RULE, OfAGame
 from tool import TOP, environment, plays, run
+from saxtegun.commands import cut
+from saxtegun.sessions import fault_of, is_nearly_demand
 
 STUCK = "[ > Player | Crate ] -> [ Player | Crate ]"
 
@@ -131,10 +135,29 @@ class DayOfDemands(OfAGame):
             self.assert_refused(run("test", self.game, self.recordings, *words), f"{words[-2]} fits no session (lvel*)")
 
     def test_a_demand_with_a_slip_is_refused(self):
-        for word in ("slved", "Solved", "solve"):
-            suite = self.write_entries([[*self.entries[0], word]])
-            self.assert_refused(run("test", self.game, suite), f"session 0, line 1: its further element {word!r} is nearly 'solved', and would demand nothing")
+        suite = self.write_entries([[*self.entries[0], "slved"]])
+        self.assert_refused(run("test", self.game, suite), "session 0, line 1: its further element 'slved' is nearly 'solved', and would demand nothing")
         self.assertEqual(run("test", self.game, self.write_entries([[*self.entries[0], "by hand"]])).status, 0)
+
+
+class Demands(unittest.TestCase):
+    def test_what_is_meant_to_demand_and_does_not_is_refused(self):
+        body = ["", [], ""]
+        for it in ("slved", "Solved", "solve", "solevd", "soved", "xsolved", "must be solved", "to be solved", "SOLVED NOW", "\u2713solved", "solved " * 1000):
+            self.assertEqual(fault_of(["a", body, 1, it]), f"its further element {cut(it)!r} is nearly 'solved', and would demand nothing")
+        for it in (["solved"], {"solved": True}, {"must": "be Solved"}, [[{"a": [1, "solved"]}]]):
+            told = "a list" if isinstance(it, list) else "an object"
+            self.assertEqual(fault_of(["a", body, it]), f"its further element that is {told} holds 'solved', and would demand nothing")
+        for it in ("solved", "by hand", "", "so", "salad", "1716.5", "love", "told you", True, None, 0, [], {}, [["slved"]], {"by": ["hand"]}):
+            self.assertIsNone(fault_of(["a", body, it]), it)
+
+    def test_what_is_nearly_the_word_is_so_by_its_letters_in_their_order(self):
+        """What difflib finds so alike, and not much else."""
+        tried = Random(0)
+        for _ in range(20_000):
+            word = "".join(tried.choice("solvedxy") for _ in range(tried.randrange(3, 11)))
+            is_alike = bool(get_close_matches(word, ["solved"], cutoff=0.8))
+            self.assertTrue(is_nearly_demand(word) or not is_alike or word == "solved", word)
 
 
 class Believed(OnSessions):
@@ -161,7 +184,7 @@ class Believed(OnSessions):
         lines = self.lines.read_text(encoding="utf-8").splitlines(keepends=True)
         answer = run("lines", TOP / "examples/block-pushing.json", "--program", self.program("".join(lines[:-18])))
         self.assertEqual(answer.status, 2)
-        self.assertIn("the program wrote nothing of 1 session of 5", answer.errors)
+        self.assertIn("the program closed 4 sessions of 5", answer.errors)
 
 
 # An engine that waits for a file, and so plays as long as a test wants.

@@ -12,8 +12,7 @@ function shapeAt(column, row, direction, size) {
 }
 
 // Draws an arrow for each of what heads somewhere, [column, row, object, direction], on cells of so many pixels.
-export function drawArrows(canvas, headings, size) {
-  const context = canvas.getContext("2d");
+export function drawArrows(context, headings, size) {
   context.lineWidth = Math.max(1, size / 16);
   context.lineJoin = "round";
   for (const [column, row, , direction] of headings) {

@@ -1,5 +1,5 @@
 // The cells of a level in words, and those in which two levels differ as a list that is gone through one by one.
-import { at, make, plural } from "./elements.mjs";
+import { at, fill, make, plural } from "./elements.mjs";
 import { heightOf, isDrawn, numberAt, placeOf } from "./levels.mjs";
 
 const MOST_LISTED = 300;
@@ -16,10 +16,11 @@ export function whereTold(level, number) {
 // What stands in the rows of a level, a sentence for each: cells that are alike beside one another are counted.
 export function rowsInWords(level, namesOf) {
   if (!isDrawn(level)) return [];
+  const known = new Map([...new Set(level.cells)].map((label) => [label, cellTold(namesOf(label))]));
   return Array.from({ length: heightOf(level) }, (_, row) => {
     const runs = [];
     for (let column = 0; column < level.width; column += 1) {
-      const told = cellTold(namesOf(level.cells[numberAt(level, column, row)])), last = runs.at(-1);
+      const told = known.get(level.cells[numberAt(level, column, row)]), last = runs.at(-1);
       if (last?.told === told) last.count += 1;
       else runs.push({ told, count: 1 });
     }
@@ -42,7 +43,7 @@ export class InWords {
 
   draw() {
     if (!at("in-words").open || this.level === null) return;
-    at("words").replaceChildren(...rowsInWords(this.level, this.namesOf).map((row) => make("li", "", row)));
+    fill(at("words"), rowsInWords(this.level, this.namesOf).map((row) => make("li", "", row)));
   }
 }
 

@@ -1,11 +1,11 @@
 // Recordings in any text: what an editor's console prints, with whatever stands around it, or published test data. The twin of
 // python/saxtegun/finding.py, which holds what is looked for; both are held to the texts of tests/forms.
-import { WHITE_SPACE, behindSpace, endOfEscaped, endOfText, tokenAt, unescaped } from "./javascript.mjs";
+import { ROUNDS, WHITE_SPACE, behindSpace, endOfEscaped, endOfText, tokenAt, unescaped } from "./javascript.mjs";
 import { faultOf, restOf } from "./session-file.mjs";
 
 const SPACE_SET = `[${WHITE_SPACE}]*`;
-const BREAK = `[${WHITE_SPACE}>]*(?:(?:<br${SPACE_SET}/?>|&nbsp;)[${WHITE_SPACE}>]*)*`;
-const BROKEN_LINES = `${SPACE_SET}(?:\\\\[nrt]${SPACE_SET})*`;
+const BREAK = `[${WHITE_SPACE}>]*(?:(?:<br${SPACE_SET}/?>|&nbsp;)[${WHITE_SPACE}>]*)${ROUNDS}`;
+const BROKEN_LINES = `${SPACE_SET}(?:\\\\[nrt]${SPACE_SET})${ROUNDS}`;
 // Where a recording may begin: a list whose first item is a text; such a list as a text, or escaped; and such a list in HTML.
 const BEGIN = new RegExp(
   `(?<list>\\[(?=${BREAK}["'\`\u201c\u201d\u201e]))|(?<quoted>["'\`](?=${BROKEN_LINES}\\[${BROKEN_LINES}\\\\?["'\`]))`
@@ -138,13 +138,14 @@ class Search {
     else this.found.push({ line: this.lineOf(at), name, source, inputs, level, index: Math.min(index ?? 0, Number.MAX_SAFE_INTEGER), ...restOf(entry) });
   }
 
-  // Takes a recording of which only the last brackets are missing, and says which is cut off.
+  // Takes a recording of which only the last brackets are missing, and says which is cut off: also one that is cut in a further text.
   tellCut(lists, at) {
     if (lists.length === 0) return;
     let items = lists.map((it) => it.items);
     if (items.length === 2 && items[1].length > 3) items = [[...items[0], items[1]]];
-    if (items.length === 1 && isEntry(items[0])) return this.take(lists[0].at, items[0].slice(0, 2));
-    if (this.hasHeading(lists[0].at, at)) this.skipped.push({ line: this.lineOf(lists[0].at), what: "cut-off" });
+    const isWhole = items.length === 1 && isEntry(items[0]), isInText = at < this.text.length && "\"'`\u201c\u201d\u201e".includes(this.text[at]);
+    if (isWhole && !isInText) this.take(lists[0].at, items[0]);
+    else if (isWhole || this.hasHeading(lists[0].at, at)) this.skipped.push({ line: this.lineOf(lists[0].at), what: "cut-off" });
   }
 
   // Whether a heading of a source stands in what was read, or soon behind it in its line.

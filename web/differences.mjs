@@ -28,10 +28,9 @@ function namesOnTheLeft(rules) {
 
 // The properties of one layer that stand on the left of a rule, [{ name, members, line }]: the first of them, since a source may have many.
 function propertiesOf(game, rules) {
-  const layers = new Map(game.objects.map(({ name, layer }) => [name, layer]));
   const named = [...namesOnTheLeft(rules)].filter(([name]) => game.definitions.get(name)?.how === "or").slice(0, MOST_PROPERTIES);
   return named.map(([name, line]) => ({ name, line, members: game.members(name) }))
-    .filter(({ members }) => members.length > 1 && new Set(members.map((it) => layers.get(it))).size === 1);
+    .filter(({ members }) => members.length > 1 && new Set(members.map((it) => game.layers.get(it))).size === 1);
 }
 
 const hasKeyword = (source, keyword) => linesOf(source).some((line) => line.section === "prelude" && wordsOf(fold(line.text))[0] === keyword);
@@ -57,7 +56,6 @@ function parted(text, by) {
 
 const wordsIn = (side) => wordsOf(side.replace(BRACKETS, " "));
 const sidesOf = (text) => parted(text.slice(0, MOST_OF_A_RULE), "->");
-const haveCommon = (one, other) => [...one].some((it) => other.has(it));
 
 // A rule of several rows of one cell, which the site scans in its own direction, or nothing.
 function scanTold(rules) {
@@ -73,41 +71,60 @@ function scanTold(rules) {
 
 const cellsIn = (side) => [...side.matchAll(ROW)].flatMap(([, row]) => row.split("|"));
 
-// The names of a cell that have no word before them, each with the layers of its objects: { named, all }, the second of all its names.
-function layersIn(cell, game, layers) {
-  const named = new Map(), all = new Set();
-  let before = "";
-  for (const word of wordsOf(cell)) {
-    if (!BEFORE_A_NAME.has(word)) {
-      const of = new Set(game.members(word).map((it) => layers.get(it)));
-      for (const it of of) all.add(it);
-      if (before === "") named.set(word, of);
-    }
-    before = BEFORE_A_NAME.has(word) ? word : "";
+// The layers of the objects that names of a game stand for, as the bits of a number: that of a layer is at its number plus one, that of no layer is the
+// first. Each name is gone through once, since many words of rules may be one name of many objects.
+class Layers {
+  constructor(game) {
+    Object.assign(this, { game, known: new Map() });
   }
-  return { named, all };
+
+  of(name) {
+    const meaning = this.game.meaningOf(name);
+    if (!this.known.has(meaning)) this.known.set(meaning, this.bitsOf(this.game.members(meaning)));
+    return this.known.get(meaning);
+  }
+
+  bitsOf(members) {
+    const numbers = new Set(members.map((it) => (this.game.layers.get(it) ?? -1) + 1));
+    const most = members.length === 0 ? 0 : [...numbers].reduce((one, other) => Math.max(one, other));
+    return BigInt(`0b${Array.from({ length: most + 1 }, (_, place) => (numbers.has(most - place) ? "1" : "0")).join("")}`);
+  }
+
+  // The names of a cell that have no word before them, each with its layers: { named, all }, the second of all its names.
+  ofCell(cell) {
+    const named = new Map();
+    let all = 0n, before = "";
+    for (const word of wordsOf(cell)) {
+      if (!BEFORE_A_NAME.has(word)) {
+        all |= this.of(word);
+        if (before === "") named.set(word, this.of(word));
+      }
+      before = BEFORE_A_NAME.has(word) ? word : "";
+    }
+    return { named, all };
+  }
 }
 
 // The layers in which rules move something, and that of the player.
-function movedLayers(game, rules, layers) {
+function movedLayers(rules, layers) {
   const names = ["player"];
   for (const { text } of rules) {
     const words = wordsIn(sidesOf(text).behind);
     words.slice(1).forEach((name, at) => { if (BEFORE_A_NAME.has(words[at]) && words[at] !== "no" && words[at] !== "stationary") names.push(name); });
   }
-  return new Set([...new Set(names.slice(0, MOST_OF_A_RULE))].flatMap((name) => game.members(name)).map((it) => layers.get(it)));
+  return names.slice(0, MOST_OF_A_RULE).reduce((all, name) => all | layers.of(name), 0n);
 }
 
 // A rule that places an object without a word where its left cell has nothing of its layer, and something may move; or nothing.
 function placedTold(game, rules) {
-  const layers = new Map(game.objects.map(({ name, layer }) => [name, layer])), moved = movedLayers(game, rules, layers);
+  const layers = new Layers(game), moved = movedLayers(rules, layers);
   for (const { number, text } of rules) {
     if (wordsOf(text.split("[", 1)[0]).includes("late")) continue;
     const { before, behind } = sidesOf(text), lefts = cellsIn(before), rights = cellsIn(behind);
     for (const [at, right] of rights.slice(0, lefts.length).entries()) {
-      const there = layersIn(lefts[at], game, layers).all;
-      for (const [name, of] of layersIn(right, game, layers).named) {
-        if (haveCommon(of, moved) && !haveCommon(of, there)) return `the rule on line ${number} places \`${shortened(name)}\`, which takes over what moves in its layer: on the site it is still`;
+      const there = layers.ofCell(lefts[at]).all;
+      for (const [name, of] of layers.ofCell(right).named) {
+        if ((of & moved) !== 0n && (of & there) === 0n) return `the rule on line ${number} places \`${shortened(name)}\`, which takes over what moves in its layer: on the site it is still`;
       }
     }
   }

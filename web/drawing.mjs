@@ -1,9 +1,11 @@
 // Draws a level on a canvas, from the look of its game: { ground, objects }. The ground is a colour; each object is
 // [name, layer, colours, sprite], where a colour that is null is transparent, and a sprite is 25 letters (a digit for a colour,
 // or "." for none), or "" for a block of the first colour.
-import { heightOf, isDrawn, placeOf } from "./levels.mjs";
+import { drawArrows } from "./arrows.mjs";
+import { differing, heightOf, isDrawn, numberAt, placeOf } from "./levels.mjs";
 
 export const SIDE = 5; // pixels of a sprite
+const ON_CANVAS = new WeakMap(); // for each canvas what it shows: { level, pictures, scale, marked }
 const DARK = "#000000"; // of the inner line of a frame
 
 function paintObject(context, [, , colours, sprite]) {
@@ -76,20 +78,34 @@ function frameCells(context, level, size, { cells, colour, isWhole = true, weigh
   }
 }
 
-// Draws a level so many pixels for each of a sprite's. `framed` are cells that get a frame, whole or its corners alone: [{ cells, colour, isWhole }].
-export function drawLevel(canvas, level, pictures, scale, framed = []) {
-  canvas.hidden = !isDrawn(level);
-  if (canvas.hidden) return;
-  const size = SIDE * scale;
+// The cells in which a canvas doesn't show a level: those that changed, or had a mark. Null where it shows another game, or another size.
+function unshown(shown, level, pictures, scale) {
+  if (shown === undefined || shown.pictures !== pictures || shown.scale !== scale || shown.level.order !== level.order) return null;
+  const changed = differing(shown.level, level);
+  return changed === null ? null : [...new Set(changed.concat(shown.marked))];
+}
+
+function allOf(canvas, level, size) {
   canvas.width = level.width * size;
   canvas.height = heightOf(level) * size;
-  const context = canvas.getContext("2d");
-  context.imageSmoothingEnabled = false;
-  level.cells.forEach((label, number) => {
+  return [...level.cells.keys()];
+}
+
+// Draws a level so many pixels for each of a sprite's, of what the canvas shows already only the cells that change. `framed` are cells that get a frame,
+// whole or its corners alone: [{ cells, colour, isWhole }]; what heads somewhere gets an arrow: [column, row, object, direction].
+export function drawLevel(canvas, level, pictures, scale, framed = [], headings = []) {
+  canvas.hidden = !isDrawn(level);
+  if (canvas.hidden) return;
+  const size = SIDE * scale, context = canvas.getContext("2d");
+  for (const number of unshown(ON_CANVAS.get(canvas), level, pictures, scale) ?? allOf(canvas, level, size)) {
     const [column, row] = placeOf(level, number);
-    context.drawImage(pictures.of(label), column * size, row * size, size, size);
-  });
+    context.imageSmoothingEnabled = false;
+    context.drawImage(pictures.of(level.cells[number]), column * size, row * size, size, size);
+  }
   for (const frame of framed) frameCells(context, level, size, frame);
+  drawArrows(context, headings, size);
+  const marked = [...framed.flatMap(({ cells }) => cells), ...headings.map(([column, row]) => numberAt(level, column, row))];
+  ON_CANVAS.set(canvas, { level, pictures, scale, marked });
 }
 
 // The column and the row of the cell below a pointer, both from 0.

@@ -1,6 +1,6 @@
 // Draws the state of the playground: draw(state, doing, isBusy) shows all of it, and nothing else changes what the page shows. It reads the state and never
 // changes it.
-import { at, make, plural, readable } from "./elements.mjs";
+import { at, fill, make, plural, readable } from "./elements.mjs";
 import { levelsOf } from "./game.mjs";
 import { LevelDrawn } from "./level-drawn.mjs";
 import { clockTold, faultOfText, othersTold, ownTold, putBackTold, statusOf, stepTold, tabTold, verdictOf } from "./page-words.mjs";
@@ -83,7 +83,7 @@ export class Drawn {
     const options = levels.map(({ number, index: entry, width, height }) => new Option(`${number} (${width} \u00d7 ${height})`, entry, false, entry === index));
     // a session may start at a message, and plays from the next level on
     if (!levels.some((level) => level.index === index)) options.unshift(new Option(`from entry ${index} on`, index, false, true));
-    at("levels").replaceChildren(...options);
+    fill(at("levels"), options);
     say("title", game.title);
     say("notes", game.notes.length > 0 ? `${game.notes.join("; ")}.` : "");
   }

@@ -11,6 +11,13 @@ export function make(tag, className, text) {
   return element;
 }
 
+// Puts nodes into an element, in the place of what is there. A stranger may cause more of them than a call takes arguments.
+export function fill(element, nodes) {
+  const all = document.createDocumentFragment();
+  for (const node of nodes) all.append(node);
+  element.replaceChildren(all);
+}
+
 export function makeButton(className, text, act) {
   const button = make("button", className, text);
   button.type = "button";

@@ -15,6 +15,7 @@ const HEX = /^#(?:[0-9a-f]{3}|[0-9a-f]{6})$/;
 const PIXELS = /^[0-9.]+$/;
 const ROWS = 5; // of a sprite, each of as many pixels
 const MOST_COLOURS = 10; // a pixel is a digit, so no further colour is drawn
+const SWITCHES = new Map(Object.entries({ noaction: 4, noundo: "undo", norestart: "restart" })); // words of the prelude that switch a key off
 const MOST_LETTERS = 200; // of a text of a stranger that is read in a line among others
 const NAMES_GONE_THROUGH = 500_000; // are gone through to find what all others stand for: far more than in a game that is played
 
@@ -84,24 +85,28 @@ export class Game {
     this.notes = [];
     this.title = "a game";
     this.ground = PALETTE.get("black");
+    this.switches = new Map(); // by an input the word that switches it off: the site takes no such key, so no recording has it
     this.readPrelude(of("prelude"));
     const blocks = blocksOf(of("objects"));
     this.firstNames = firsts(blocks.flatMap((block) => block.names.map((name) => [name, block.names[0]])));
     this.definitions = firsts(of("legend").map(definitionOf).filter(Boolean));
     this.namesLeft = NAMES_GONE_THROUGH;
     this.knownMembers = new Map();
+    this.knownMeanings = new Map();
+    this.knownKeys = new Map();
     this.drawingNames = new Map();
-    const layers = this.layersOf(of("collisionlayers"));
-    this.objects = blocks.map((block) => ({ name: block.names[0], colours: this.coloursOf(block), sprite: this.spriteOf(block), layer: layers.get(block.names[0]) ?? null }));
-    this.glyphs = this.glyphsOf([...of("objects"), ...of("legend")], layers);
-    const background = layers.get(this.members("background")[0]);
+    this.layers = this.layersOf(of("collisionlayers"));
+    this.objects = blocks.map((block) => ({ name: block.names[0], colours: this.coloursOf(block), sprite: this.spriteOf(block), layer: this.layers.get(block.names[0]) ?? null }));
+    this.glyphs = this.glyphsOf([...of("objects"), ...of("legend")]);
+    const background = this.layers.get(this.members("background")[0]);
     this.grounds = new Set(this.objects.filter((object) => object.layer !== null && object.layer === background).map((object) => object.name));
   }
 
   readPrelude(lines) {
     for (const line of lines) {
       const [keyword, value] = cutAtSpace(line);
-      if (fold(keyword) === "title") this.title = shortened(trimmed(value));
+      if (SWITCHES.has(fold(keyword))) this.switches.set(SWITCHES.get(fold(keyword)), fold(keyword));
+      else if (fold(keyword) === "title") this.title = shortened(trimmed(value));
       else if (fold(keyword) === "background_color") this.ground = this.colourOf(fold(trimmed(value))) ?? this.ground;
       else if (fold(keyword) === "color_palette" && !DEFAULT_PALETTE.includes(fold(trimmed(value)))) {
         this.notes.push(`its palette ${trimmed(value)} is drawn by the colours of arnecolors`);
@@ -133,12 +138,27 @@ export class Game {
 
   // The objects that a name stands for, in the order of first mention. A name that reaches itself is gone through once.
   members(name) {
-    if (!this.knownMembers.has(name)) {
+    const meaning = this.meaningOf(name);
+    if (!this.knownMembers.has(meaning)) {
       const seen = new Set();
-      this.knownMembers.set(name, this.namesLeft > 0 ? this.membersBeyond(name, seen) : []);
+      this.knownMembers.set(meaning, this.namesLeft > 0 ? this.membersBeyond(meaning, seen) : []);
       this.namesLeft -= seen.size;
     }
-    return this.knownMembers.get(name);
+    return this.knownMembers.get(meaning);
+  }
+
+  // The name that a synonym stands for in the end, itself no synonym; one of those that stand for one another where there is none. What is found out is kept
+  // for all synonyms on the way.
+  meaningOf(name) {
+    const way = new Set();
+    let word = name;
+    while (!this.knownMeanings.has(word) && !way.has(word) && !this.firstNames.has(word) && this.definitions.get(word)?.how === "same") {
+      way.add(word);
+      word = this.definitions.get(word).names[0];
+    }
+    const meaning = this.knownMeanings.get(word) ?? word;
+    for (const synonym of way) this.knownMeanings.set(synonym, meaning);
+    return meaning;
   }
 
   // The objects that a name stands for and that are not reached through names that are seen; those that are gone through are seen then.
@@ -149,7 +169,7 @@ export class Game {
       if (seen.has(word)) continue;
       seen.add(word);
       if (this.firstNames.has(word)) found.add(this.firstNames.get(word));
-      else if (this.definitions.has(word)) left.push(...[...this.definitions.get(word).names].reverse());
+      else if (this.definitions.has(word)) for (const it of [...this.definitions.get(word).names].reverse()) left.push(it);
     }
     return [...found];
   }
@@ -178,15 +198,17 @@ export class Game {
     return layers;
   }
 
-  // The objects that a letter draws: of one layer the last stands.
-  drawnBy(letter, layers) {
-    return [...new Map(this.members(fold(letter)).map((name) => [layers.get(name), name])).values()];
+  // The key of the objects that a letter draws: of one layer the last stands.
+  keyDrawnBy(letter) {
+    const meaning = this.meaningOf(fold(letter));
+    if (!this.knownKeys.has(meaning)) this.knownKeys.set(meaning, keyOf(new Map(this.members(meaning).map((name) => [this.layers.get(name), name])).values()));
+    return this.knownKeys.get(meaning);
   }
 
   // For a set of objects the letter that draws it in LEVELS, as it was written first.
-  glyphsOf(lines, layers) {
+  glyphsOf(lines) {
     const letters = new Set(lines.flatMap(wordsOf).filter((word) => word.length <= 2 && [...word].length === 1));
-    return firsts([...letters].filter((letter) => this.draws(fold(letter))).map((letter) => [keyOf(this.drawnBy(letter, layers)), letter]));
+    return firsts([...letters].filter((letter) => this.draws(fold(letter))).map((letter) => [this.keyDrawnBy(letter), letter]));
   }
 
   // The letter that draws a cell of these names, with the background or without it, or null.
@@ -196,7 +218,7 @@ export class Game {
 
   // The game as drawing.mjs draws it. An object without a layer is drawn above all others.
   look() {
-    const above = 1 + Math.max(0, ...this.objects.map((object) => object.layer ?? 0));
+    const above = 1 + this.objects.reduce((most, object) => Math.max(most, object.layer ?? 0), 0);
     return { ground: this.ground, objects: this.objects.map(({ name, layer, colours, sprite }) => [name, layer ?? above, colours, sprite]) };
   }
 }

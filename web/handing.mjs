@@ -4,6 +4,11 @@ import { at } from "./elements.mjs";
 import { allSkippedTold, nothingTold } from "./findings.mjs";
 import { Refusal, codingOf, textOf } from "./session-file.mjs";
 
+const MOST_OF_A_FILE = 64 * 2 ** 20; // of a file that is read, as python/saxtegun/files.py has it
+
+// Why a file isn't read, by its size, or null.
+const tooLongTold = (name, size) => (size > MOST_OF_A_FILE ? `${name} has more than 64 MiB, and is not read` : null);
+
 // Whether a text is a sessions file, or meant to be one.
 function isSessions(text) {
   try {
@@ -18,6 +23,8 @@ const isLines = (text) => text.trimStart()[0] === "{" && !text.includes('"source
 
 // What bytes are taken for, { kind, text, bytes, found, skipped }: "sessions", "recordings" (found in a text), "lines", or a "game". Refused where they are none.
 export function handed(name, bytes) {
+  const long = tooLongTold(name, bytes.length);
+  if (long !== null) throw new Refusal(long);
   const coding = codingOf(bytes), text = textOf(bytes, name, coding), isWide = coding !== "utf-8", plain = text.replace(/^\ufeff+/, "");
   if (isSessions(isWide ? plain : text)) return { kind: "sessions", text, bytes: isWide ? new TextEncoder().encode(plain) : bytes };
   const { found, skipped } = findingsIn(plain);
@@ -46,12 +53,18 @@ export function download(name, content) {
   setTimeout(() => URL.revokeObjectURL(address), 10_000);
 }
 
-// Hands on files that are chosen, dropped or pasted: take(name, bytes). That some are being read is told by during(promise).
-export function takeFiles(take, during) {
-  const takeEach = async (files) => {
-    for (const file of files) await take(file.name, new Uint8Array(await file.arrayBuffer()));
-  };
-  const takeAll = (files) => during(takeEach(files));
+// Hands on files, one behind the other: take(name, bytes). One that is too long is told by refuse(why), and none of it is read.
+export async function takeEach(files, take, refuse) {
+  for (const file of files) {
+    const why = tooLongTold(file.name, file.size);
+    if (why === null) await take(file.name, new Uint8Array(await file.arrayBuffer()));
+    else refuse(why);
+  }
+}
+
+// Hands on files that are chosen, dropped or pasted, as above. That some are being read is told by during(promise).
+export function takeFiles(take, refuse, during) {
+  const takeAll = (files) => during(takeEach(files, take, refuse));
   at("open").addEventListener("click", () => at("file").click());
   at("file").addEventListener("change", async () => {
     await takeAll([...at("file").files]);

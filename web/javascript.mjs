@@ -2,6 +2,8 @@
 
 // What Python calls white space in a text.
 export const WHITE_SPACE = "\\t-\\r\\x1c-\\x20\\x85\\xa0\\u1680\\u2000-\\u200a\\u2028\\u2029\\u202f\\u205f\\u3000";
+// So many rounds of a group are matched at once: each is remembered until the match ends, and a hundred thousand are too many.
+export const ROUNDS = "{0,1000}";
 // White space, and line breaks of HTML; then the sign before a line that is quoted.
 const GAP = new RegExp(`[${WHITE_SPACE}\\ufeff]+|<br[${WHITE_SPACE}]*/?>|&nbsp;`, "y");
 const QUOTED_LINE = /[ \t]*>+/y;
@@ -19,8 +21,8 @@ const QUOTES = new Map([
   ..."\u201c\u201d\u201e".split("").map((quote) => [quote, { ends: SMART_ENDS, plain: /[^\u201c\u201d\\\n]*/y }]),
 ]);
 const ESCAPED_PLAIN = /[^"\\\n]*/y;
-// A list of inputs as JSON has it, which is what most of a recording is.
-const INPUT_LIST = new RegExp(`\\[[0-9,${WHITE_SPACE}]*(?:"(?:undo|restart|tick)"[0-9,${WHITE_SPACE}]*)*\\]`, "y");
+// What stands in a list of inputs as JSON has it, which is what most of a recording is.
+const INPUT_PIECE = new RegExp(`[0-9,${WHITE_SPACE}]*(?:"(?:undo|restart|tick)"[0-9,${WHITE_SPACE}]*)${ROUNDS}`, "y");
 
 export const isQuote = (letter) => QUOTES.has(letter);
 
@@ -95,11 +97,20 @@ function valueOfWord(word) {
   return { value: word.length < 16 ? Number(word) : BigInt(word) < MOST_WHOLE && BigInt(word) >= 0n ? Number(BigInt(word)) : NaN };
 }
 
+// Where the text goes on behind inputs.
+function behindInputs(text, begin) {
+  for (let at = begin; ;) {
+    const { length } = foundAt(INPUT_PIECE, text, at);
+    if (length === 0) return at;
+    at += length;
+  }
+}
+
 // The list of inputs that begins at a place and is JSON as it stands, or null.
 function inputsAt(text, at) {
-  const found = foundAt(INPUT_LIST, text, at);
+  const end = behindInputs(text, at + 1) + 1;
   try {
-    return found === null ? null : { kind: "value", value: JSON.parse(found), at, end: at + found.length };
+    return text[end - 1] === "]" ? { kind: "value", value: JSON.parse(text.slice(at, end)), at, end } : null;
   } catch {
     return null;
   }

@@ -2,7 +2,7 @@
 import { shapeOf } from "./closes.mjs";
 import { DifferingCells, InWords, cellTold, whereTold } from "./cells.mjs";
 import { Pictures, SIDE, cellBelow, drawLevel, scaleFor } from "./drawing.mjs";
-import { at, cut, json, make, readable } from "./elements.mjs";
+import { at, cut, fill, json, make, readable } from "./elements.mjs";
 import { Run, textOf } from "./frames.mjs";
 import { InputStrip } from "./input-strip.mjs";
 import { differing, heightOf, isDrawn, numberAt, placeOf } from "./levels.mjs";
@@ -85,7 +85,7 @@ export class Player {
   showSource() {
     const lines = this.session.source;
     at("source").hidden = lines.length === 0;
-    at("source").replaceChildren(...lines.map(([number, text, isHere]) => make("span", isHere ? "row here" : "row", `${String(number).padStart(5)}  ${text}`)));
+    fill(at("source"), lines.map(([number, text, isHere]) => make("span", isHere ? "row here" : "row", `${String(number).padStart(5)}  ${text}`)));
   }
 
   // ---- frames

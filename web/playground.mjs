@@ -108,7 +108,7 @@ class Playground {
 
   // ---- files, and what is kept
 
-  // Takes a file by what is in it.
+  // Takes a file by what is in it. Whatever goes wrong, it is said that it was not opened.
   async take(name, bytes) {
     try {
       const it = handed(name, bytes);
@@ -117,9 +117,14 @@ class Playground {
       else if (it.kind === "lines") await this.runner.idle().then(() => this.act(comparedWithLines, name, it.text));
       else this.takeGame(it.text);
     } catch (error) {
-      if (!(error instanceof Refusal)) throw error;
-      this.act((state) => ({ ...state, told: { text: `Not opened: ${error.message}.`, close: "refused" } }));
+      if (!(error instanceof Refusal)) console.error(error);
+      this.refuse(error.message);
     }
+  }
+
+  // Says why a file isn't opened.
+  refuse(why) {
+    this.act((state) => ({ ...state, told: { text: `Not opened: ${why}.`, close: "refused" } }));
   }
 
   takeGame(text) {
@@ -142,7 +147,7 @@ async function start() {
   await store.goOn(read);
   const page = new Playground(state, engine, store);
   listen(page);
-  takeFiles((name, bytes) => page.take(name, bytes), (coming) => page.runner.during(coming));
+  takeFiles((name, bytes) => page.take(name, bytes), (why) => page.refuse(why), (coming) => page.runner.during(coming));
   window.addEventListener("resize", () => page.runner.show());
   page.runner.update((now) => (told === null ? now : { ...now, told: { text: told, close: null } }));
   document.body.inert = false;

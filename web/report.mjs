@@ -1,7 +1,7 @@
 // The page of a report: a list of sessions, and a player for the one that is open.
 import { addressOf, readAddress } from "./address.mjs";
 import { makeCopy } from "./copying.mjs";
-import { at, json, make, plural, readable } from "./elements.mjs";
+import { at, fill, json, make, plural, readable } from "./elements.mjs";
 import { SessionList, isFailure } from "./list.mjs";
 import { Player } from "./player.mjs";
 
@@ -116,7 +116,7 @@ function press(event) {
 function showFoot() {
   const told = Object.values(KEYS).filter(([keys]) => keys);
   at("keys").replaceChildren(...[...told, ...MARKS].flatMap(([keys, text]) => [make("dt", "", keys), make("dd", "", text)]));
-  at("foot").replaceChildren(...[...index.origin, ...index.notes].map((note) => make("p", "", readable(note))));
+  fill(at("foot"), [...index.origin, ...index.notes].map((note) => make("p", "", readable(note))));
 }
 
 document.title = readable(`${index.file}: ${index.title}`);

@@ -1,6 +1,6 @@
 // The game's text with the numbers of its lines, the fault at its line, and the lines that are marked: those of the rules that acted in the stage that is
 // looked at, and those that never acted.
-import { at, makeButton } from "./elements.mjs";
+import { at, fill, makeButton } from "./elements.mjs";
 import { linesAsBands, rowsMarked } from "./marked-lines.mjs";
 
 const LEADING = new Set(["ArrowUp", "ArrowDown", "ArrowLeft", "ArrowRight", "Home", "End", "PageUp", "PageDown"]);
@@ -47,7 +47,7 @@ export class SourcePanel {
 
   drawNumbers() {
     const kinds = new Map([...this.never.map((line) => [line, "never"]), ...this.lit.map((line) => [line, "lit"]), ...(this.line === null ? [] : [[this.line, "faulty"]])]);
-    this.numbers.replaceChildren(...rowsMarked(this.count, kinds));
+    fill(this.numbers, rowsMarked(this.count, kinds));
     this.numbers.scrollTop = this.text.scrollTop;
   }
 

@@ -1,6 +1,5 @@
 // The level in the middle, drawn as the game draws it, and beside or below it the one that it is compared with.
 import { DifferingCells, InWords, cellTold, whereTold } from "./cells.mjs";
-import { drawArrows } from "./arrows.mjs";
 import { Pictures, SIDE, cellBelow, drawLevel, scaleFor } from "./drawing.mjs";
 import { at } from "./elements.mjs";
 import { differing, heightOf, isDrawn, numberAt, placeOf } from "./levels.mjs";
@@ -81,8 +80,7 @@ export class Stage {
     at(id).hidden = !isDrawn(level);
     if (!isDrawn(level)) return;
     const { chosen } = this.differing, { changed = [], headings = [] } = this.shown;
-    drawLevel(at(id), level, this.pictures, this.scale, [{ cells: framed, colour: MARK }, { cells: changed, colour: ACTED }, { cells: chosen === null ? [] : [chosen], colour: MARK, weight: 1.5 }]);
-    if (headings.length > 0) drawArrows(at(id), headings, SIDE * this.scale);
+    drawLevel(at(id), level, this.pictures, this.scale, [{ cells: framed, colour: MARK }, { cells: changed, colour: ACTED }, { cells: chosen === null ? [] : [chosen], colour: MARK, weight: 1.5 }], headings);
     at(id).setAttribute("aria-label", `${told}; ${level.width} wide, ${heightOf(level)} high`);
   }
 

@@ -4,7 +4,7 @@ import { levelsOf } from "./game.mjs";
 import { messagesAt } from "./messages.mjs";
 import { behindAll, remembering } from "./past.mjs";
 import { firstFrom } from "./recording.mjs";
-import { framesOf, isAtEnd, isPlayed, takenOf } from "./replaying.mjs";
+import { framesOf, gameOf, isAtEnd, isPlayed, sourceOf, takenOf } from "./replaying.mjs";
 import { MOST_INPUTS } from "./session-file.mjs";
 
 export const RECORDED_ORDER = "columns"; // the one of the published level texts, in which `saxtegun test` plays
@@ -79,6 +79,8 @@ export function pressed(state, input) {
   if (state.messages.length > 0) return input === ACTION ? { ...state, messages: state.messages.slice(1) } : state;
   const { queue, looked } = state, last = queue.at(-1);
   if (isPlayed(state) && framesOf(state).length === 0) return state;
+  const switchedOffBy = gameOf(sourceOf(state)).switches.get(input);
+  if (switchedOffBy !== undefined) return { ...state, told: { text: `This game has \`${switchedOffBy}\`, so the key is left out.`, close: null } };
   if (state.work.inputs.length + queue.length >= MOST_INPUTS) return { ...state, told: { text: `A session has ${MOST_INPUTS} inputs at most.`, close: null } };
   const isBehindLast = last === undefined ? isAtEnd(state) : last.looked === looked;
   return { ...state, queue: [...queue, { input, behind: isBehindLast ? null : takenOf(state), looked }], isHeld: false, told: null };

@@ -37,9 +37,8 @@ class Text(NamedTuple):
         return f"{self.path}:{number}" if self.path else f"line {number}"
 
 
-def rows_of(level: str, order: str) -> Optional[Rows]:
-    """The cells of a level row by row, or None where it can't be read back."""
-    labels = Labels()
+def rows_of(level: str, order: str, labels: Labels) -> Optional[Rows]:
+    """The cells of a level row by row, or None where it can't be read back. Those of the same names are one tuple, in all levels of these labels."""
     cells = read_cells(level, labels)
     if not cells:
         return None
@@ -93,10 +92,10 @@ def rule_lines(lines: Sequence[int], text: Text, most: int = LINES_TOLD) -> List
 
 
 def changed_cells(before: Rows, after: Rows) -> List[Tuple[int, int]]:
-    """The columns and rows of cells in which other objects stand than before; none where the level has another size."""
+    """The columns and rows of cells in which other objects stand than before; none where the level has another size. Both are of the same labels."""
     if len(before) != len(after) or len(before[0]) != len(after[0]):
         return []
-    return [(column, row) for row, cells in enumerate(after) for column, names in enumerate(cells) if names != before[row][column]]
+    return [(column, row) for row, cells in enumerate(after) for column, names in enumerate(cells) if names is not before[row][column]]
 
 
 def arrows_of(headings: Sequence[Heading]) -> Dict[Tuple[int, int], str]:
@@ -146,7 +145,8 @@ def cells_told(before: Rows, after: Rows, changed: Sequence[Tuple[int, int]]) ->
 
 def drawn(stage: Acted, before: Optional[Acted], text: Text, is_always: bool = False) -> List[str]:
     """What a stage did to the level, in letters and in words; nothing where it did nothing, unless that is asked for."""
-    after, old = rows_of(stage.level, text.order), rows_of(before.level, text.order) if before else None
+    labels = Labels()
+    after, old = rows_of(stage.level, text.order, labels), rows_of(before.level, text.order, labels) if before else None
     if after is None:
         return [UNREADABLE] if is_always or before is None or before.level != stage.level else []
     changed = changed_cells(old, after) if old else []

@@ -1,17 +1,23 @@
 """The program's lines held against the sessions that they must be of: by name and inputs, by the close, and by the order of cells."""
 from __future__ import annotations
 
-from typing import Iterator, NamedTuple, Optional
+from typing import Dict, Iterator, NamedTuple, Optional, Tuple, Union
 
 from saxtegun.commands import ORDERS, Refused, cut, plural
-from saxtegun.levels import Labels, read_cells
+from saxtegun.explaining import input_told
+from saxtegun.levels import Labels, read_cells, sets_of
 from saxtegun.levelsets import drawn_start
 from saxtegun.lines import Run, runs_in
 from saxtegun.sessions import Entry, Sessions
 
 
+# Of what kinds the first frame is that an input shows: a press, if no other word. An idle tick shows none.
+PRESSED = ("move", "restart", "over")
+SHOWN: Dict[Union[int, str], Tuple[str, ...]] = {"undo": ("undo", "over"), "restart": ("restart", "over"), "tick": ("tick", "restart", "over")}
+
+
 class Tests(NamedTuple):
-    """What is tested of each run beside its name and its inputs: that it is closed as its last level says, and that its first frame is not the
+    """What is tested of each run beside its name: that it shows its inputs, and is closed as its last level says, and that its first frame is not the
     level that the source draws in the other order than this one. `is_drawn`: that it is that level in this order. `is_played`: that it has frames, of
     no more inputs than there are."""
 
@@ -55,14 +61,35 @@ def mismatch(sessions: Sessions, run: Run, tests: Tests) -> Optional[str]:
         return None
     if run.frames and run.frames[-1].at > len(entry.inputs):
         return f"session {run.number} takes more inputs than its {len(entry.inputs)}"
-    if run.close in ("passed", "differs"):
-        if not run.frames:
-            return f"session {run.number} was played and has no frame"
-        if not tests.is_closed:
-            return None
+    if run.close in ("passed", "differs") and not run.frames:
+        return f"session {run.number} was played and has no frame"
+    return closed_fault(entry, run) if tests.is_closed else None
+
+
+def closed_fault(entry: Entry, run: Run) -> Optional[str]:
+    """What shows that a run isn't what its close says of its entry, or None."""
+    if run.close == "refused":
+        return f"session {run.number} was refused and has frames" if run.frames else None
+    fault = inputs_fault(entry, run)
+    if fault is None and run.close in ("passed", "differs"):
         is_recorded = is_same_level(run.frames[-1].level, entry.level)
+        if is_recorded is None and run.close == "passed":
+            return f"session {run.number} is closed as passed, and its last level is no level text"
         if is_recorded is not None and is_recorded != (run.close == "passed"):
             return f"session {run.number} is closed as {run.close}, and its last level says otherwise"
+    return fault
+
+
+def inputs_fault(entry: Entry, run: Run) -> Optional[str]:
+    """What shows that other inputs were played than an entry's, or only some of them, or None. A session that was stopped took those that it shows."""
+    first = {it.at: it.kind for it in reversed(run.frames)}
+    count = len(entry.inputs) if run.close in ("passed", "differs") else max(first, default=0)
+    for place, it in enumerate(entry.inputs[:count]):
+        kind = first.get(place + 1)
+        if kind is None and it != "tick":
+            return f"session {run.number} shows nothing of input {place}, which is {input_told(it)}"
+        if kind is not None and kind not in SHOWN.get(it, PRESSED):
+            return f"session {run.number} shows {kind!r} at input {place}, which is {input_told(it)}"
     return None
 
 
@@ -75,7 +102,7 @@ def start_fault(entry: Entry, run: Run, tests: Tests) -> Optional[str]:
     cells = read_cells(run.frames[0].level, labels)
     if cells is None:
         return None
-    shown = tuple(frozenset(labels.names[it]) for it in cells)
+    shown = tuple(sets_of(cells, labels))
     if shown == drawn_start(entry, tests.order):
         return None
     other = ORDERS[1 - ORDERS.index(tests.order)]

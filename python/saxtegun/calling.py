@@ -15,7 +15,7 @@ VERBS = {
     "coverage": "finds rules and win lines that no session needs",
     "play": "plays a game in the terminal, and saves it as a recording",
     "lines": "plays recordings and writes the program's lines",
-    "why": "shows the stages of an input: which rules acted, when, and the level after each",
+    "why": "shows the stages of an input: which groups and loops of rules acted, when, and the level after each",
     "explain": "says in words which sessions did not pass, and why",
     "report": "writes a page that shows each session frame by frame",
     "junit": "writes lines as a JUnit file",

@@ -22,7 +22,8 @@ ORDERS = ("rows", "columns")
 MOST_LETTERS = 200
 MOST_WORKERS = 64
 MOST_SECONDS = 1_000_000
-# What ends this process, or its terminal, in a way that it can still tidy up.
+# What ends this process, or its terminal, in a way that it can still tidy up; and in so many seconds it comes again where nobody has heard it.
+SOON = 0.01
 ENDING = tuple(getattr(signal, it) for it in ("SIGTERM", "SIGHUP") if hasattr(signal, it))
 
 
@@ -111,7 +112,7 @@ def add_playing(words: argparse.ArgumentParser) -> None:
     add_order(words)
     words.add_argument("--workers", metavar="N", type=workers_in, help="the number of threads that play (2)")
     words.add_argument("--program", metavar="PROGRAM", help="play with this program (./replay, or what SAXTEGUN_PROGRAM names)")
-    words.add_argument("--timeout", metavar="SECONDS", type=seconds_in, help="stop a session that isn't answered in so many seconds (none is stopped)")
+    words.add_argument("--timeout", metavar="SECONDS", type=seconds_in, help="stop a session that isn't answered in so many seconds (none is stopped); to find it may take as long again, or a few times as long")
 
 
 def silence(stream: TextIO, descriptor: int) -> None:
@@ -139,16 +140,79 @@ class Ended(BaseException):
 
 
 def end_by(number: int, frame: Any) -> NoReturn:
-    for it in ENDING:
+    # whoever presses Ctrl-C behind that wants what comes anyway
+    for it in (*ENDING, signal.SIGINT):
         signal.signal(it, signal.SIG_IGN)
-    raise Ended(number)
+    why = Ended(number)
+    come_again(lambda: not is_heard(why), why)
+    raise why
+
+
+def is_heard(why: BaseException) -> bool:
+    """Whether this is what is caught just now, or behind which is tidied up."""
+    caught = sys.exc_info()[1]
+    while caught is not None and caught is not why:
+        caught = caught.__context__
+    return caught is why
+
+
+def come_again(may_come: Callable[[], bool], why: BaseException) -> None:
+    """Lets what ends this process come once more, soon and whenever it may: where it came, nobody may have heard it."""
+
+    def come(number: int, frame: Any) -> None:
+        signal.setitimer(signal.ITIMER_REAL, SOON)
+        if may_come():
+            raise why
+
+    if hasattr(signal, "setitimer"):
+        signal.signal(signal.SIGALRM, come)
+        signal.setitimer(signal.ITIMER_REAL, SOON)
+
+
+def come_no_more() -> None:
+    """What ends this process has been heard."""
+    if hasattr(signal, "setitimer"):
+        signal.setitimer(signal.ITIMER_REAL, 0)
+
+
+def hear_again(unheard: Any) -> None:
+    """Lets Ctrl-C come once more where it came while Python tidied up behind itself, which tells of no exception; what else ends this process comes again anyway."""
+    why = unheard.exc_value
+    if isinstance(why, Ended) and hasattr(signal, "setitimer"):
+        return
+    if not isinstance(why, KeyboardInterrupt) or not hasattr(signal, "setitimer"):
+        sys.__unraisablehook__(unheard)
+        return
+
+    def is_behind() -> bool:
+        """Whether this is done by now, so that somebody may hear it: then it comes for the last time."""
+        frame: Any = sys._getframe()
+        while frame is not None and frame.f_code is not hear_again.__code__:
+            frame = frame.f_back
+        if frame is None:
+            come_no_more()
+        return frame is None
+
+    come_again(is_behind, why)
 
 
 def listen_for_ends() -> None:
     """Lets what ends this process end what it has started, and take its folders away; but what it was told to ignore stays ignored."""
+    sys.unraisablehook = hear_again
+    if signal.getsignal(signal.SIGINT) == signal.SIG_DFL:
+        # as it stood while the package was read
+        signal.signal(signal.SIGINT, signal.default_int_handler)
     for it in ENDING:
         if signal.getsignal(it) == signal.SIG_DFL:
             signal.signal(it, end_by)
+
+
+def forget_ends() -> None:
+    """Nothing is left to be tidied up: what ends this process ends it now without a word."""
+    come_no_more()
+    for number in (*ENDING, signal.SIGINT):
+        if signal.getsignal(number) in (end_by, signal.default_int_handler):
+            signal.signal(number, signal.SIG_DFL)
 
 
 def open_streams(name: str, is_data: bool) -> None:
@@ -171,12 +235,18 @@ def serve(name: str, main: Callable[[], int], is_data: bool = False) -> NoReturn
     """Runs a tool and ends with its status: 2, and a line on standard error, where it refuses or can't write; where a signal ends it, by that. `is_data`:
     what it writes to standard output is no text for people."""
     open_streams(name, is_data)
-    listen_for_ends()
     number = 0
     try:
+        listen_for_ends()
         status = status_of(name, main)
+        forget_ends()
     except Ended as by:
+        come_no_more()
         number = by.number
+    except KeyboardInterrupt:
+        # behind the answer, or before there was any
+        forget_ends()
+        status = 2
     if number:
         # what is still held is let go, and then this ends as it was told to
         gc.collect()
@@ -216,9 +286,14 @@ def status_of(name: str, main: Callable[[], int]) -> int:
     except SystemExit as end:
         # --help, whose text may meet a closed pipe or a full device as any other
         status = end.code if isinstance(end.code, int) else 0
-        try:
-            sys.stdout.flush()
-        except OSError:
-            status = 2
-            silence(sys.stdout, 1)
+    return flushed(status)
+
+
+def flushed(status: int) -> int:
+    """The status, or 2 where what was written before a refusal can't be written out."""
+    try:
+        sys.stdout.flush()
+    except OSError:
+        status = 2
+        silence(sys.stdout, 1)
     return status

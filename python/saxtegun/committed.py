@@ -1,13 +1,14 @@
 """The last committed text of a game, and where sessions that broke since then part from what they showed over it.
 
 A folder of a stranger's may hold a repository with any configuration, so git is asked for one object alone: without hooks, filters, helpers, replaced objects
-or any transport, with nothing of what the environment says of git, and not for long."""
+or any transport, with nothing of what the environment says of git, and not for long, nor with much memory."""
 from __future__ import annotations
 
 import os
 import shutil
 import subprocess
 import tempfile
+from secrets import token_hex
 from time import monotonic
 from typing import Dict, List, NamedTuple, Optional, Sequence, Tuple
 
@@ -22,19 +23,26 @@ from saxtegun.running import started
 from saxtegun.sessions import Entry, Sessions
 from saxtegun.texts import GameText, same_text
 
-# So long git may take for an answer, and so many bytes a text has at most: no longer one is played.
+# So long git may take for its answers on a text, with so many bytes of memory; and so many bytes a text has at most: no longer one is played.
 SECONDS = 5.0
+MOST_MEMORY = 2**29
 MOST_BYTES = 2**20
 # Of so many sessions it is found out at which stage they part, and for so long at most.
 MOST_LED = 20
 SECONDS_TO_LEAD = 5.0
 SAFELY = ("--no-pager", "--no-optional-locks", "--no-replace-objects", "-c", "core.fsmonitor=", "-c", "core.hooksPath=/dev/null", "-c", "safe.bareRepository=explicit")
-# What is missing isn't fetched: a repository says itself how, by any command.
-OFFLINE = {"GIT_ALLOW_PROTOCOL": "none", "GIT_NO_LAZY_FETCH": "1", "GIT_TERMINAL_PROMPT": "0"}
+# A shell that bounds its memory, in KiB, and then is what it is told, where there is one. The bound stands before git begins, which takes all at once.
+SHELL = "/bin/sh"
+BOUND = (SHELL, "-c", 'ulimit -v "$0"; exec "$@"', str(MOST_MEMORY // 1024)) if os.access(SHELL, os.X_OK) else ()
+# A pack that is longer than the memory is read in pieces.
+IN_PIECES = ("-c", "core.packedGitWindowSize=16m", "-c", "core.packedGitLimit=128m")
+# What is missing isn't fetched: a repository says itself how, by any command. The one protocol that is allowed has a name that no repository can know: where
+# none is, git takes the empty name for one.
+OFFLINE = {"GIT_ALLOW_PROTOCOL": token_hex(16), "GIT_NO_LAZY_FETCH": "1", "GIT_TERMINAL_PROMPT": "0"}
 
 
-def asked(folder: str, words: Sequence[str]) -> Optional[bytes]:
-    """What git answers in a folder; None where it has no answer in its time, or isn't there."""
+def asked(folder: str, words: Sequence[str], end: float) -> Optional[bytes]:
+    """What git answers in a folder; None where it has no answer until this time, or isn't there."""
     git = shutil.which("git")
     if git is None or not os.path.isabs(git):
         # a name like ./git would be looked for in the folder
@@ -42,10 +50,10 @@ def asked(folder: str, words: Sequence[str]) -> Optional[bytes]:
     scrubbed = {name: value for name, value in os.environ.items() if not name.startswith("GIT_")}
     with tempfile.TemporaryFile() as output:
         try:
-            with started([git, "-C", folder, *SAFELY, *words], subprocess.DEVNULL, output, {**scrubbed, **OFFLINE}) as ran:
+            with started([*BOUND, git, "-C", folder, *SAFELY, *IN_PIECES, *words], subprocess.DEVNULL, output, {**scrubbed, **OFFLINE}) as ran:
                 assert ran.stderr is not None
                 with ran.stderr:
-                    ran.wait(min(SECONDS, EXPLAINING.left))
+                    ran.wait(max(end - monotonic(), 0))
         except (Refused, subprocess.TimeoutExpired):
             return None
         output.seek(0)
@@ -55,11 +63,11 @@ def asked(folder: str, words: Sequence[str]) -> Optional[bytes]:
 def committed_text(path: str) -> Optional[str]:
     """The text of a file as the last commit has it; None where there is none."""
     folder, name = os.path.split(os.path.realpath(path))
-    blob = f"HEAD:./{name}"
-    size = asked(folder, ["cat-file", "-s", blob])
+    blob, end = f"HEAD:./{name}", monotonic() + min(SECONDS, EXPLAINING.seconds_left())
+    size = asked(folder, ["cat-file", "-s", blob], end)
     if size is None or not size.strip().isdigit() or int(size) > MOST_BYTES:
         return None
-    data = asked(folder, ["cat-file", "blob", blob])
+    data = asked(folder, ["cat-file", "blob", blob], end)
     try:
         return None if data is None else data.decode("utf-8-sig")
     except UnicodeDecodeError:
@@ -101,7 +109,7 @@ def parted(pairs: Sequence[Tuple[Entry, Entry]], runs: Sequence[Run], of: Sessio
     """The sessions whose runs part from what they show over the text before, which they passed, as far as half of the time to explain is enough. No batch
     takes longer than the other half, which else is left for others."""
     found: List[Broken] = []
-    seconds = max(EXPLAINING.left / 2, 0.1)
+    seconds = max(EXPLAINING.seconds_left() / 2, 0.1)
     end = monotonic() + seconds
     try:
         before = [old for old, _ in pairs]

@@ -26,7 +26,7 @@ MOST_NAMES = 300
 
 
 def is_command(word: str) -> bool:
-    return bool(re.fullmatch(r"sfx\d+", word))
+    return bool(re.fullmatch(r"sfx[0-9]+", word))
 
 
 def names_in(game: Game) -> Set[str]:

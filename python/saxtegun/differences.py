@@ -2,10 +2,12 @@
 from __future__ import annotations
 
 import re
-from functools import lru_cache
+from functools import lru_cache, reduce
 from itertools import islice
-from typing import Dict, FrozenSet, Iterator, List, NamedTuple, Optional, Set, Tuple
+from operator import or_
+from typing import Dict, FrozenSet, Iterator, List, NamedTuple, Optional, Tuple
 
+from saxtegun.budget import EXPLAINING
 from saxtegun.commands import cut, fold
 from saxtegun.games import Game, game_of
 from saxtegun.lines import Run
@@ -20,7 +22,7 @@ MOST_LETTERS = 1000
 # So many properties of a source are looked at.
 MOST_PROPERTIES = 50
 # A command of a rule behind a comment.
-BEHIND_A_COMMENT = re.compile(r"\([^()]*\)\s*(?:again|win|restart|cancel|checkpoint|message|sfx\d+)\b", re.I)
+BEHIND_A_COMMENT = re.compile(r"\([^()]*\)\s*(?:again|win|restart|cancel|checkpoint|message|sfx[0-9]+)\b", re.I)
 
 
 ROW = re.compile(r"\[([^\[\]]*)\]")
@@ -45,7 +47,7 @@ def rules_of(source: str) -> List[Tuple[int, str]]:
 def names_on_the_left(source: str) -> Dict[str, int]:
     """The words on the left of rules, each with the first line that has it."""
     found: Dict[str, int] = {}
-    for number, text in rules_of(source):
+    for number, text in EXPLAINING.each(rules_of(source)):
         for word in words_of(BRACKETS.sub(" ", text.partition("->")[0])):
             found.setdefault(word, number)
     return found
@@ -55,30 +57,31 @@ def names_on_the_left(source: str) -> Dict[str, int]:
 def properties_of(source: str) -> Tuple[Property, ...]:
     """The properties of one layer that stand on the left of a rule: the first of them, since a source may have many."""
     game = game_of(source)
-    layers = {it.name: it.layer for it in game.objects}
     found: List[Property] = []
     named = ((name, line) for name, line in names_on_the_left(source).items() if game.definitions.get(name, ("",))[0] == "or")
     for name, line in islice(named, MOST_PROPERTIES):
         members = game.members(name)
-        if len(members) > 1 and len({layers[it] for it in members}) == 1:
+        if len(members) > 1 and len({game.layers.get(it) for it in members}) == 1:
             found.append(Property(name, frozenset(members), line))
     return tuple(found)
 
 
-def keyword_in(source: str, keyword: str) -> bool:
-    return any(it.section == "prelude" and fold(it.text).split()[:1] == [keyword] for it in lines_of(source))
+@lru_cache(maxsize=64)
+def keywords_of(source: str) -> FrozenSet[str]:
+    """The first words of the lines of the prelude."""
+    return frozenset(word for it in lines_of(source) if it.section == "prelude" for word in fold(it.text).split(None, 1)[:1])
 
 
 @lru_cache(maxsize=64)
 def rule_told(source: str) -> str:
     """A form of a rule that the site reads otherwise, or nothing."""
     is_late = False
-    for number, text in rules_of(source):
+    for number, text in EXPLAINING.each(rules_of(source)):
         if text.startswith("+") and is_late and "late" not in text.partition("[")[0]:
             return f"the rule on line {number} has `+` below a late rule: on the site it isn't late"
         is_late = "late" in words_of(text.partition("[")[0]) or (text.startswith("+") and is_late)
     rules = {number for number, _ in rules_of(source)}
-    for number, line in enumerate(source.split("\n"), 1):
+    for number, line in EXPLAINING.each(enumerate(source.split("\n"), 1)):
         if number in rules and BEHIND_A_COMMENT.search(line[:MOST_LETTERS].partition("->")[2]):
             return f"a comment stands before a command on line {number}: on the site it ends the rule"
     return ""
@@ -87,7 +90,7 @@ def rule_told(source: str) -> str:
 @lru_cache(maxsize=64)
 def scan_told(source: str) -> str:
     """A rule of several rows of one cell, which the site scans in its own direction, or nothing."""
-    for number, text in rules_of(source):
+    for number, text in EXPLAINING.each(rules_of(source)):
         left, arrow, right = text[:MOST_LETTERS].partition("->")
         words = words_of(BRACKETS.sub(" ", left))
         is_turned = bool(TURNING & {*words, *words_of(BRACKETS.sub(" ", right))}) or bool(DIRECTIONS & set(words_of(left.partition("[")[0])))
@@ -96,18 +99,35 @@ def scan_told(source: str) -> str:
     return ""
 
 
-def layers_in(cell: str, game: Game, layers: Dict[str, Optional[int]]) -> Dict[str, Set[Optional[int]]]:
-    """The names of a cell that have no word before them, each with the layers of its objects; and under the empty name the layers of all."""
-    found: Dict[str, Set[Optional[int]]] = {"": set()}
-    before = ""
-    for word in words_of(cell):
-        if word not in BEFORE_A_NAME:
-            of = {layers[it] for it in game.members(word)}
-            found[""] |= of
-            if not before:
-                found[word] = of
-        before = word if word in BEFORE_A_NAME else ""
-    return found
+class Layers:
+    """The layers of the objects that names of a game stand for, as the bits of a number: that of a layer is at its number plus one, that of no layer
+    is the first. Each name is gone through once, since many words of rules may be one name of many objects."""
+
+    def __init__(self, game: Game) -> None:
+        self.game = game
+        self.known: Dict[str, int] = {}
+
+    def of(self, name: str) -> int:
+        name = self.game.meaning_of(name)
+        if name not in self.known:
+            numbers = {self.game.layers.get(it, -1) + 1 for it in EXPLAINING.each(self.game.members(name))}
+            bits = bytearray(max(numbers, default=0) // 8 + 1)
+            for it in numbers:
+                bits[it // 8] |= 1 << it % 8
+            self.known[name] = int.from_bytes(bits, "little")
+        return self.known[name]
+
+    def of_cell(self, cell: str) -> Dict[str, int]:
+        """The names of a cell that have no word before them, each with its layers; and under the empty name the layers of all."""
+        found = {"": 0}
+        before = ""
+        for word in EXPLAINING.each(words_of(cell)):
+            if word not in BEFORE_A_NAME:
+                found[""] |= self.of(word)
+                if not before:
+                    found[word] = self.of(word)
+            before = word if word in BEFORE_A_NAME else ""
+        return found
 
 
 def cells_in(side: str) -> List[str]:
@@ -120,27 +140,26 @@ def cells_of(text: str) -> Iterator[Tuple[str, str]]:
     return zip(cells_in(left), cells_in(right))
 
 
-def moved_layers(source: str, game: Game, layers: Dict[str, Optional[int]]) -> Set[Optional[int]]:
+def moved_layers(source: str, layers: Layers) -> int:
     """The layers in which rules move something, and that of the player."""
     names = ["player"]
-    for _, text in rules_of(source):
+    for _, text in EXPLAINING.each(rules_of(source)):
         words = words_of(BRACKETS.sub(" ", text[:MOST_LETTERS].partition("->")[2]))
         names += [name for word, name in zip(words, words[1:]) if word in BEFORE_A_NAME and word not in ("no", "stationary")]
-    return {layers[it] for name in dict.fromkeys(names[:MOST_LETTERS]) for it in game.members(name)}
+    return reduce(or_, map(layers.of, names[:MOST_LETTERS]))
 
 
 @lru_cache(maxsize=64)
 def placed_told(source: str) -> str:
     """A rule that places an object without a word where its left cell has nothing of its layer, and something may move; or nothing."""
-    game = game_of(source)
-    layers = {it.name: it.layer for it in game.objects}
-    moved = moved_layers(source, game, layers)
-    for number, text in rules_of(source):
+    layers = Layers(game_of(source))
+    moved = moved_layers(source, layers)
+    for number, text in EXPLAINING.each(rules_of(source)):
         if "late" in words_of(text.partition("[")[0]):
             continue
         for left, right in cells_of(text):
-            there = layers_in(left, game, layers)[""]
-            for name, of in layers_in(right, game, layers).items():
+            there = layers.of_cell(left)[""]
+            for name, of in layers.of_cell(right).items():
                 if name and of & moved and not of & there:
                     return f"the rule on line {number} places `{cut(name)}`, which takes over what moves in its layer: on the site it is still"
     return ""
@@ -149,7 +168,7 @@ def placed_told(source: str) -> str:
 def start_told(entry: Entry, run: Run) -> str:
     """That a level was won by its first tick, or nothing."""
     is_won = any(it.kind == "load" and (it.at == 0 or before.kind == "load") for before, it in zip(run.frames, run.frames[1:]))
-    return "a level was won by its first tick: on the site that tick wins nothing" if is_won and keyword_in(entry.source, START) else ""
+    return "a level was won by its first tick: on the site that tick wins nothing" if is_won and START in keywords_of(entry.source) else ""
 
 
 def property_told(entry: Entry, run: Run) -> str:
@@ -164,7 +183,7 @@ def property_told(entry: Entry, run: Run) -> str:
 def input_told(entry: Entry) -> str:
     """An input that the site heeds not, or nothing."""
     for word in ("undo", "restart"):
-        if word in entry.inputs and keyword_in(entry.source, f"no{word}"):
+        if word in entry.inputs and f"no{word}" in keywords_of(entry.source):
             return f"the game has `no{word}`: on the site the {word} of this session does nothing"
     return ""
 

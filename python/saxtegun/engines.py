@@ -4,17 +4,17 @@ from __future__ import annotations
 import os
 import re
 import subprocess
-import tempfile
 from argparse import Namespace
 from time import monotonic
 from typing import IO, Any, Iterator, List, NamedTuple, Optional, Sequence, Tuple
 
+from saxtegun.budget import EXPLAINING, NOT_LOOKED_AT
 from saxtegun.commands import Refused, cut
 from saxtegun.explaining import input_told
 from saxtegun.lines import UNANSWERED, Frame, Run, close_of, frame_of, line_of, may_follow, written_frame
 from saxtegun.playing import Engine, batches
 from saxtegun.programs import stages_words
-from saxtegun.running import PATIENCE, Said, Unanswered, check_bounds, end, started, time_left, wait_a_while, written_to
+from saxtegun.running import PATIENCE, Said, Unanswered, check_bounds, end, room_for_now, started, time_left, wait_a_while, written_to
 from saxtegun.sessions import Entry
 
 # The word for our own engine, where an engine is named.
@@ -161,7 +161,7 @@ class Answer(NamedTuple):
 def asked(entries: Sequence[Entry], engine: Engine) -> Answer:
     """Plays entries in one call."""
     reader = Reader(entries)
-    with tempfile.TemporaryDirectory(prefix="saxtegun-") as room:
+    with room_for_now() as room:
         path, lines = os.path.join(room, "sessions.json"), os.path.join(room, "lines")
         with open(path, "wb") as file:
             file.write(b"[" + b",".join(next(batches(entries))) + b"]")
@@ -233,15 +233,23 @@ def tellers_of(given: Namespace) -> List[Optional[str]]:
     return tellers
 
 
-def with_frames(entry: Entry, run: Run, engine: Engine) -> Run:
-    """A run at which an engine failed, with the frames before: where it showed none, those of the longest beginning that it answers."""
+def with_frames(entry: Entry, run: Run, engine: Engine) -> Optional[Run]:
+    """A run at which an engine failed, with the frames before: where it showed none, those of the longest beginning that it answers. None where there
+    is no time left to look for these."""
     if run.close not in (CRASHED, UNANSWERED) or run.frames:
         return run
     low, high, known = 0, len(entry.inputs), run
     # it fails with `high` inputs, and answers with fewer than `low`
     while low < high:
         middle = (low + high) // 2
-        shown = asked([entry._replace(inputs=entry.inputs[:middle])], engine)
+        seconds = min(EXPLAINING.left, engine.seconds or EXPLAINING.left)
+        if seconds <= 0:
+            return None
+        with EXPLAINING.spent():
+            shown = asked([entry._replace(inputs=entry.inputs[:middle])], engine._replace(seconds=seconds))
+        if not EXPLAINING.is_left() and shown.failed is not None:
+            # it was stopped before its own time
+            return None
         if shown.failed is None and shown.runs[0].close not in FAILED:
             low, known = middle + 1, shown.runs[0]
         else:
@@ -249,8 +257,10 @@ def with_frames(entry: Entry, run: Run, engine: Engine) -> Run:
     return run._replace(frames=known.frames)
 
 
-def failure_told(entry: Entry, run: Run, name: str) -> str:
-    """At what an engine failed, in a sentence without its end."""
+def failure_told(entry: Entry, run: Run, name: str, is_known: bool = True) -> str:
+    """At what an engine failed, in a sentence without its end, and where, if that is known."""
+    if not is_known:
+        return f"{name} {'has no answer' if run.close == UNANSWERED else 'crashed'}: {run.cause}; behind which input is {NOT_LOOKED_AT}"
     at = run.frames[-1].at if run.frames else 0
     where = f"after input {at - 1} ({input_told(entry.inputs[at - 1])})" if at else "after the start" if run.frames else "before its first frame"
     if run.close == UNANSWERED:

@@ -6,7 +6,7 @@ from functools import lru_cache
 from typing import Iterable, List, Optional, Tuple, Union
 
 from saxtegun import culprits, differences, levelsets, reasons
-from saxtegun.budget import EXPLAINING, NOT_LOOKED_AT
+from saxtegun.budget import EXPLAINING, NOT_LOOKED_AT, UsedUp
 from saxtegun.commands import cut, plural, printable
 from saxtegun.games import Game, game_of
 from saxtegun.lines import UNANSWERED, Run
@@ -192,10 +192,13 @@ def told(run: Run, entry: Optional[Entry] = None, order: str = "columns", game: 
     explain is used up. `game` is the file of its source, where it has one, and `hung` tells where it hung, where that was found out by playing."""
     if run.close == UNANSWERED:
         return run.cause or "", []
-    if entry is not None and run.close != "passed" and not EXPLAINING.is_left():
+    try:
+        with EXPLAINING.spent():
+            if entry is not None and run.close != "passed":
+                EXPLAINING.look()
+            return told_in_full(run, entry, order, game, hung)
+    except UsedUp:
         return f"{told_in_full(run)[0]}; {NOT_LOOKED_AT}", []
-    with EXPLAINING.spent():
-        return told_in_full(run, entry, order, game, hung)
 
 
 def told_in_full(run: Run, entry: Optional[Entry] = None, order: str = "columns", game: str = "", hung: str = "") -> Tuple[str, List[str]]:

@@ -6,6 +6,8 @@ import stat
 import sys
 import tempfile
 from contextlib import contextmanager
+from functools import partial
+from time import monotonic, sleep
 from typing import BinaryIO, Iterator, Optional, Sequence, Tuple
 
 from saxtegun.commands import Refused
@@ -15,6 +17,10 @@ NEW_LINE = b"\n"
 MIB = 2**20
 # So many bytes a text has at most that is read at once, unless a format allows more or less.
 MOST_BYTES = 64 * MIB
+# So many bytes a line has at most of a file that is read line by line.
+MOST_OF_LINE = 2**30
+# So long a folder is waited for that another writes into, and so long between two looks.
+MOST_SECONDS_LOCKED, PAUSE = 10.0, 0.02
 
 
 class NoFile(Refused):
@@ -28,8 +34,8 @@ def without_waiting(path: str, flags: int) -> int:
 
 def opened(path: str) -> BinaryIO:
     """A file, or standard input where the path is `-`. Refused where it is a pipe or a device, which may have no end."""
-    if path == "-" and sys.stdin is None:
-        raise Refused("standard input is closed")
+    if path == "-" and (sys.stdin is None or sys.stdin.closed):
+        raise Refused("standard input is closed" if sys.stdin is None else "standard input can be read only once: name it once")
     try:
         file: BinaryIO = sys.stdin.buffer if path == "-" else open(path, "rb", opener=without_waiting)
     except (OSError, ValueError) as why:
@@ -45,7 +51,9 @@ def read_lines(path: str) -> Iterator[Tuple[int, str]]:
     with opened(path) as file:
         number = 0
         try:
-            for number, line in enumerate(file, 1):
+            for number, line in enumerate(iter(partial(file.readline, MOST_OF_LINE + 1), b""), 1):
+                if len(line) > MOST_OF_LINE:
+                    raise Refused(f"{path}, line {number}: it has more than {MOST_OF_LINE // MIB} MiB, and is not read")
                 yield number, line.decode("utf-8")
         except OSError as why:
             raise Refused(f"{path} can't be read: {why.strerror}") from None
@@ -98,15 +106,33 @@ def guard_output(*paths: str) -> None:
             raise Refused(f"standard output is {path}, which is read: write to another file, or say --in-place where a verb has it")
 
 
-def guard_files(written: Sequence[Optional[str]], read: Sequence[str]) -> None:
-    """Refuses to write a file that is read, or two things into one file. A device takes what comes."""
-    known = {os.path.realpath(it): "is read" for it in read if it != "-"}
+def is_stream(path: str) -> bool:
+    """Whether a path is where standard output or standard error goes, as /dev/stdout is: a file there would take the place of what they have written."""
+    for stream in (sys.stdout, sys.stderr):
+        try:
+            if stream is not None and os.path.samestat(os.stat(path), os.fstat(stream.fileno())):
+                return True
+        except (OSError, ValueError):
+            pass
+    return False
+
+
+def guard_files(written: Sequence[Optional[str]], read: Sequence[Optional[str]]) -> None:
+    """Refuses to write a file that is read, or into which what is told goes, or two things into one file. A device takes what comes."""
+    known = {os.path.realpath(it): "is read" for it in read if it and it != "-"}
     for path in (it for it in written if it):
         place = os.path.realpath(path)
         if place in known:
             raise Refused(f"{path} {known[place]}: write to another file")
-        if not os.path.exists(place) or os.path.isfile(place):
+        if os.path.isfile(path) and is_stream(path):
+            raise Refused(f"{path} is where this tells what it does: write to another file")
+        if not is_device(path):
             known[place] = "is written already"
+
+
+def is_device(path: str) -> bool:
+    """Whether a path is one of a device or a pipe, which has no place that something could be renamed to."""
+    return os.path.exists(path) and not os.path.isfile(path) and not os.path.isdir(path)
 
 
 class TooLong(Refused):
@@ -115,6 +141,21 @@ class TooLong(Refused):
 
 class Changed(Refused):
     """A file is another than the one that was read."""
+
+
+def lock(number: int, path: str) -> None:
+    """Locks a folder. Refused where another holds it for long."""
+    import fcntl
+
+    end = monotonic() + MOST_SECONDS_LOCKED
+    while True:
+        try:
+            fcntl.flock(number, fcntl.LOCK_EX | fcntl.LOCK_NB)
+            return
+        except BlockingIOError:
+            if monotonic() > end:
+                raise Refused(f"{path} can't be written: another has held its folder for {MOST_SECONDS_LOCKED:g} s") from None
+            sleep(PAUSE)
 
 
 @contextmanager
@@ -126,9 +167,7 @@ def locked(path: str) -> Iterator[None]:
         raise Refused(f"{path} can't be written: {why.strerror}") from None
     try:
         try:
-            import fcntl
-
-            fcntl.flock(number, fcntl.LOCK_EX)
+            lock(number, path)
         except (ImportError, OSError):
             pass
         yield
@@ -154,7 +193,7 @@ def guard_places(*paths: Optional[str]) -> None:
         target = os.path.realpath(path)
         if os.path.isdir(target):
             raise Refused(f"{path} can't be written: it is a folder")
-        if os.path.exists(target) and not os.path.isfile(target):
+        if is_device(path):
             continue
         try:
             with tempfile.NamedTemporaryFile(dir=os.path.dirname(target), prefix=".saxtegun-"):
@@ -163,17 +202,23 @@ def guard_places(*paths: Optional[str]) -> None:
             raise Refused(f"{path} can't be written: {why.strerror}") from None
 
 
+def rights_of_new() -> int:
+    """The rights of a file that is new, as whoever calls this wants them."""
+    taken = os.umask(0o077)
+    os.umask(taken)
+    return 0o666 & ~taken
+
+
 def write_whole(path: str, text: str) -> None:
     """Writes a file beside its place and renames it there, so that nobody meets half of it and nothing is lost where writing fails."""
     target = os.path.realpath(path)
     new = ""
     try:
-        mode = stat.S_IMODE(os.stat(target).st_mode) if os.path.exists(target) else 0o644
-        if os.path.exists(target) and not os.path.isfile(target):
-            # a device or a pipe has no place that something could be renamed to
-            with open(target, "w", encoding="utf-8", newline="") as device:
+        if is_device(path):
+            with open(path, "w", encoding="utf-8", newline="") as device:
                 device.write(text)
             return
+        mode = stat.S_IMODE(os.stat(target).st_mode) if os.path.exists(target) else rights_of_new()
         with tempfile.NamedTemporaryFile("w", encoding="utf-8", newline="", dir=os.path.dirname(target), prefix=".saxtegun-", delete=False) as file:
             new = file.name
             file.write(text)

@@ -10,12 +10,12 @@ import json
 import re
 from typing import Any, Dict, List, NamedTuple, Optional, Tuple
 
-from saxtegun.javascript import BODIES, Token, skip_space, token_at, unescaped
+from saxtegun.javascript import BODIES, ROUNDS, behind, skip_space, token_at, unescaped
 from saxtegun.sessions import fault_of
 
-# What may stand between a bracket and a text; what is looked for first is what stands there most often.
-BREAK = r"[\s>]*(?:(?:<br\s*/?>|&nbsp;)[\s>]*)*"
-ESCAPED = r"\s*(?:\\[nrt]\s*)*"
+# What may stand between a bracket and a text, in so many rounds; what is looked for first is what stands there most often.
+BREAK = rf"[\s>]*(?:(?:<br\s*/?>|&nbsp;)[\s>]*){ROUNDS}"
+ESCAPED = rf"\s*(?:\\[nrt]\s*){ROUNDS}"
 QUOTES = "\"'`\u201c\u201d\u201e"
 # Where a recording may begin: a list whose first item is a text; such a list as a text, or escaped; and such a list in HTML.
 BEGIN = re.compile(
@@ -23,8 +23,7 @@ BEGIN = re.compile(
     rf"|(?P<escaped>\[(?={ESCAPED}\\[\"']))|(?P<html>\[(?={BREAK}&(?:quot|#34|apos|#39);))"
 )
 # The rest of a text that was escaped and has lost its quotes.
-REST = re.compile(r"[^\"\\\n]*(?:\\.[^\"\\\n]*)*")
-BODIES_OF = {quote: re.compile(body) for quote, body in BODIES.items()}
+REST = re.compile(rf"[^\"\\\n]*(?:\\.[^\"\\\n]*){ROUNDS}")
 # An entry holds a body, which holds its inputs; behind one that is cut off another may begin.
 MOST_DEPTH = 8
 # A number of a letter in HTML that Python can't read, since it has thousands of digits, and one that is no letter's either.
@@ -130,8 +129,7 @@ class Search:
 
     def read_escaped(self, at: int) -> int:
         """Reads what was escaped once and has lost its quotes; where the search goes on."""
-        rest = REST.match(self.text, at)
-        end = rest.end() if rest else at + 1
+        end = behind(REST, self.text, at)
         # the last bracket may begin a list without escapes
         return end if self.has_read(at, at, end) else max(self.text.rfind("[", at + 1, end), at + 1)
 
@@ -140,8 +138,7 @@ class Search:
         quote = self.text[at]
         if at < self.in_vain.get(quote, 0):
             return at + 1
-        body = BODIES_OF[quote].match(self.text, at + 1)
-        end = body.end() if body else at + 1
+        end = behind(BODIES[quote], self.text, at + 1)
         if self.text[end : end + 1] == quote and self.has_read(at, at + 1, end):
             return end + 1
         self.in_vain[quote] = end
@@ -200,17 +197,18 @@ class Search:
             self.findings.found.append(Found(self.line_of(at), entry[0], body, rest))
 
     def tell_cut(self, lists: List[Open], at: int) -> None:
-        """Takes a recording of which only the last brackets are missing, and says which is cut off."""
+        """Takes a recording of which only the last brackets are missing, and says which is cut off: also one that is cut in a further text."""
         if not lists:
             return
+        is_in_text = self.text[at : at + 1] in BODIES
         # an entry of which the last bracket is missing, or the last two behind its index
         items = [part.items for part in lists]
         if len(items) == 2 and len(items[1]) > 3:
             items = [[*items[0], f"[{','.join(items[1])}]"]]
-        if len(items) == 1 and is_entry(value_of(items[0])):
-            self.take(lists[0].at, value_of(items[0]), items[0][1])
-            return
-        if self.has_heading(lists[0].at, at):
+        is_whole = len(items) == 1 and is_entry(value_of(items[0]))
+        if is_whole and not is_in_text:
+            self.take(lists[0].at, value_of(items[0]), items[0][1], tuple(items[0][2:]))
+        elif is_whole or self.has_heading(lists[0].at, at):
             self.findings.skipped.append(Skipped(self.line_of(lists[0].at), "cut-off"))
 
     def has_heading(self, begin: int, at: int) -> bool:

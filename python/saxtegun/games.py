@@ -5,9 +5,11 @@ from __future__ import annotations
 
 import re
 from functools import lru_cache
-from typing import Dict, FrozenSet, Iterable, List, NamedTuple, Optional, Sequence, Set, Tuple
+from typing import Dict, FrozenSet, Iterable, List, NamedTuple, Optional, Sequence, Set, Tuple, Union
 
+from saxtegun.budget import EXPLAINING
 from saxtegun.commands import cut, fold
+from saxtegun.levels import each_once
 from saxtegun.sources import SPACE, lines_of, trimmed, words_of
 
 PALETTE = {
@@ -24,6 +26,8 @@ PIXELS = re.compile("[0-9.]+")
 SIDE = 5
 # A pixel is a digit, so no further colour is drawn.
 MOST_COLOURS = 10
+# Words of the prelude that switch a key off.
+SWITCHES: Dict[str, Union[int, str]] = {"noaction": 4, "noundo": "undo", "norestart": "restart"}
 # So many names are gone through to find what all others stand for: far more than in a game that is played.
 MOST_NAMES = 500_000
 
@@ -54,23 +58,30 @@ class Game:
         self.notes: List[str] = []
         self.title = "a game"
         self.ground = PALETTE["black"]
+        # by an input the word that switches it off: the site takes no such key, so no recording has it
+        self.switches: Dict[Union[int, str], str] = {}
         self.read_prelude(of["prelude"])
         blocks = blocks_of(of["objects"])
         self.first_names = {name: block.names[0] for block in reversed(blocks) for name in block.names}
-        self.definitions: Dict[str, Tuple[str, List[str]]] = dict(reversed([it for it in map(definition_of, of["legend"]) if it]))
+        self.definitions: Dict[str, Tuple[str, List[str]]] = dict(reversed([it for it in map(definition_of, EXPLAINING.each(of["legend"])) if it]))
         self.names_left = MOST_NAMES
         self.known_members: Dict[str, List[str]] = {}
+        self.known_meanings: Dict[str, str] = {}
+        self.known_drawn: Dict[str, FrozenSet[str]] = {}
         self.drawing_names: Dict[str, bool] = {}
-        layers = self.layers_of(of["collisionlayers"])
-        self.objects = [Object(it.names[0], self.colours_of(it), self.sprite_of(it), layers.get(it.names[0])) for it in blocks]
-        self.glyphs = self.glyphs_of(of["objects"] + of["legend"], layers)
-        grounds = {layers.get(name) for name in self.members("background")[:1]}
+        self.layers = self.layers_of(of["collisionlayers"])
+        self.objects = [Object(it.names[0], self.colours_of(it), self.sprite_of(it), self.layers.get(it.names[0])) for it in blocks]
+        self.places = {it.name: place for place, it in enumerate(self.objects)}
+        self.glyphs = self.glyphs_of(of["objects"] + of["legend"])
+        grounds = {self.layers.get(name) for name in self.members("background")[:1]}
         self.grounds = {it.name for it in self.objects if it.layer is not None and it.layer in grounds}
 
     def read_prelude(self, lines: Sequence[str]) -> None:
         for line in lines:
             keyword, value = (*SPACE.split(line, 1), "")[:2]
-            if fold(keyword) == "title":
+            if fold(keyword) in SWITCHES:
+                self.switches[SWITCHES[fold(keyword)]] = fold(keyword)
+            elif fold(keyword) == "title":
                 self.title = cut(trimmed(value))
             elif fold(keyword) == "background_color":
                 self.ground = self.colour_of(fold(trimmed(value))) or self.ground
@@ -100,11 +111,31 @@ class Game:
 
     def members(self, name: str) -> List[str]:
         """The objects that a name stands for, in the order of first mention. A name that reaches itself is gone through once."""
+        name = self.meaning_of(name)
         if name not in self.known_members:
+            EXPLAINING.look()
             seen: Set[str] = set()
             self.known_members[name] = self.members_beyond(name, seen) if self.names_left > 0 else []
             self.names_left -= len(seen)
         return self.known_members[name]
+
+    def meaning_of(self, name: str) -> str:
+        """The name that a synonym stands for in the end, itself no synonym; one of those that stand for one another where there is none. What is
+        found out is kept for all synonyms on the way."""
+        way: Dict[str, bool] = {}
+        while name not in self.known_meanings and name not in way and name not in self.first_names and self.definitions.get(name, ("",))[0] == "same":
+            way[name] = True
+            name = self.definitions[name][1][0]
+        meaning = self.known_meanings.get(name, name)
+        self.known_meanings.update(dict.fromkeys(way, meaning))
+        return meaning
+
+    def drawn_by(self, name: str) -> FrozenSet[str]:
+        """The objects that a letter draws, by its name: of one layer the last stands."""
+        meaning = self.meaning_of(name)
+        if meaning not in self.known_drawn:
+            self.known_drawn[meaning] = frozenset({self.layers.get(it): it for it in self.members(meaning)}.values())
+        return self.known_drawn[meaning]
 
     def members_beyond(self, name: str, seen: Set[str]) -> List[str]:
         """The objects that a name stands for and that are not reached through names that are seen; those that are gone through are seen then."""
@@ -140,12 +171,12 @@ class Game:
                 layers.setdefault(member, number)
         return layers
 
-    def glyphs_of(self, lines: Sequence[str], layers: Dict[str, int]) -> Dict[FrozenSet[str], str]:
-        """For a set of objects the letter that draws it in LEVELS, as it was written first. Of one layer the last object stands."""
+    def glyphs_of(self, lines: Sequence[str]) -> Dict[FrozenSet[str], str]:
+        """For a set of objects the letter that draws it in LEVELS, as it was written first."""
         glyphs: Dict[FrozenSet[str], str] = {}
-        for letter in dict.fromkeys(word for line in lines for word in words_of(line) if len(word) == 1):
+        for letter in dict.fromkeys(word for line in EXPLAINING.each(lines) for word in words_of(line) if len(word) == 1):
             if self.draws(fold(letter)) and self.names_left > 0:
-                glyphs.setdefault(frozenset({layers.get(name): name for name in self.members(fold(letter))}.values()), letter)
+                glyphs.setdefault(self.drawn_by(fold(letter)), letter)
         if self.names_left <= 0:
             self.notes.append(f"its legend goes through more than {MOST_NAMES} names, and is not looked at further")
         return glyphs
@@ -154,9 +185,9 @@ class Game:
         """The letter that draws a cell of these names, with the background or without it, or None."""
         return self.glyphs.get(frozenset(names)) or self.glyphs.get(frozenset(names) - self.grounds)
 
-    def drawing(self, rows: Iterable[Iterable[Iterable[str]]]) -> Optional[List[str]]:
+    def drawing(self, rows: Sequence[Sequence[Tuple[str, ...]]]) -> Optional[List[str]]:
         """Rows of cells by their letters, or None where a cell has none."""
-        letters = [[self.glyph_of(names) for names in row] for row in rows]
+        letters = each_once(rows, self.glyph_of)
         if any(it is None for row in letters for it in row):
             return None
         return ["".join(it for it in row if it is not None) for row in letters]
@@ -171,6 +202,7 @@ def blocks_of(lines: Sequence[str]) -> List[Block]:
     blocks: List[Block] = []
     at = 0
     while at < len(lines):
+        EXPLAINING.look()
         names = [fold(word) for word in words_of(lines[at])]
         at += 1
         if not names:

@@ -4,12 +4,12 @@ from __future__ import annotations
 from bisect import bisect_left, bisect_right
 from typing import AbstractSet, Dict, FrozenSet, List, NamedTuple, Optional, Sequence, Tuple
 
-from saxtegun.budget import EXPLAINING, NOT_LOOKED_AT
+from saxtegun.budget import EXPLAINING, NOT_LOOKED_AT, UsedUp
 from saxtegun.commands import Refused, fold
 from saxtegun.culprits import Repeated, repeated_in
 from saxtegun.explaining import input_told, stop_of
 from saxtegun.games import game_of
-from saxtegun.levels import Labels, in_rows, read_cells, width_of
+from saxtegun.levels import Labels, each_once, in_rows, read_cells, width_of
 from saxtegun.lines import Run
 from saxtegun.playing import Engine, runs_within
 from saxtegun.running import Unanswered
@@ -34,7 +34,7 @@ class Player(NamedTuple):
         if not EXPLAINING.is_left():
             raise Unanswered(NOT_LOOKED_AT)
         with EXPLAINING.spent():
-            return list(runs_within(entries, self.of, self.engine, EXPLAINING.left))
+            return list(runs_within(entries, self.of, self.engine, EXPLAINING.seconds_left()))
 
 
 class Hung(NamedTuple):
@@ -92,20 +92,17 @@ def things_of(source: str) -> List[Thing]:
     return found
 
 
-def letters_for(cells: Sequence[Tuple[str, ...]]) -> Dict[Tuple[str, ...], str]:
-    return {names: chr(FIRST_LETTER + number) for number, names in enumerate(dict.fromkeys(cells))}
-
-
 def source_from(source: str, rows: Sequence[Sequence[Tuple[str, ...]]], kept: AbstractSet[int]) -> str:
     """The source with one level, drawn by letters of its own, and of its rules those of these lines."""
-    letters = letters_for([names for row in rows for names in row])
+    letters: Dict[Tuple[str, ...], str] = {}
+    drawn = each_once(rows, lambda names: letters.setdefault(names, chr(FIRST_LETTER + len(letters))))
     parts: Dict[str, List[str]] = {}
-    for line in lines_of(source):
+    for line in EXPLAINING.each(lines_of(source)):
         is_option = line.section == "prelude" and fold(line.text).startswith(START_OPTION)
         if not is_option and (line.section != "rules" or line.number in kept):
             parts.setdefault(line.section, []).append(line.text)
     parts["legend"] = [*parts.get("legend", []), *(f"{letter} = {' and '.join(names)}" for names, letter in letters.items())]
-    parts["levels"] = ["".join(letters[names] for names in row) for row in rows]
+    parts["levels"] = ["".join(row) for row in drawn]
     wanted = ("objects", "legend", "collisionlayers", "rules", "winconditions", "levels")
     sections = [text for section in wanted for text in (section.upper(), *parts.get(section, []))]
     return "\n".join([*parts.get("prelude", []), *sections]) + "\n"
@@ -117,7 +114,7 @@ def rows_before(run: Run, source: str, order: str) -> Optional[List[List[Tuple[s
     text = run.frames[-1].level
     cells = read_cells(text, labels)
     grounds = game_of(source).grounds
-    if not cells or not all(grounds & set(labels.names[it]) for it in cells):
+    if not cells or any(grounds.isdisjoint(labels.names[it]) for it in set(cells)):
         return None
     return [[labels.names[it] for it in row] for row in in_rows(order, width_of(text, len(cells)), cells)]
 
@@ -182,9 +179,10 @@ def hung_of(entry: Entry, run: Run, player: Player) -> Optional[Found]:
         return None
     hung: Optional[Hung] = None
     try:
-        hung = hung_at(entry, run, player)
-        name = hung_in(entry, run, hung.step, player)
-    except Unanswered:
+        with EXPLAINING.spent():
+            hung = hung_at(entry, run, player)
+            name = hung_in(entry, run, hung.step, player)
+    except (Unanswered, UsedUp):
         name = f"in what is {NOT_LOOKED_AT}"
     except Refused:
         # the session was played, and what is tried beside it must not take its answer away

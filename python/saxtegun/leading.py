@@ -310,7 +310,7 @@ def first_parted(sides: Sides, inputs: range, engine: Engine, end: float) -> Opt
 
 def first_parting(sides: Sides, runs: Tuple[Run, Run], parting: Optional[Parting], engine: Engine, seconds: float) -> Optional[Tuple[int, Parted]]:
     """At which input two sides first part in their stages, and where; None where none does. Refused where that isn't known in so many seconds."""
-    end = monotonic() + min(seconds, EXPLAINING.left)
+    end = monotonic() + min(seconds, EXPLAINING.seconds_left())
     likely, before = inputs_to_try(sides[1].entry, runs, parting)
     found = first_parted(sides, likely, engine, end)
     if found is None or found[1].is_of_all:

@@ -5,7 +5,7 @@ import re
 from functools import lru_cache
 from itertools import compress
 from operator import ne
-from typing import Dict, List, Optional, Pattern, Sequence, Tuple
+from typing import Callable, Dict, FrozenSet, List, Optional, Pattern, Sequence, Tuple, TypeVar
 
 from saxtegun.commands import fold
 
@@ -18,6 +18,10 @@ LOWER, UPPER = bytes(range(HALF)), bytes(range(HALF, 256))
 NUMBERS = {str(number): bytes((number,)) for number in range(HALF)}
 # so many cells are compared at once
 STRETCH = 64
+
+
+Names = Tuple[str, ...]
+Value = TypeVar("Value")
 
 
 class Labels:
@@ -212,6 +216,19 @@ def read_pieces(text: str, labels: Labels) -> Optional[List[int]]:
                 known[piece] = label
         cells.append(label)
     return cells
+
+
+def sets_of(cells: Sequence[int], labels: Labels) -> List[FrozenSet[str]]:
+    """The set of names of each cell. All cells of a label share one."""
+    sets = [frozenset(it) for it in labels.names]
+    return [sets[it] for it in cells]
+
+
+def each_once(rows: Sequence[Sequence[Names]], told: Callable[[Names], Value]) -> List[List[Value]]:
+    """What is told of each cell of these rows. The cells of a label share one tuple of names, and of each tuple it is told once: that a
+    stranger's level has many cells of many names must not cost more than to read it."""
+    known = {number: told(names) for number, names in {id(it): it for row in rows for it in row}.items()}
+    return [[known[id(it)] for it in row] for row in rows]
 
 
 def width_of(text: str, count: int) -> int:

@@ -1,9 +1,12 @@
 """The levels of a source as its glyphs draw them: which one a session stands in, and which one a recorded level is of."""
 from __future__ import annotations
 
+from bisect import bisect_left
+from collections import Counter
 from functools import lru_cache
-from typing import FrozenSet, List, NamedTuple, Optional, Sequence, Tuple
+from typing import Dict, FrozenSet, List, NamedTuple, Optional, Sequence, Tuple
 
+from saxtegun.budget import EXPLAINING
 from saxtegun.commands import fold
 from saxtegun.games import game_of
 from saxtegun.levels import Labels, read_cells, width_of
@@ -25,7 +28,7 @@ def entries_of_levels(source: str) -> Tuple[Drawn, ...]:
     """The entries of LEVELS, messages included."""
     found: List[Drawn] = []
     rows: List[str] = []
-    for line in [*(it.text for it in lines_of(source) if it.section == "levels"), ""]:
+    for line in EXPLAINING.each([*(it.text for it in lines_of(source) if it.section == "levels"), ""]):
         is_message = fold(line.split(" ", 1)[0]) == "message"
         if rows and (not line or is_message):
             found.append(Drawn(tuple(rows)))
@@ -37,39 +40,73 @@ def entries_of_levels(source: str) -> Tuple[Drawn, ...]:
     return tuple(found)
 
 
-def first_level(entry: Entry) -> int:
-    """The number of the level that a session starts in, from 1, messages left out."""
-    levels = entries_of_levels(entry.source)
-    return 1 + sum(1 for it in levels[: entry.index] if it.rows)
-
-
-def count_of_levels(source: str) -> int:
-    return sum(1 for it in entries_of_levels(source) if it.rows)
+@lru_cache(maxsize=64)
+def places_of_levels(source: str) -> Tuple[int, ...]:
+    """Which entries of LEVELS are levels, and no messages. Of a game with many of these many sessions may be told."""
+    return tuple(place for place, it in enumerate(entries_of_levels(source)) if it.rows)
 
 
 @lru_cache(maxsize=64)
-def drawn_columns(source: str, index: int) -> Optional[Tuple[Cells, ...]]:
-    """The level that a session begins in, column by column, as the letters of the source draw it; None where there is none."""
-    rows = next((it.rows for it in entries_of_levels(source)[index:] if it.rows), None)
-    if rows is None:
-        return None
+def levels_by_size(source: str) -> Dict[int, List[int]]:
+    """The numbers of the levels, from 1, by how many cells they have."""
+    found: Dict[int, List[int]] = {}
+    entries = entries_of_levels(source)
+    for number, place in enumerate(places_of_levels(source), 1):
+        rows = entries[place].rows
+        found.setdefault(len(rows) * len(rows[0]), []).append(number)
+    return found
+
+
+def first_level(entry: Entry) -> int:
+    """The number of the level that a session starts in, from 1, messages left out."""
+    return 1 + bisect_left(places_of_levels(entry.source), entry.index)
+
+
+def count_of_levels(source: str) -> int:
+    return len(places_of_levels(source))
+
+
+@lru_cache(maxsize=1024)
+def ground_of(source: str, letter: str) -> Optional[str]:
+    """The object of the background's layer that a letter draws, or None."""
     game = game_of(source)
-    layers = {it.name: it.layer for it in game.objects}
+    return next(iter(game.grounds & game.drawn_by(fold(letter))), None)
+
+
+@lru_cache(maxsize=64)
+def cell_of(source: str, letter: str, ground: str) -> FrozenSet[str]:
+    """The cell that a letter draws in a level with this background. All cells of a letter share it, and so do levels."""
+    drawn = game_of(source).drawn_by(fold(letter))
+    return drawn if ground_of(source, letter) else drawn | {ground}
+
+
+@lru_cache(maxsize=64)
+def drawn_columns(source: str, number: int) -> Optional[Tuple[Cells, ...]]:
+    """The level of this number, from 1, column by column, as the letters of the source draw it; None where there is none."""
+    places = places_of_levels(source)
+    if number > len(places):
+        return None
+    rows = entries_of_levels(source)[places[number - 1]].rows
     width = len(rows[0])
     columns = list(zip(*(row.ljust(width, row[-1])[:width] for row in rows)))
-    # of one layer the last object stands
-    of = {letter: frozenset({layers.get(name): name for name in game.members(fold(letter))}.values()) for letter in set().union(*columns)}
-    grounds = [name for column in columns for letter in column for name in game.grounds & of[letter]]
-    ground = grounds[0] if grounds else next(iter(game.members("background")), "background")
-    return tuple(tuple(of[it] if of[it] & game.grounds else of[it] | {ground} for it in column) for column in columns)
+    letters = dict.fromkeys(letter for column in columns for letter in column)
+    backgrounds = [*filter(None, (ground_of(source, it) for it in letters)), *game_of(source).members("background"), "background"]
+    of = {letter: cell_of(source, letter, backgrounds[0]) for letter in letters}
+    return tuple(tuple(of[it] for it in column) for column in columns)
+
+
+@lru_cache(maxsize=64)
+def drawn_cells(source: str, number: int, order: str) -> Optional[Cells]:
+    """The cells of the level of this number, in an order."""
+    columns = drawn_columns(source, number)
+    if columns is None:
+        return None
+    return tuple(cell for row in (zip(*columns) if order == "rows" else columns) for cell in row)
 
 
 def drawn_start(entry: Entry, order: str) -> Optional[Cells]:
     """The cells of the level that a session begins in, in an order."""
-    columns = drawn_columns(entry.source, entry.index)
-    if columns is None:
-        return None
-    return tuple(cell for row in (zip(*columns) if order == "rows" else columns) for cell in row)
+    return drawn_cells(entry.source, first_level(entry), order)
 
 
 def wins_of(run: Run) -> int:
@@ -77,16 +114,29 @@ def wins_of(run: Run) -> int:
     return sum(1 for it in run.frames if it.kind == "load")
 
 
-def similarity(entry: Entry, level: Drawn, cells: Sequence[FrozenSet[str]], width: int, order: str) -> int:
-    """In how many cells a level as it was recorded is as it is drawn; -1 where it has another size."""
-    game = game_of(entry.source)
-    columns = len(level.rows[0])
-    if columns != width or columns * len(level.rows) != len(cells):
-        return -1
-    rows = [row.ljust(columns, row[-1])[:columns] for row in level.rows]
-    letters = "".join(rows) if order == "rows" else "".join("".join(it) for it in zip(*rows))
-    of = {letter: frozenset(game.members(fold(letter))) for letter in set(letters)}
-    return sum(1 for letter, cell in zip(letters, cells) if of[letter] <= cell and not (cell - of[letter] - game.grounds))
+class Likeness:
+    """How like a recorded level is to drawn ones, with what was found out of pairs of a letter and a set of names."""
+
+    def __init__(self, source: str, cells: Sequence[int], labels: Labels) -> None:
+        self.game, self.cells = game_of(source), cells
+        self.sets = [frozenset(it) for it in labels.names]
+        self.known: Dict[Tuple[str, int], bool] = {}
+
+    def is_drawn_by(self, letter: str, label: int) -> bool:
+        """Whether a letter draws a set of names, but for the background."""
+        if (letter, label) not in self.known:
+            drawn, cell = self.game.drawn_by(fold(letter)), self.sets[label]
+            self.known[letter, label] = drawn <= cell and cell - drawn <= self.game.grounds
+        return self.known[letter, label]
+
+    def of(self, level: Drawn, width: int, order: str) -> int:
+        """In how many cells the recorded level is as it is drawn; -1 where it has another size."""
+        columns = len(level.rows[0])
+        if columns != width or columns * len(level.rows) != len(self.cells):
+            return -1
+        rows = [row.ljust(columns, row[-1])[:columns] for row in level.rows]
+        letters = "".join(rows) if order == "rows" else "".join("".join(it) for it in zip(*rows))
+        return sum(count for pair, count in Counter(zip(letters, self.cells)).items() if self.is_drawn_by(*pair))
 
 
 class Guess(NamedTuple):
@@ -103,15 +153,14 @@ def level_of_recorded(entry: Entry, order: str) -> Optional[Guess]:
     read = read_cells(entry.level, labels)
     if not read:
         return None
-    width = width_of(entry.level, len(read))
-    cells = [frozenset(labels.names[it]) for it in read]
-    drawn = [it for it in entries_of_levels(entry.source) if it.rows]
-    sizes = [len(it.rows) * len(it.rows[0]) for it in drawn]
-    if sizes.count(len(cells)) == 1:
-        return Guess(sizes.index(len(cells)) + 1, True)
-    likeness = [similarity(entry, it, cells, width, order) for it in drawn]
+    numbers = levels_by_size(entry.source).get(len(read), [])
+    if len(numbers) == 1:
+        return Guess(numbers[0], True)
+    width, like = width_of(entry.level, len(read)), Likeness(entry.source, read, labels)
+    entries, places = entries_of_levels(entry.source), places_of_levels(entry.source)
+    likeness = [like.of(entries[places[it - 1]], width, order) for it in EXPLAINING.each(numbers)]
     best = max(likeness, default=-1)
-    return Guess(likeness.index(best) + 1, False) if best > 0 and likeness.count(best) == 1 else None
+    return Guess(numbers[likeness.index(best)], False) if best > 0 and likeness.count(best) == 1 else None
 
 
 def still_in(entry: Entry, run: Run, order: str) -> Optional[str]:

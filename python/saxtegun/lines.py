@@ -4,9 +4,9 @@ from __future__ import annotations
 import json
 import re
 from functools import lru_cache
-from typing import Any, Dict, Iterator, List, NamedTuple, Optional, Tuple
+from typing import Any, Dict, Iterator, List, NamedTuple, Optional, Tuple, Union
 
-from saxtegun.commands import Refused
+from saxtegun.commands import Refused, plural
 from saxtegun.files import read_lines
 from saxtegun.sessions import LONE_SURROGATE, is_number
 
@@ -18,7 +18,7 @@ CLOSES = ("passed", "differs", "stopped", "refused")
 # How a session is closed that the command has stopped, since it had no answer in its time. No program writes that.
 UNANSWERED = "unanswered"
 # How each line of the program ends.
-SESSION = re.compile(r'"session":(\d{1,9})}$')
+SESSION = re.compile(r'"session":([0-9]{1,9})}$')
 NUMBER = "(0|[1-9][0-9]{0,18})"
 # The line of a frame as the program writes it, up to the text of its level.
 LEVEL = '"level":'
@@ -26,6 +26,10 @@ HEAD = re.compile(rf'\{{"at":{NUMBER},"frame":{NUMBER},"kind":"({"|".join(KINDS)
 # No head is longer, with the key of its level; so many are known at once, and those of many sessions are the same.
 MOST_OF_HEAD = 100
 MOST_HEADS = 4096
+
+
+class Unlike(Exception):
+    """What a line is, that isn't the next of its session."""
 
 
 class Frame(NamedTuple):
@@ -101,38 +105,65 @@ def written_frame(text: str, session: int, number: int) -> Optional[Frame]:
     return Frame(head[0], head[2], level)
 
 
+def is_count(value: Any, count: int) -> bool:
+    """Whether a value is this number, as neither 1.0 nor true is 1."""
+    return is_number(value, 2**64) and value == count
+
+
+def closed_by(line: Dict[str, Any], count: int) -> Optional[Run]:
+    """The run that a close ends, without its frames, or None where it is no close of so many."""
+    cause, name = line.get("cause"), line.get("name")
+    if line["close"] not in CLOSES or not isinstance(name, str) or not (cause is None or isinstance(cause, str)):
+        return None
+    if not is_count(line.get("frames"), count) or (cause is None) == (line["close"] in ("stopped", "refused")):
+        return None
+    return Run(line["session"], name, line["close"], cause, [])
+
+
 def close_of(line: Dict[str, Any], frames: List[Frame]) -> Optional[Run]:
     """The run that a close ends, or None where it is no close of so many frames."""
-    cause, name = line.get("cause"), line.get("name")
-    if not isinstance(name, str) or not (cause is None or isinstance(cause, str)) or line.get("frames") != len(frames):
-        return None
-    if (cause is None) == (line["close"] in ("stopped", "refused")):
-        return None
-    return Run(line["session"], name, line["close"], cause, frames)
+    run = closed_by(line, len(frames))
+    return run._replace(frames=frames) if run else None
+
+
+def next_in(line: Dict[str, Any], session: int, count: int, before: Optional[Frame]) -> Union[Frame, Run]:
+    """What a line is behind so many frames of a session, the last of which is `before`: the next frame, or the close, without its frames."""
+    if line["session"] != session:
+        raise Unlike(f"session {line['session']} where session {session} is wanted")
+    if "close" in line:
+        run = closed_by(line, count)
+        if run is None:
+            raise Unlike(f"no close of a session of {plural(count, 'frame')}")
+        return run
+    frame = frame_of(line)
+    if frame is None or not is_count(line.get("frame"), count) or not may_follow(before, frame):
+        raise Unlike(f"not frame {count} of session {session}")
+    return frame
+
+
+def told_in(path: str) -> Iterator[Tuple[int, str, Union[Frame, Run]]]:
+    """The program's lines with their numbers, each with the frame that it is, or with the run that it closes, without its frames."""
+    session, count = 0, 0
+    before: Optional[Frame] = None
+    for number, text in read_lines(path):
+        told: Union[Frame, Run, None] = written_frame(text, session, count)
+        if not isinstance(told, Frame) or not may_follow(before, told):
+            try:
+                told = next_in(line_of(path, number, text), session, count, before)
+            except Unlike as why:
+                raise Refused(f"{path}, line {number}: {why}") from None
+        yield number, text, told
+        session, count, before = (session, count + 1, told) if isinstance(told, Frame) else (session + 1, 0, None)
+    if count:
+        raise Refused(f"{path}: the lines end within session {session}, which has no close")
 
 
 def runs_in(path: str) -> Iterator[Tuple[int, Run]]:
     """What the program's lines say, session by session, each with the number of its last line."""
-    count = 0
     frames: List[Frame] = []
-    for number, text in read_lines(path):
-        written = written_frame(text, count, len(frames))
-        if written and may_follow(frames[-1] if frames else None, written):
-            frames.append(written)
-            continue
-        line = line_of(path, number, text)
-        if line["session"] != count:
-            raise Refused(f"{path}, line {number}: session {line['session']} where session {count} is wanted")
-        if "close" not in line:
-            frame = frame_of(line)
-            if frame is None or line.get("frame") != len(frames) or not may_follow(frames[-1] if frames else None, frame):
-                raise Refused(f"{path}, line {number}: not frame {len(frames)} of session {count}")
-            frames.append(frame)
-            continue
-        run = close_of(line, frames)
-        if run is None:
-            raise Refused(f"{path}, line {number}: no close of a session of {len(frames)} frames")
-        yield number, run
-        count, frames = count + 1, []
-    if frames:
-        raise Refused(f"{path}: the lines end within session {count}, which has no close")
+    for number, _, told in told_in(path):
+        if isinstance(told, Frame):
+            frames.append(told)
+        else:
+            yield number, told._replace(frames=frames)
+            frames = []

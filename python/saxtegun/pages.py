@@ -4,13 +4,14 @@ A session's levels are kept as differences to the one before. All that comes fro
 from __future__ import annotations
 
 import json
+from functools import lru_cache
 from pathlib import Path
 from typing import Any, Callable, Dict, List, Optional, Sequence, Tuple, Union
 
-from saxtegun.budget import EXPLAINING, NOT_LOOKED_AT
+from saxtegun.budget import EXPLAINING, NOT_LOOKED_AT, UsedUp
 from saxtegun.commands import cut, plural
 from saxtegun.culprits import repeated_in
-from saxtegun.explaining import Ending, cause_told, culprit_told, ending_told, fault_in, stop_of
+from saxtegun.explaining import Ending, cause_told, culprit_told, ending_told, fault_in, stop_of, written_lines
 from saxtegun.games import Game, game_of
 from saxtegun.hanging import HUNG, Found
 from saxtegun.levels import Follower, Labels, differing, width_of
@@ -79,6 +80,8 @@ class Levels:
         return {"width": self.width, "cells": packed(cells)}
 
 
+# many sessions of one game may hang, or be refused
+@lru_cache(maxsize=8)
 def lines_meant(source: str, cause: str) -> Optional[Tuple[int, int]]:
     """The first and the last line of a source that a cause is about, where that is known."""
     fault = fault_in(cause)
@@ -90,7 +93,7 @@ def lines_meant(source: str, cause: str) -> Optional[Tuple[int, int]]:
 
 def source_lines(source: str, cause: str) -> List[List[Any]]:
     """The lines that a cause is about, with their neighbours."""
-    meant, lines = lines_meant(source, cause), source.split("\n")
+    meant, lines = lines_meant(source, cause), written_lines(source)
     if meant is None or not 1 <= meant[0] <= meant[1] <= len(lines):
         return []
     first, last = max(1, meant[0] - NEIGHBOURS), min(len(lines), meant[1] + NEIGHBOURS, meant[0] + MOST_LINES)
@@ -115,10 +118,12 @@ def told_of(entry: Entry, run: Run, ending: Optional[Ending], order: str, found:
     """How a session ended, in a sentence."""
     if run.close == UNANSWERED:
         return run.cause or ""
-    if not EXPLAINING.is_left():
+    try:
+        with EXPLAINING.spent():
+            EXPLAINING.look()
+            return told_in_full(entry, run, ending, order, found)
+    except UsedUp:
         return f"{cause_told(run.cause or run.close)}; {NOT_LOOKED_AT}"
-    with EXPLAINING.spent():
-        return told_in_full(entry, run, ending, order, found)
 
 
 def told_in_full(entry: Entry, run: Run, ending: Optional[Ending], order: str, found: Optional[Found]) -> str:

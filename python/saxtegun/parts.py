@@ -3,9 +3,9 @@ from __future__ import annotations
 
 import json
 import os
-from typing import Any, Dict, List, NamedTuple
+from typing import Any, Dict, List, NamedTuple, Optional
 
-from saxtegun.commands import Refused
+from saxtegun.commands import Refused, plural
 from saxtegun.files import read_text
 
 # No *.json, which are the parts.
@@ -28,7 +28,44 @@ def name_in(entry: Any) -> str:
 
 
 def manifest_of(parts: List[Part]) -> str:
-    return "".join(json.dumps({"first": it.first, "names": it.names}, ensure_ascii=True) + "\n" for it in parts)
+    """A line for each part, and at last the number of sessions, so that a manifest that is cut off is told."""
+    lines: List[Dict[str, Any]] = [{"first": it.first, "names": it.names} for it in parts]
+    return "".join(json.dumps(it, ensure_ascii=True) + "\n" for it in [*lines, {"sessions": sum(len(it.names) for it in parts)}])
+
+
+def value_in(line: str) -> Dict[str, Any]:
+    """The object of a line; an empty one where it is none."""
+    try:
+        value = json.loads(line)
+    except (ValueError, RecursionError):
+        return {}
+    return value if isinstance(value, dict) else {}
+
+
+def number_in(line: str, name: str) -> Optional[int]:
+    """The plain whole number of this name, which neither 0.0 nor false is."""
+    number = value_in(line).get(name)
+    return number if type(number) is int else None
+
+
+def part_in(line: str, wanted: int) -> Optional[Part]:
+    """The part of a line, if it begins with the session that is wanted."""
+    names = value_in(line).get("names")
+    if number_in(line, "first") == wanted and isinstance(names, list) and all(isinstance(it, str) for it in names):
+        return Part(wanted, names)
+    return None
+
+
+def parts_in(path: str, lines: List[str]) -> List[Part]:
+    parts: List[Part] = []
+    wanted = 0
+    for number, line in enumerate(lines, 1):
+        part = part_in(line, wanted)
+        if part is None:
+            raise Refused(f"{path}, line {number}: not the part that begins with session {wanted}")
+        parts.append(part)
+        wanted += len(part.names)
+    return parts
 
 
 def read_manifest(folder: str) -> List[Part]:
@@ -37,19 +74,15 @@ def read_manifest(folder: str) -> List[Part]:
         raise Refused(f"{folder} is no folder")
     if not os.path.exists(path):
         raise Refused(f"{folder} has no parts: {MANIFEST}, which saxtegun split writes, is not there")
-    parts: List[Part] = []
-    wanted = 0
-    for number, line in enumerate(read_text(path).splitlines(), 1):
-        try:
-            value: Dict[str, Any] = json.loads(line)
-            part = Part(value["first"], value["names"])
-            is_good = part.first == wanted and isinstance(part.names, list) and all(isinstance(it, str) for it in part.names)
-        except (ValueError, KeyError, TypeError, RecursionError):
-            is_good = False
-        if not is_good:
-            raise Refused(f"{path}, line {number}: not the part that begins with session {wanted}")
-        parts.append(part)
-        wanted += len(part.names)
+    *lines, last = read_text(path).splitlines() or [""]
+    count = number_in(last, "sessions")
+    if count is None:
+        # nobody can tell whether an older one is whole
+        raise Refused(f"{path} doesn't end with the number of its sessions: it is cut off, or of an older saxtegun split; split the sessions again")
+    parts = parts_in(path, lines)
+    named = sum(len(it.names) for it in parts)
+    if named != count:
+        raise Refused(f"{path} names {plural(named, 'session')} where it counts {count}")
     if not parts:
         raise Refused(f"{path} names no part")
     return parts

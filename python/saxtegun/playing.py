@@ -16,7 +16,7 @@ from saxtegun.files import read_lines
 from saxtegun.lines import SESSION, UNANSWERED, Run, frame_of, line_of
 from saxtegun.programs import has_played, program_words
 from saxtegun.reasons import break_of
-from saxtegun.running import Unanswered, watched
+from saxtegun.running import Unanswered, room_for_now, watched
 from saxtegun.sessions import MOST_BYTES, MOST_ENTRIES, Entry, Sessions, written_entry
 from saxtegun.ticks import without_ticking
 
@@ -71,7 +71,7 @@ def broken_told(level: str) -> str:
 def refusal(said: str, path: str, entries: Sequence[Entry] = ()) -> str:
     """What the program's line of a failure says, in words."""
     line = (said.strip().splitlines() or ["nothing is told"])[-1]
-    match = re.fullmatch(r"([a-z-]+)(?: (\d+))?", line)
+    match = re.fullmatch(r"([a-z-]+)(?: ([0-9]+))?", line)
     if match is None or match[1] not in REFUSALS:
         return f"{path} was not played: {cut(line)}"
     number = int(match[2]) if match[2] and len(match[2]) < 20 else None
@@ -113,7 +113,7 @@ def batches(entries: Sequence[Entry], engine: Engine = Engine()) -> Iterator[Lis
 @contextmanager
 def playing(batch: List[bytes], of: Sessions, engine: Engine, seconds: Optional[float]) -> Iterator[str]:
     """Plays a batch, which is all of these sessions; the file of its lines is there as long as this lasts."""
-    with tempfile.TemporaryDirectory(prefix="saxtegun-") as room:
+    with room_for_now() as room:
         path, lines = os.path.join(room, "sessions.json"), os.path.join(room, "lines")
         with open(path, "wb") as file:
             file.write(b"[" + b",".join(batch) + b"]")
@@ -157,25 +157,25 @@ def lines_within(entries: Sequence[Entry], of: Sessions, engine: Engine) -> Iter
 
 
 def answered(entries: Sequence[Entry], of: Sessions, engine: Engine) -> List[Run]:
-    """What playing entries shows that have the time of one of them; where that isn't enough, each half of them has it, down to one alone."""
+    """What playing entries shows that have the time of one of them; where that isn't enough, nothing, or that one alone wasn't answered."""
     try:
         return list(runs_within(entries, of, engine, engine.seconds))
     except Unanswered as why:
-        if len(entries) == 1:
-            return [Run(0, entries[0].name, UNANSWERED, str(why), [])]
-    middle = len(entries) // 2
-    return [*answered(entries[:middle], of, engine), *answered(entries[middle:], of, engine)]
+        return [Run(0, entries[0].name, UNANSWERED, str(why), [])] if len(entries) == 1 else []
 
 
 def runs_in_time(entries: Sequence[Entry], of: Sessions, engine: Engine) -> Iterator[Run]:
-    """What playing entries shows, of which each has the engine's time; one that isn't answered in it is closed so."""
+    """What playing entries shows, of which each has the engine's time; one that isn't answered in it is closed so. A batch that isn't answered takes all
+    of that time for nothing, so what follows is played one by one, and more at once only where that is quick: where some hang, more may."""
     first, size = 0, FIRST_BATCH
     while first < len(entries):
         begin = monotonic()
-        for place, run in enumerate(answered(entries[first : first + size], of, engine)):
+        runs = answered(entries[first : first + size], of, engine)
+        is_quick = monotonic() - begin < QUICK * (engine.seconds or 0)
+        for place, run in enumerate(runs):
             yield run._replace(number=first + place)
-        first += size
-        size = 2 * size if monotonic() - begin < QUICK * (engine.seconds or 0) else FIRST_BATCH
+        first += len(runs)
+        size = 1 if not runs else 2 * size if is_quick else min(size, FIRST_BATCH)
 
 
 def runs_played(entries: Sequence[Entry], of: Sessions, engine: Engine) -> Iterator[Run]:

@@ -10,7 +10,7 @@ import sys
 from pathlib import Path
 from typing import Dict, List, NamedTuple, Optional
 
-from saxtegun.commands import Refused, printable, say
+from saxtegun.commands import Refused, cut, printable, say
 from saxtegun.guarding import is_log
 
 TOP = Path(__file__).resolve().parents[2]
@@ -82,12 +82,29 @@ class Player(NamedTuple):
     told: str
 
 
+def on_path(name: str) -> Optional[str]:
+    """A program on the path, of which the entries count that are whole: what else there is depends on the folder, which may be a stranger's."""
+    entries = os.environ.get("PATH", os.defpath).split(os.pathsep)
+    found = shutil.which(name, path=os.pathsep.join(filter(os.path.isabs, entries)))
+    return found if found and os.path.isabs(found) else None
+
+
+def not_taken(name: str) -> str:
+    """Why a program isn't taken that is on the path: the entry that isn't whole and has it; nothing where there is none."""
+    entries = os.environ.get("PATH", os.defpath).split(os.pathsep)
+    entry = next((it for it in entries if not os.path.isabs(it) and shutil.which(name, path=it or os.curdir)), None)
+    if entry is None:
+        return ""
+    what = f"the relative entry {cut(entry)!r}" if entry else "an empty entry, which is the current folder"
+    return f"; the one that PATH names by {what} isn't taken, since another folder would have another: write the entry in full"
+
+
 def in_node() -> Player:
     """How the released module is called in Node. Refused where there is none to call."""
-    node = shutil.which("node")
+    node = on_path("node")
     version = version_of_node(node) if node else ""
     if node is None or not version:
-        raise no_program("there is no Node")
+        raise no_program(f"there is no Node{not_taken('node')}")
     if int(version.partition(".")[0]) < OLDEST_NODE:
         raise no_program(f"Node {version} is too old to play")
     if not (RELEASED / MODULE).is_file():

@@ -4,6 +4,7 @@ from __future__ import annotations
 import re
 from typing import List, NamedTuple, Optional, Tuple
 
+from saxtegun.budget import EXPLAINING
 from saxtegun.commands import cut, fold
 from saxtegun.culprits import nearest, outside_told
 from saxtegun.levels import number_in
@@ -141,7 +142,7 @@ def rule_told(source: str, number: int) -> str:
     """What is wrong with a rule line, in words that go on behind those of its fault, or nothing."""
     before: Optional[Line] = None
     first: Optional[Line] = None
-    for line in lines_of(source):
+    for line in EXPLAINING.each(lines_of(source)):
         if line.section != "rules" or not line.text:
             continue
         if line.number == number:
@@ -159,9 +160,10 @@ def rule_told(source: str, number: int) -> str:
 def reason_told(cause: str, source: str) -> str:
     """What more there is to say of a fault than its culprit, or nothing."""
     code, _, number = cause.partition(":")
-    if code == "BadRule" and number.isdecimal():
+    is_number = number.isascii() and number.isdecimal()
+    if code == "BadRule" and is_number:
         return rule_told(source, int(number[:9]))
-    return REMEDY if code == "OutsideProfile" and number.isdecimal() and outside_told(source, int(number[:9])) == f"`{CLOCK}`" else ""
+    return REMEDY if code == "OutsideProfile" and is_number and outside_told(source, int(number[:9])) == f"`{CLOCK}`" else ""
 
 
 def break_of(text: str) -> Optional[Tuple[int, int, str]]:

@@ -4,12 +4,14 @@ from __future__ import annotations
 
 import os
 import re
+import shutil
 import signal
 import subprocess
+import tempfile
 from contextlib import contextmanager
-from threading import Thread, current_thread
+from threading import Thread, current_thread, main_thread
 from time import monotonic
-from typing import IO, Any, Callable, Generic, Iterator, List, Mapping, NamedTuple, Optional, Sequence, TypeVar
+from typing import IO, Any, Callable, Dict, Generic, Iterator, List, Mapping, NamedTuple, Optional, Sequence, TypeVar
 
 from saxtegun.commands import Refused, say
 
@@ -23,6 +25,8 @@ PAUSE = 0.05
 # So long a program that is to end may tidy up.
 PATIENCE = 0.5
 UNANSWERED_BEGIN = "not answered in"
+# What ends this process, or its terminal, and is heard behind what must not be left halfway.
+HELD = tuple(getattr(signal, it) for it in ("SIGINT", "SIGTERM", "SIGHUP") if hasattr(signal, it))
 
 
 class Unanswered(Refused):
@@ -92,6 +96,40 @@ class Beside(Thread, Generic[Value]):
             self.join(PAUSE)
 
 
+@contextmanager
+def held() -> Iterator[None]:
+    """Lets what ends this process wait until this is done: it would leave behind a program that nobody knows of yet, or half of a folder."""
+    came: List[int] = []
+    before: Dict[int, Any] = {}
+    try:
+        for it in HELD if current_thread() is main_thread() else ():
+            handler = signal.getsignal(it)
+            if callable(handler):
+                before[it] = handler
+                signal.signal(it, lambda number, frame: came.append(number))
+        yield
+    finally:
+        for it, handler in before.items():
+            signal.signal(it, handler)
+        for it in came:
+            os.kill(os.getpid(), it)
+
+
+@contextmanager
+def room_for_now() -> Iterator[str]:
+    """A folder for as long as this lasts, which is made whole and taken away whole, whatever comes meanwhile."""
+    made: Optional[str] = None
+    try:
+        with held():
+            made = tempfile.mkdtemp(prefix="saxtegun-")
+        assert made is not None
+        yield made
+    finally:
+        if made is not None:
+            with held():
+                shutil.rmtree(made, ignore_errors=True)
+
+
 def begun(words: Sequence[str], **options: Any) -> "subprocess.Popen[bytes]":
     """A program, noted by whoever runs it beside."""
     beside = current_thread()
@@ -109,12 +147,18 @@ def begun(words: Sequence[str], **options: Any) -> "subprocess.Popen[bytes]":
 @contextmanager
 def started(words: Sequence[str], stdin: Any, output: Any, environment: Optional[Mapping[str, str]] = None) -> "Iterator[subprocess.Popen[bytes]]":
     """A program in a group of its own, as long as this lasts."""
-    ran = begun(words, stdin=stdin, stdout=output, stderr=subprocess.PIPE, env=environment)
+    ran: "Optional[subprocess.Popen[bytes]]" = None
     try:
+        with held():
+            ran = begun(words, stdin=stdin, stdout=output, stderr=subprocess.PIPE, env=environment)
+        assert ran is not None
         yield ran
     finally:
-        if ran.poll() is None:
+        if ran is not None and ran.poll() is None:
             end(ran)
+        elif ran is not None:
+            # what it has started, and left behind, ends with it
+            tell_to_end(ran, "SIGKILL")
 
 
 class Said(Thread):
@@ -167,7 +211,7 @@ def time_left(begin: float, seconds: Optional[float]) -> float:
 
 def check_library(said: str) -> None:
     """Refuses where a program isn't even begun, since the C library of this machine is too old for it."""
-    missing = re.search(r"version `(GLIBC_[\d.]+)' not found", said)
+    missing = re.search(r"version `(GLIBC_[0-9.]+)' not found", said)
     if missing is not None:
         raise Refused(f"the program needs a newer C library than this machine has ({missing[1]}): play in Node, as docs/engine.md tells")
 

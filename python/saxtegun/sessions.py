@@ -1,12 +1,13 @@
 """A sessions file, read as docs/sessions.md has it, and refused by a sentence with the place."""
 from __future__ import annotations
 
-import difflib
 import json
 import os
 import re
 from fnmatch import fnmatchcase
-from typing import Any, Dict, List, Mapping, NamedTuple, NoReturn, Optional, Sequence, Tuple, Union
+from itertools import combinations, islice
+from math import isinf
+from typing import Any, Dict, Iterator, List, Mapping, NamedTuple, NoReturn, Optional, Sequence, Tuple, Union
 
 from saxtegun.commands import Refused, cut
 from saxtegun.files import MARK, TooLong, read_text
@@ -17,8 +18,13 @@ WORDS = ("undo", "restart", "tick")
 # What a sessions file holds at most.
 MOST_BYTES = 16_777_216
 MOST_ENTRIES = 65_536
+# The least number that is beyond the largest float has so many digits.
+DIGITS_OF_FLOATS = 309
 # A further element of an entry, which demands that it is solved.
 DEMAND = "solved"
+# A text of so many letters is nearly that word if so many letters of the word stand in it in their order.
+ALIKE = {4: 4, 5: 5, 6: 5, 7: 6, 8: 6, 9: 6}
+NEARLY = {length: re.compile("|".join(".*".join(it) for it in combinations(DEMAND, count)), re.S) for length, count in ALIKE.items()}
 
 Input = Union[int, str]
 Item = Tuple[Any, int, int]
@@ -49,7 +55,24 @@ def no_number(word: str) -> NoReturn:
     raise ValueError(f"{word} is no JSON")
 
 
+def any_number(word: str) -> float:
+    """A number as docs/sessions.md reads it: refused where it rounds beyond the largest float, as it would be there."""
+    number = float(word)
+    if isinf(number):
+        raise ValueError(f"{cut(word)} is beyond the largest number")
+    return number
+
+
+def whole_number(word: str) -> Union[int, float]:
+    """A number without fraction and exponent. One with a sign for nought is no whole number there."""
+    if len(word) >= DIGITS_OF_FLOATS:
+        any_number(word)
+    return int(word) if word != "-0" else any_number(word)
+
+
 READER = json.JSONDecoder(parse_constant=no_number)
+# What refuses all numbers that the program refuses, where they stand for the first time; what an entry doesn't need isn't handed on to the program.
+CAREFUL = json.JSONDecoder(parse_constant=no_number, parse_float=any_number, parse_int=whole_number)
 
 
 def after_space(text: str, at: int) -> int:
@@ -74,23 +97,50 @@ def next_mark(text: str, at: int, marks: str) -> Tuple[str, int]:
     return text[at], after_space(text, at + 1)
 
 
-def items_of(text: str, at: int) -> Tuple[List[Item], int]:
-    """The items of the JSON list that begins here, each with its value, its begin and its end; and where the list ends."""
-    items: List[Item] = []
+def items_in(text: str, at: int, reader: json.JSONDecoder = READER) -> Iterator[Item]:
+    """The items of the JSON list that begins here, each with its value, its begin and its end."""
     mark, at = next_mark(text, at, "[")
     if text[at : at + 1] == "]":
-        return items, at + 1
+        return
     while mark != "]":
-        value, end = READER.raw_decode(text, at)
-        items.append((value, at, end))
-        mark, begin = next_mark(text, end, ",]")
-        at, end = begin, end
-    # behind the bracket itself, and not behind the white space that follows it
-    return items, text.index("]", items[-1][2]) + 1
+        value, end = reader.raw_decode(text, at)
+        yield value, at, end
+        mark, at = next_mark(text, end, ",]")
 
 
 def is_number(value: Any, most: int) -> bool:
     return type(value) is int and 0 <= value <= most
+
+
+def texts_in(value: Any) -> Iterator[str]:
+    """The texts of a value, and the names in its objects."""
+    left = [value]
+    while left:
+        it = left.pop()
+        if isinstance(it, str):
+            yield it
+        elif isinstance(it, list):
+            left += it
+        elif isinstance(it, dict):
+            left += [*it, *it.values()]
+
+
+def is_nearly_demand(value: Any) -> bool:
+    """Whether a further element is meant to demand, and doesn't: another text that is nearly the word or holds it, or a list or an object that holds it."""
+    if not isinstance(value, str):
+        return any(DEMAND in it.lower() for it in texts_in(value))
+    lower = value.lower()
+    pattern = NEARLY.get(len(lower))
+    return value != DEMAND and (DEMAND in lower or (pattern is not None and pattern.search(lower) is not None))
+
+
+def demand_fault(elements: List[Any]) -> Optional[str]:
+    """What is nearly a demand among the further elements of an entry, or None."""
+    for it in elements:
+        if is_nearly_demand(it):
+            told = f"{cut(it)!r} is nearly" if isinstance(it, str) else f"that is {'a list' if isinstance(it, list) else 'an object'} holds"
+            return f"its further element {told} {DEMAND!r}, and would demand nothing"
+    return None
 
 
 def fault_of(entry: Any) -> Optional[str]:
@@ -107,10 +157,7 @@ def fault_of(entry: Any) -> Optional[str]:
         return "its index is no whole number"
     if any(LONE_SURROGATE.search(it) for it in (entry[0], body[0], body[2])):
         return "a text of it holds half a letter (a lone surrogate)"
-    for it in entry[2:]:
-        if isinstance(it, str) and it != DEMAND and difflib.get_close_matches(it.lower(), [DEMAND], cutoff=0.8):
-            return f"its further element {cut(it)!r} is nearly {DEMAND!r}, and would demand nothing"
-    return None
+    return demand_fault(entry[2:])
 
 
 def entry_of(path: str, text: str, number: int, value: Any, begin: int, end: int) -> Entry:
@@ -118,8 +165,10 @@ def entry_of(path: str, text: str, number: int, value: Any, begin: int, end: int
     if fault:
         raise Refused(f"{path}, session {number}, line {text.count(chr(10), 0, begin) + 1}: {fault}")
     name, body = value[0], value[1]
-    parts = items_of(text, items_of(text, begin)[0][1][1])[0]
-    spans = {"name": items_of(text, begin)[0][0][1:], "source": parts[0][1:], "level": parts[2][1:], "entry": (begin, end)}
+    # what stands behind them is read no second time
+    of_name, of_body = islice(items_in(text, begin), 2)
+    parts = list(islice(items_in(text, of_body[1]), 4))
+    spans = {"name": of_name[1:], "source": parts[0][1:], "level": parts[2][1:], "entry": (begin, end)}
     spans["index"] = parts[3][1:] if len(parts) > 3 else (parts[2][2], parts[2][2])
     index = body[3] if len(body) > 3 and body[3] is not None else 0
     return Entry(number, name, body[0], body[1], body[2], index, spans, DEMAND in value[2:])
@@ -130,8 +179,8 @@ def sessions_in(path: str, text: str) -> Sessions:
     try:
         if text.startswith(MARK):
             raise Refused(f"{path}, line 1: a byte order mark stands before the list, which JSON doesn't allow; save the file without it")
-        items, end = items_of(text, 0)
-        end = after_space(text, end)
+        items = list(items_in(text, 0, CAREFUL))
+        end = after_space(text, text.index("]", items[-1][2] if items else 0) + 1)
         if end != len(text):
             raise json.JSONDecodeError("something stands after the list", text, end)
         return Sessions(path, text, [entry_of(path, text, number, *item) for number, item in enumerate(items)])
@@ -142,7 +191,7 @@ def sessions_in(path: str, text: str) -> Sessions:
             raise Refused(f"{path}, line {line}, letter {comma - before}: no JSON list of sessions (nothing follows the comma there, which JSON doesn't allow)") from None
         raise Refused(f"{path}, line {why.lineno}, letter {why.colno}: no JSON list of sessions ({why.msg})") from None
     except (ValueError, RecursionError) as why:
-        raise Refused(f"{path}: no JSON list of sessions ({'a number of it has too many digits' if 'digits' in str(why) else why})") from None
+        raise Refused(f"{path}: no JSON list of sessions ({why})") from None
 
 
 def read_sessions(path: str) -> Sessions:

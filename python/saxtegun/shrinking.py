@@ -2,15 +2,17 @@
 from __future__ import annotations
 
 import re
-from itertools import combinations
+from itertools import combinations, takewhile
+from math import inf
+from time import monotonic
 from typing import Callable, Iterator, List, NamedTuple, Optional, Sequence, Set, Tuple
 
 from saxtegun.acting import Text
 from saxtegun.budget import EXPLAINING, SECONDS
 from saxtegun.commands import Refused
-from saxtegun.engines import FAILED, STRAY, UNANSWERED, answers
+from saxtegun.engines import FAILED, STRAY, answers
 from saxtegun.leading import Side, rules_that_part
-from saxtegun.lines import Run
+from saxtegun.lines import UNANSWERED, Run
 from saxtegun.parting import Parting, parting_of
 from saxtegun.playing import Engine
 from saxtegun.running import Beside
@@ -29,24 +31,37 @@ DIGITS = re.compile(r"[0-9]+")
 
 
 class Programs(NamedTuple):
-    """Two programs, and how they are called; and where that is named, what tells the stages of each (None: what tells ours)."""
+    """Two programs, and how they are called; where that is named, what tells the stages of each (None: what tells ours); and when playing them ends."""
 
     one: Engine
     other: Engine
     tellers: Tuple[Optional[str], ...] = ()
+    end: float = inf
+
+    def is_over(self) -> bool:
+        return monotonic() > self.end
+
+    def answers(self, entries: Sequence[Entry], engine: Engine) -> Iterator[Run]:
+        """What one of them shows, as long as there is time."""
+        for run in answers(entries, engine):
+            yield run
+            if self.is_over():
+                return
 
     def pairs(self, entries: Sequence[Entry]) -> Iterator[Tuple[Run, Run]]:
-        """What both show of entries, in their order. Either may close wrongly, or fail: that is what is looked for."""
-        one = Beside(lambda: list(answers(entries, self.one)))
+        """What both show of entries, in their order, as long as there is time. Either may close wrongly, or fail: that is what is looked for."""
+        one = Beside(lambda: list(self.answers(entries, self.one)))
         try:
-            for number, other in enumerate(answers(entries, self.other)):
+            for number, other in enumerate(self.answers(entries, self.other)):
+                if number >= len(one.result()):
+                    return
                 yield one.result()[number], other
         finally:
             one.leave()
 
     def in_haste(self) -> "Programs":
         one, other = (it._replace(seconds=min(it.seconds or HASTE, HASTE)) for it in (self.one, self.other))
-        return Programs(one, other, self.tellers)
+        return self._replace(one=one, other=other)
 
     def way(self, entry: Entry, one: Run, other: Run, wanted: Optional[Way] = None) -> Optional[Way]:
         """In which way they part on an entry; where their stages are told, also by the rules of the first that parts, unless the rest isn't what is wanted.
@@ -135,7 +150,7 @@ class Shrinking:
 
     def places_that_part(self, entries: Sequence[Entry]) -> Iterator[int]:
         """Which of these entries the programs part on in this way."""
-        for first in range(0, len(entries), MOST_AT_ONCE):
+        for first in range(0, 0 if self.programs.is_over() else len(entries), MOST_AT_ONCE):
             some = entries[first : first + MOST_AT_ONCE]
             for place, (entry, (one, other)) in enumerate(zip(some, self.programs.pairs(some)), first):
                 self.tried += 1
@@ -154,7 +169,7 @@ class Shrinking:
         while is_less:
             # where something went, more of the rest may
             known = len(gone)
-            for some in pieces(chunks(count), MOST_AT_ONCE):
+            for some in takewhile(lambda _: not self.programs.is_over(), pieces(chunks(count), MOST_AT_ONCE)):
                 gone = self.gone_with([it for it in some if not it <= gone], gone, without)
             is_less = len(gone) > known
         if size_of(without(gone)) < size_of(before):
@@ -174,13 +189,14 @@ class Shrinking:
         if len(joined) < 2:
             return joined[0] if joined else gone
         together = list(self.places_that_part([without(it) for it in joined]))
-        return joined[together[-1]]
+        # a program that doesn't show the same each time may part on none of them
+        return joined[together[-1]] if together else gone
 
     def leave_out_a_pair(self) -> bool:
         """Leaves out two inputs, of which neither can go alone, the last first; answers whether there were two."""
         count, without = of_inputs(self.entry)
         trial = "pairs", self.entry.source, tuple(self.entry.inputs)
-        if trial in self.trials:
+        if trial in self.trials or self.programs.is_over():
             return False
         self.trials.add(trial)
         last = range(count - 1, max(-1, count - 1 - MOST_PAIRED), -1)
@@ -193,7 +209,7 @@ class Shrinking:
 
     def run(self) -> Entry:
         """Leaves out what can be, again and again, since less of one kind lets more of another go: inputs first, then rules, then cells and the rest."""
-        for _ in range(MOST_ROUNDS):
+        for _ in takewhile(lambda _: not self.programs.is_over(), range(MOST_ROUNDS)):
             while self.leave_out(of_inputs) or self.leave_out_a_pair():
                 pass
             if not any([self.leave_out(stage) for stage in STAGES]):
@@ -201,17 +217,19 @@ class Shrinking:
         return self.entry
 
 
-def shrunk(programs: Programs, entry: Entry, way: Way, progress: Callable[[int, Entry], None]) -> Tuple[Entry, int]:
-    """The smallest entry, and how many sessions were played. One on which an engine hangs shrinks in haste, if it then hangs as long as it may."""
+def shrunk(programs: Programs, entry: Entry, way: Way, progress: Callable[[int, Entry], None], seconds: float = inf) -> Tuple[Entry, int]:
+    """The smallest entry that is found in so many seconds, and how many sessions were played. One on which an engine hangs shrinks in haste, if it then
+    hangs as long as it may."""
+    bounded = programs._replace(end=monotonic() + seconds)
     if hangs(way):
-        quick = programs.in_haste()
+        quick = bounded.in_haste()
         # the way names the time that the engine had
         ways = quick.ways([entry])
         shrinking = Shrinking(quick, entry, ways[0] or way, progress)
         small = shrinking.run()
         if programs.ways([small]) == [way]:
             return small, shrinking.tried
-    shrinking = Shrinking(programs, entry, way, progress)
+    shrinking = Shrinking(bounded, entry, way, progress)
     return shrinking.run(), shrinking.tried
 
 

@@ -88,7 +88,7 @@ def blocks_of_levels(source: str) -> List[Block]:
         if is_message:
             blocks.append(Block([line], True))
         elif line.text:
-            rows = [*rows, line]
+            rows.append(line)
     return blocks
 
 
@@ -111,10 +111,11 @@ def of_columns(entry: Entry) -> Tuple[int, Without]:
 
     def without(left: Set[int]) -> Entry:
         changes: Dict[int, str] = {}
-        for number, it in enumerate(blocks):
-            gone = {columns[place][1] for place in left if columns[place][0] == number}
-            if gone:
-                changes.update({row.number: "".join(letter for at, letter in enumerate(row.text) if at not in gone) for row in it.lines})
+        gone: Dict[int, Set[int]] = {}
+        for number, column in (columns[place] for place in left):
+            gone.setdefault(number, set()).add(column)
+        for number, them in gone.items():
+            changes.update({row.number: "".join(letter for at, letter in enumerate(row.text) if at not in them) for row in blocks[number].lines})
         return entry._replace(source=without_lines(entry.source, set(), changes))
 
     return len(columns), without

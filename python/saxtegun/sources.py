@@ -5,6 +5,7 @@ import re
 from functools import lru_cache
 from typing import List, NamedTuple, Optional, Tuple
 
+from saxtegun.budget import EXPLAINING
 from saxtegun.commands import fold
 
 # What Unicode calls white space; Python's own idea of it has four letters more.
@@ -15,6 +16,8 @@ HEADINGS = ("objects", "legend", "sounds", "collisionlayers", "rules", "wincondi
 # So many letters tell a word from all keywords that end the reading of comments, and are kept of it.
 WORD_KEPT = 10
 CLOCK = "realtime_interval"
+# Behind so many letters of a line it is looked at whether there is time left.
+LOOKED_AT = 4096
 
 
 class Line(NamedTuple):
@@ -57,6 +60,8 @@ def outside_comments(section: str, depth: int, line: str) -> Tuple[List[int], in
     places: List[int] = []
     word, is_first = "", True
     for at, letter in enumerate(line):
+        if at % LOOKED_AT == 0:
+            EXPLAINING.look()
         if depth:
             depth += (letter == "(") - (letter == ")")
         elif letter == "(":
@@ -101,7 +106,7 @@ def read_source(source: str) -> Tuple[List[Line], List[str]]:
     lines: List[Line] = []
     headings: List[str] = []
     section, depth = "prelude", 0
-    for number, raw in enumerate(source.split("\n"), 1):
+    for number, raw in EXPLAINING.each(enumerate(source.split("\n"), 1)):
         line, before = trimmed(raw), depth
         left, depth = without_comments(section, depth, line)
         text = trimmed(left)

@@ -8,6 +8,8 @@ from saxtegun.commands import cut, plural, printable
 from saxtegun.guarding import guarded, without_marks
 
 MOST_FAILURES = 20
+# So many bytes a summary tells of a failure at most: GitHub shows none of a summary that has more than 1 MiB.
+MOST_OF_FAILURE = 45_000
 
 
 class Failure(NamedTuple):
@@ -41,6 +43,17 @@ def fenced(lines: Iterable[str]) -> str:
     return f"{fence}text\n{text}\n{fence}\n"
 
 
+def within(lines: List[str], most: int) -> List[str]:
+    """The first of some lines, as many as are a block of at most so many bytes, and one that says what is cut."""
+    size = fence = 0
+    for place, text in enumerate(guarded(printable(it)) for it in lines):
+        size += len(text.encode()) + 1
+        fence = max([fence, *(len(it) for it in re.findall("`+", text))])
+        if size + 2 * fence > most:
+            return [*lines[:place], f"and {plural(len(lines) - place, 'more line')}: it is cut here, since GitHub shows no summary of more than 1 MiB"]
+    return lines
+
+
 def markdown(failures: List[Failure], counts: str) -> str:
     """A job's summary: a table of failures, and below it what was reached beside what was recorded."""
     parts = [f"**{in_table(counts)}**\n"]
@@ -48,7 +61,7 @@ def markdown(failures: List[Failure], counts: str) -> str:
         rows = [f"| {in_table(it.name)} | {it.close} | {in_table(it.sentence)} |" for it in failures[:MOST_FAILURES]]
         more = [f"\nAnd {plural(len(failures) - MOST_FAILURES, 'more failure')}."] if len(failures) > MOST_FAILURES else []
         parts.append("\n".join(["| session | close | why |", "|---|---|---|", *rows, *more]) + "\n")
-        parts += [f"{in_table(it.name)}\n\n{fenced(it.below)}" for it in failures[:MOST_FAILURES] if it.below]
+        parts += [f"{in_table(it.name)}\n\n{fenced(within(it.below, MOST_OF_FAILURE))}" for it in failures[:MOST_FAILURES] if it.below]
     return "\n".join(parts)
 
 

@@ -3,7 +3,7 @@ from __future__ import annotations
 
 from functools import lru_cache
 from shlex import quote
-from typing import List, NamedTuple, Optional, Sequence
+from typing import Iterable, List, NamedTuple, Optional, Sequence
 
 from saxtegun.commands import Refused, cut, plural, say
 from saxtegun.files import MARK, read_text
@@ -80,3 +80,13 @@ def say_others(verb: str, sessions: Sessions, game: Optional[GameText]) -> List[
     if game and others:
         say(f"{verb}: {remark(sessions.path, others, game)}")
     return others
+
+
+def say_untested(verb: str, entries: Iterable[Entry]) -> None:
+    """Says how many sessions must be solved, where nothing looks whether they are."""
+    say_demands(verb, sum(1 for it in entries if it.is_solved_wanted))
+
+
+def say_demands(verb: str, count: int) -> None:
+    if count:
+        say(f"{verb}: {plural(count, 'session')} must be solved, and saxtegun test alone looks whether {'it is' if count == 1 else 'they are'}")

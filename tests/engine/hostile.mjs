@@ -9,7 +9,7 @@ const EXAMPLES = new URL('../../examples/', import.meta.url);
 const GAME = 'OBJECTS\nBackground\nblack\nPlayer\nred\nLEGEND\nCOLLISIONLAYERS\nBackground\nPlayer\nLEVELS\nq\n';
 const PIECES = ['[', '{', '"', '\\u0000', '(', ')', '...', '->', 'startloop\\n', 'again', 'late', '\ud83d', '\u2028'];
 const FILES = ['', '[', '[]', '[[', '[[]]', 'null', '{}', '"', '[1e999]', '['.repeat(5000), '[{"a":'.repeat(3000), '\ufeff[]', '[]\0', '[\n]\n ', ' '.repeat(9999)];
-const FAULTS = /^(memory|not-json|too-many|bad-entry \d+|bad-level \d+|no-stages)$/;
+const FAULTS = /^(memory|not-json|too-many|bad-entry \d+|bad-level \d+|no-stages|no-descriptions)$/;
 const LONGEST = 10_000;
 
 /** Numbers from 0 up to 1, the same ones for a seed. */
@@ -48,6 +48,7 @@ function fileOf(next, pick, good) {
 function called(engine, next, pick, good) {
   const file = fileOf(next, pick, good);
   if (typeof file === 'string' && next() < 0.3) return engine.frames({ source: file, inputs: [0, 1, pick(['undo', 'tick', 3])], index: pick([0, 1, 5]) }, { from: pick([0, 1, 2 ** 53 - 1]) });
+  if (next() < 0.2) return engine.description(pick([file, GAME, GAME.slice(0, Math.floor(next() * GAME.length))]));
   const order = pick(['rows', 'columns']), number = () => pick([0, 1, 2, 65_535, 2 ** 32, 2 ** 53 - 1]);
   return next() < 0.3 ? engine.stagesOf(file, number(), number(), { order }) : engine.replay(file, { order });
 }

@@ -5,6 +5,8 @@ import { culpritTold } from '../../web/faults.mjs';
 import { readFileSync } from 'node:fs';
 import { toAdd } from '../../web/findings.mjs';
 import { findingsIn } from '../../web/console.mjs';
+import { likelyTold } from '../../web/differences.mjs';
+import { rowsInWords } from '../../web/cells.mjs';
 import { Game } from '../../web/game.mjs';
 import { lineOf, linesOf, trimmed } from '../../web/source.mjs';
 
@@ -22,11 +24,32 @@ function chain(size) {
   return `${HEAD}LEGEND\n${names.map((it, k) => `${it} = a${k + 1}`).join('\n')}\nCOLLISIONLAYERS\n${names.join(' ')}\n`;
 }
 
+// A game of so many objects, each in a layer of its own, with a name for all of them.
+function objectsInLayers(size, joint, rest) {
+  const names = Array.from({ length: size }, (_, k) => `a${k}`);
+  return `OBJECTS\nBackground .\nblack\n\nPlayer p\nwhite\n\n${names.map(it => `${it}\nred\n\n`).join('')}LEGEND\nall = ${names.join(` ${joint} `)}\n${rest}COLLISIONLAYERS\nBackground\nPlayer\n${names.join('\n')}\n`;
+}
+
+// Looks at as many rules as the property in them has objects.
+function propertyInRules(size) {
+  const source = `${objectsInLayers(size, 'or', '')}RULES\n${'[ > Player | all ] -> [ > Player | > all ]\n'.repeat(size)}`;
+  assert.equal(likelyTold({ source, game: new Game(source), inputs: [], frames: [] }), null);
+}
+
+// Tells in words a level of as many cells as each has names.
+function inWords(size) {
+  const names = Array.from({ length: size }, (_, k) => `a${k}`);
+  rowsInWords({ width: size, cells: new Array(size).fill(0), order: 'rows' }, () => names);
+}
+
 const READINGS = {
   'blanks behind a title': [100_000, size => trimmed(`title x${' '.repeat(size)}x`)],
   'returns at the end of a line': [100_000, size => lineOf(`${'\r'.repeat(size)}x`, 1)],
   'names that stand for one another': [2000, size => new Game(chain(size))],
   'letters that stand for one another': [2000, size => new Game(`${HEAD}LEGEND\n${LETTERS.slice(0, size).map((it, k) => `${it} = ${LETTERS[k + 1]}`).join('\n')}\n`)],
+  'letters that stand for all objects': [500, size => new Game(objectsInLayers(size, 'and', LETTERS.slice(0, size).map(it => `${it} = all\n`).join('')))],
+  'objects of a property in rules': [500, propertyInRules],
+  'names of cells in words': [1000, inWords],
   'a name that is not there, of many letters': [10_000, size => told('Unknown', `[ ${'ab'.repeat(size)} ]`, `${'ba'.repeat(size)}\nred\nRULES\n`)],
   'many names that are not there': [1000, size => told('Unknown', `[ ${LETTERS.slice(0, size).join(' ')} ]`)],
   'a name again and again': [10_000, size => told('Duplicate', `${'a b '.repeat(size)}\nred`, '')],
@@ -60,6 +83,18 @@ for (const [what, [size, act]] of Object.entries(READINGS)) {
   });
 }
 
+test('of synonyms each is gone through once', () => {
+  const game = new Game(`${HEAD}LEGEND\n${LETTERS.slice(0, 2000).map((it, k) => `${it} = ${LETTERS[k + 1]}\n`).join('')}${LETTERS[2000]} = Player\nCOLLISIONLAYERS\nBackground\nPlayer\n`);
+  assert.ok(game.namesLeft > 490_000, `${game.namesLeft}`);
+  assert.deepEqual(game.members(LETTERS[0]), ['player']);
+});
+
+test('a name of more objects than a call takes arguments stands for all of them', () => {
+  const game = new Game(objectsInLayers(150_000, 'or', ''));
+  assert.equal(game.members('all').length, 150_000);
+  assert.equal(game.look().objects.length, 150_002);
+});
+
 const FORM = readFileSync(new URL('../forms/console-with-headings.txt', import.meta.url), 'utf-8');
 const LONG = 2_600_000, SHORTER = 400_000, MOST_MS = 3000;
 const HOSTILE = ['["', '"["', '"[\\"', '[\\"', "['", "'[\"", '[`', '[&quot;', '["a",', '["a",["objects",[0],"b",', '/*["', '["/*', '["objects"\n', '[\u201c', '["a\\', '"\n[', '["undo",', '\\n[', '[<br>"', '["a",//'];
@@ -84,5 +119,14 @@ test('26 MB of text are searched in no time', () => {
   for (const [piece, each] of [[FORM, 1], ['[ > Player | Crate ] -> [ > Player ]\n', 0]]) {
     const count = Math.floor((10 * LONG) / piece.length);
     assert.ok(searchOf(piece.repeat(count), each * count) < MOST_MS, piece);
+  }
+});
+
+// Texts of one piece again and again, with what stands before and behind it, and how many recordings are in it.
+const ROUNDS = [['[', '<br>', '', 0], ['[', '&nbsp;', '&quot;', 0], ['["a",', '<br>', '1]', 0], ['"', '\\n', '', 0], ['"[', '\\n', '', 0], ['[["a",["",[', '"undo",', '1],""]]]', 1]];
+
+test('a piece is read again and again, however often it stands there', () => {
+  for (const [before, piece, behind, count] of ROUNDS) {
+    assert.equal(findingsIn(before + piece.repeat((10 * LONG) / piece.length) + behind).found.length, count, before + piece);
   }
 });

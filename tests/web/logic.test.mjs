@@ -2,7 +2,7 @@
 import assert from "node:assert/strict";
 import test from "node:test";
 import { Ending, endingTold, obstacleTold, partingOf, partingTold } from "../../web/comparing.mjs";
-import { handed } from "../../web/handing.mjs";
+import { handed, takeEach } from "../../web/handing.mjs";
 import { meaningOf } from "../../web/keys.mjs";
 import { packed, unpacked } from "../../web/packing.mjs";
 import { playedInParts } from "../../web/parts.mjs";
@@ -11,6 +11,7 @@ import { framesIn, readRuns, runsOf } from "../../web/lines.mjs";
 import { likeness, nearest } from "../../web/nearest.mjs";
 import { firstFrom, joined, markOf, windowAround } from "../../web/recording.mjs";
 import { Refusal, SessionFile, refusalTold } from "../../web/session-file.mjs";
+import { findingsIn } from "../../web/console.mjs";
 import { following, isFailure, listed } from "../../web/session-list.mjs";
 
 const bytesOf = (text) => new TextEncoder().encode(text);
@@ -227,6 +228,16 @@ test("keys mean inputs and moves, but not where something is typed", () => {
   for (const it of [pressed("x", "textarea"), pressed("q"), pressed("z", "body", { ctrlKey: true }), pressed(" ", "button"), pressed("Tab"), pressed("Enter", "button")]) assert.equal(it, null);
 });
 
+test("a file that is too long is told, and not read", async () => {
+  const taken = [], refused = [], most = 64 * 2 ** 20;
+  const file = (name, size, isRead = true) => ({ name, size, arrayBuffer: async () => (isRead ? new ArrayBuffer(size) : assert.fail(`${name} is read`)) });
+  const files = [file("a", 3), file("long", most + 1, false), file("endless", 2 ** 40, false), file("b", 0)];
+  await takeEach(files, async (name, bytes) => taken.push([name, bytes.length]), (why) => refused.push(why));
+  assert.deepEqual(taken, [["a", 3], ["b", 0]]);
+  assert.deepEqual(refused, ["long has more than 64 MiB, and is not read", "endless has more than 64 MiB, and is not read"]);
+  assert.throws(() => handed("pasted", { length: most + 1 }), new Refusal("pasted has more than 64 MiB, and is not read"));
+});
+
 const kindOf = (text) => handed("f", typeof text === "string" ? bytesOf(text) : text).kind;
 const wide = (text, isBig) => Uint8Array.from([...text].flatMap((letter) => (isBig ? [0, letter.charCodeAt(0)] : [letter.charCodeAt(0), 0])));
 
@@ -243,4 +254,13 @@ test("what is none of these is refused, and prose is no game", () => {
     [new Uint8Array([0x61, 0xff]), "f is no text in UTF-8"],
   ];
   for (const [text, begin] of refusals) assert.throws(() => kindOf(text), (error) => error instanceof Refusal && error.message.startsWith(begin), begin);
+});
+
+test("what stands behind the body of a recording stays where only brackets are missing, and one that is cut in a text is cut off", () => {
+  const whole = '["a",["title x\\nOBJECTS",[1],"b:0,",0],"solved",7';
+  for (const end of ["]", "", "\n", "\nVM1: more", "] "]) assert.deepEqual(findingsIn(whole + end).found.map(({ rest }) => rest), [["solved", 7]], end);
+  for (const text of ['["a",["title x\\nOBJECTS",[1],"b:0,",0],"sol', '["a",["title x\\nOBJECTS",[1],"b:0,",0],7,"']) {
+    const { found, skipped } = findingsIn(text);
+    assert.deepEqual([found, skipped.map(({ what }) => what)], [[], ["cut-off"]], text);
+  }
 });

@@ -8,7 +8,7 @@ import { fileNameOf } from "../../web/handing.mjs";
 import { swipeOf } from "../../web/keys.mjs";
 import { messagesAt, messagesOf } from "../../web/messages.mjs";
 import { framesOf } from "../../web/replaying.mjs";
-import { edited, fromLevel, lookedAt, pressed, ticked, withGame } from "../../web/work.mjs";
+import { beginning, edited, fromLevel, lookedAt, pressed, ticked, withGame } from "../../web/work.mjs";
 import { clockTold, statusOf, verdictOf } from "../../web/page-words.mjs";
 import { SessionFile } from "../../web/session-file.mjs";
 import { withOtherFile } from "../../web/filing.mjs";
@@ -168,4 +168,16 @@ test("a level is told row by row, in both orders of cells", () => {
   assert.deepEqual(told("rows"), ["2 \u00d7 background, background player", "3 \u00d7 nothing"]);
   assert.deepEqual(told("columns"), ["background, background player, nothing", "background, 2 \u00d7 nothing"]);
   assert.deepEqual(rowsInWords(null, () => []), []);
+});
+
+test("a key that the game switches off is left out, as on the site, and what stands in LEVELS switches nothing off", () => {
+  const off = FALLING.replace("again_interval 0.25", "NoAction\nnoundo\nnorestart (all three)");
+  for (const [input, word] of [[4, "noaction"], ["undo", "noundo"], ["restart", "norestart"]]) {
+    const state = { ...edited(beginning("title none\n"), off), messages: [] }, next = pressed(state, input);
+    assert.deepEqual([next.queue, statusOf(next).text], [[], `This game has \`${word}\`, so the key is left out.`]);
+    assert.deepEqual(pressed({ ...edited(beginning("title none\n"), FALLING), messages: [] }, input).queue.map((it) => it.input), [input]);
+  }
+  const on = { ...edited(beginning("title none\n"), off.replace("NoAction\n", "").replace("message first (of all)", "message\nnoaction")), messages: [] };
+  assert.deepEqual(pressed(on, 4).queue.map((it) => it.input), [4]);
+  assert.deepEqual(pressed({ ...edited(beginning("title none\n"), off), messages: ["first"] }, 4).messages, []);
 });

@@ -27,9 +27,9 @@ def hostile_suite():
     def add(payload, level, close, cause=None):
         number = len(entries)
         entries.append([payload, [source_of(payload), [3], "background:0,0,"]])
-        if level is not None:
-            lines.append({"at": 0, "frame": 0, "kind": "start", "level": level, "session": number})
-        lines.append({**({"cause": cause} if cause else {}), "close": close, "frames": int(level is not None), "name": payload, "session": number})
+        kinds = ("start", "move") if level is not None else ()
+        lines.extend({"at": at, "frame": at, "kind": kind, "level": level, "session": number} for at, kind in enumerate(kinds))
+        lines.append({**({"cause": cause} if cause else {}), "close": close, "frames": len(kinds), "name": payload, "session": number})
 
     for payload in PAYLOADS:
         add(payload, f"{payload.replace(',', '').replace(':', '')} background:0,background:1,\n", "differs")

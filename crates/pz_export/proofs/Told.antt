@@ -7,6 +7,8 @@ use Rattle.pz_case.specs.declared.recording.Record.{Record}
 use Rattle.pz_engine.specs.Engine.{IsPlayed}
 use Rattle.pz_engine.specs.Sessions.{sessions_in}
 use Rattle.pz_engine.specs.declared.engine.Played.{Played}
+use Rattle.std.specs.Str.{IsUtf8}
+use Rattle.pz_export.specs.Description.{IsDescribed, IsDescription, IsUndescribed}
 use Rattle.pz_export.specs.Lines.{AreStaged, IsAnswered, IsRefused, IsStaged, IsTold, IsToldWhy}
 use Rattle.pz_export.specs.Outcome.{status_of}
 use Rattle.pz_export.specs.declared.outcome.Outcome.{Outcome}
@@ -24,6 +26,12 @@ pub staged : (detail : Detail) (order : Order) (file : List ℕ) (session number
 staged detail order file session number room_before room outcome count (Ok played) are told why other = record { answer = played; are_staged = are; told = told }
 staged detail order file session number room_before room outcome count (Err cause) are told why other = absurd (other why.says.status)
 
+pub described : (source room_before room : List ℕ) (outcome : Outcome) (count : ℕ) (r : Result Played FileFault)
+    → IfOk r (IsDescription source) → IfOk r (λ played. IsTold played room_before room outcome count) → IfErr r (λ cause. IsToldWhy cause room_before room outcome count)
+    → outcome.status ≢ 2 → IsDescribed source room_before room outcome count
+described source room_before room outcome count (Ok played) is told why other = record { answer = played; is_description = is; told = told }
+described source room_before room outcome count (Err cause) is told why other = absurd (other why.says.status)
+
 is_other : (passed : Bool) → status_of passed ≡ 2 → ⊥
 is_other true e = omega (arith, e)
 is_other false e = omega (arith, e)
@@ -33,3 +41,9 @@ pub refused : (file room_before room : List ℕ) (outcome : Outcome) (count : �
     → outcome.status ≡ 2 → IsRefused file room_before room outcome count
 refused file room_before room outcome count (Ok played) is told why status = absurd (is_other played.passed (sym told.says.status ∙ status))
 refused file room_before room outcome count (Err cause) is told why status = record { cause = cause; why = is; told = why }
+
+pub undescribed : (source room_before room : List ℕ) (outcome : Outcome) (count : ℕ) (r : Result Played FileFault)
+    → IfErr r (λ cause. cause ≢ fault.Memory → (cause ≡ fault.NotJson) × ¬ (IsUtf8 source)) → IfOk r (λ played. IsTold played room_before room outcome count) → IfErr r (λ cause. IsToldWhy cause room_before room outcome count)
+    → outcome.status ≡ 2 → IsUndescribed source room_before room outcome count
+undescribed source room_before room outcome count (Ok played) is told why status = absurd (is_other played.passed (sym told.says.status ∙ status))
+undescribed source room_before room outcome count (Err cause) is told why status = record { cause = cause; why = is; told = why }

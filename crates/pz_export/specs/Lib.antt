@@ -1,2 +1,3 @@
 pub mod Outcome
 pub mod Lines
+pub mod Description

@@ -37,7 +37,11 @@ fn begin_with(room: &mut [u8], bytes: &[u8])
 }
 
 /// Tells a host how a file was answered, and answers the number of bytes of the lines.
-fn tell(answer: Result<Played, FileFault>, room: &mut [u8], outcome: &mut Outcome) -> usize
+pub(crate) fn tell(
+    answer: Result<Played, FileFault>,
+    room: &mut [u8],
+    outcome: &mut Outcome,
+) -> usize
     ensures told { IfOk answer (λ played. IsTold played room.old room.new outcome.new result) }
     ensures told_why { IfErr answer (λ cause. IsToldWhy cause room.old room.new outcome.new result) }
 {

@@ -1,5 +1,6 @@
 //! What a host sees.
 
+use crate::description::saxtegun_description;
 use crate::lines::{saxtegun_firings, saxtegun_frames, saxtegun_lines, saxtegun_stages};
 use crate::outcome::{Outcome, played};
 use std::test::Fail;
@@ -194,6 +195,35 @@ fn says_why_a_file_has_no_stages(rt: HostRuntime) -> Result<(), Fail> {
     );
     assert!(rt; count == 0);
     assert!(rt; outcome.status == 2 && outcome.fault == 3 && outcome.entry == 0);
+    assert!(rt; room.iter().all(|byte| *byte == 7));
+    Ok(())
+}
+
+/// What is told of a source without a line.
+const DESCRIPTION: &str =
+    "{\"fault\":{\"code\":\"Section\",\"line\":0},\"layers\":[],\"legend\":[],\"levels\":[],\"lines\":[[1,\"prelude\",false,\"\"]],\"objects\":[],\"prelude\":[],\"program\":null,\"rules\":[],\"wins\":[]}";
+
+#[test]
+fn describes_a_source(rt: HostRuntime) -> Result<(), Fail> {
+    for size in [DESCRIPTION.len(), 1000] {
+        let mut room = vec![in rt.alloc(); 7; size]?;
+        let mut outcome = played(false);
+        let count = saxtegun_description(rt.alloc(), b"", room.as_mut_slice(), &mut outcome);
+        assert!(rt; count == DESCRIPTION.len());
+        assert!(rt; room.as_slice().starts_with(DESCRIPTION.as_bytes()));
+        assert!(rt; room.iter().skip(count).all(|byte| *byte == 7));
+        assert!(rt; outcome.status == 0 && outcome.fault == 0 && outcome.entry == 0);
+    }
+    Ok(())
+}
+
+#[test]
+fn describes_no_bytes_that_are_no_text(rt: HostRuntime) -> Result<(), Fail> {
+    let mut room = vec![in rt.alloc(); 7; 10]?;
+    let mut outcome = played(false);
+    let count = saxtegun_description(rt.alloc(), b"\xff", room.as_mut_slice(), &mut outcome);
+    assert!(rt; count == 0);
+    assert!(rt; outcome.status == 2 && outcome.fault == 2 && outcome.entry == 0);
     assert!(rt; room.iter().all(|byte| *byte == 7));
     Ok(())
 }

@@ -24,7 +24,8 @@ pub(crate) fn quoted_kind(kind: FrameKind) -> &'static [u8]
     }
 }
 
-fn code_name(code: Code) -> &'static str
+/// The name of a fault's code.
+pub fn code_name(code: Code) -> &'static str
     ensures { result.now ≡ code_name code }
 {
     match code {

@@ -60,7 +60,7 @@ fn equals_sign(characters: &[char]) -> Option<usize>
 }
 
 /// The two sides of a line, cut at its first `=` that isn't its first character.
-fn sides<'a>(text: &'a [char]) -> Option<(&'a [char], &'a [char])>
+pub fn sides<'a>(text: &'a [char]) -> Option<(&'a [char], &'a [char])>
     ensures { option_map (λ both. (both.0.now, both.1.now)) result ≡ sides text.entry.now }
 {
     let Some((_, others)) = text.split_first() else {
@@ -127,7 +127,7 @@ fn defined_by(
 }
 
 /// The definition on a line, if the line has the form of one.
-fn read_definition(alloc: Global, line: &Line) -> Result<Option<Definition>, AllocError>
+pub fn read_definition(alloc: Global, line: &Line) -> Result<Option<Definition>, AllocError>
     ensures { IfOk result (λ definition. definition ≡ definition_of line.now) }
 {
     let Some((left, right)) = sides(line.text.items()) else {

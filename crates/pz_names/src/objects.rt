@@ -57,7 +57,7 @@ fn is_sprite_row(line: &Line) -> bool
 }
 
 /// The sprite rows at the front, at most five of them.
-fn sprite_rows(lines: &[Line]) -> &[Line]
+pub fn sprite_rows(lines: &[Line]) -> &[Line]
     ensures rows { result.now ≡ sprite_rows 5 lines.now }
     ensures within { length result.now ≤ length lines.now }
 {
@@ -130,7 +130,8 @@ fn read_paragraph<'a>(
     Ok(behind_paragraph(others))
 }
 
-fn paragraphs_of(alloc: Global, lines: &[Line]) -> Result<Vec<Paragraph>, AllocError>
+/// The paragraphs of OBJECTS: each object with its name line, whether or not its form is right.
+pub fn paragraphs_of(alloc: Global, lines: &[Line]) -> Result<Vec<Paragraph>, AllocError>
     ensures { IfOk result (λ found. found.items ≡ paragraphs_of lines.now) }
 {
     let mut found = Vec::new(alloc);

@@ -26,14 +26,15 @@ pub fn entries_are_limited()
     ensures { MAX_ENTRIES ≡ 1_024 }
 {}
 
-fn is_message(line: &Line) -> bool
+/// Whether a line of LEVELS is a message.
+pub fn is_message(line: &Line) -> bool
     ensures { result ≡ is_message line.now }
 {
     begins_with_word(line.text.items(), b"message")
 }
 
 /// The entries of LEVELS, each with its lines: the line of a message, or the rows of a level.
-fn entries<'a>(alloc: Global, lines: &'a [Line]) -> Result<Vec<&'a [Line]>, AllocError>
+pub fn entries<'a>(alloc: Global, lines: &'a [Line]) -> Result<Vec<&'a [Line]>, AllocError>
     ensures { IfOk result (λ entries. map (λ entry. entry.now) entries.items ≡ entries_of [] lines.entry.now) }
 {
     let mut entries = Vec::new(alloc);

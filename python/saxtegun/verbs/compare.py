@@ -182,8 +182,9 @@ class Comparing:
         """Tells at what an engine failed, or both."""
         entry = self.entry(runs[0])
         assert entry is not None
-        one, other = (with_frames(entry, it, engine) if it.close in FAILED else it for it, engine in zip(runs, self.sides.engines))
-        failures = [failure_told(entry, it, name) for it, name in zip((one, other), self.names) if it.close in FAILED]
+        looked = [with_frames(entry, it, engine) if it.close in FAILED else it for it, engine in zip(runs, self.sides.engines)]
+        one, other = (found or it for found, it in zip(looked, runs))
+        failures = [failure_told(entry, it, name, found is not None) for found, it, name in zip(looked, (one, other), self.names) if it.close in FAILED]
         self.tell(parting_of(one, other) or Parting(len(one.frames), None, None), one, other, failures)
 
     def tell_late(self, *runs: Run) -> None:
@@ -218,7 +219,7 @@ def check_played(comparing: Comparing, given: Namespace) -> None:
 
 def main(given: Namespace) -> int:
     guard_output(*given.files, *(given.sources or []))
-    guard_files([given.report], [*given.files, *(given.sources or [])])
+    guard_files([given.report], [*given.files, *(given.sources or []), *(given.engines or []), *(given.stages or []), given.program])
     guard_places(given.report)
     comparing = Comparing(given, sides_of(given))
     comparing.run()

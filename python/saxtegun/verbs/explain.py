@@ -23,7 +23,7 @@ from saxtegun.files import guard_output
 from saxtegun.lines import UNANSWERED, Run
 from saxtegun.playing import engine_of, lines_or_played
 from saxtegun.sessions import read_sessions
-from saxtegun.texts import over, read_game, say_others
+from saxtegun.texts import over, read_game, say_others, say_untested
 from saxtegun.ticks import ticks_told
 
 USAGE = "explain SESSIONS [LINES] [--game GAME.txt] [--order rows|columns]"
@@ -56,6 +56,7 @@ def main(given: Namespace) -> int:
     game = read_game(given.game)
     sessions = over(read_sessions(given.sessions), game)
     say_others("explain", sessions, game)
+    say_untested("explain", sessions.entries)
     closes: List[str] = []
     told_of: Dict[Tuple[object, ...], Told] = {}
     with lines_or_played(sessions, given.lines, engine_of(given)) as runs:

@@ -5,36 +5,37 @@ Each part FOLDER/NUMBER.json needs its lines, FOLDER/NUMBER.lines, as the
 program wrote them. The output is what the program writes for the whole file.
 
 Exit status, as the program's: 0 every session passed, 1 some did not. It is 2,
-with a line on standard error, if a part has no lines, if its sessions aren't
-closed under the names of FOLDER/parts.txt, or if a part is there that parts.txt
-doesn't know. What was written before is then no whole output."""
+with a line on standard error, if a part has no lines, if one of them is no
+line of the program in its place, if its sessions aren't closed under the names
+of FOLDER/parts.txt, if that is cut off, or if a part is there that it doesn't
+know. What was written before is then no whole output."""
 from __future__ import annotations
 
-import json
 import os
+import re
 import sys
 from argparse import ArgumentParser, Namespace
-from typing import Tuple
 
-from saxtegun.commands import Refused, cut
-from saxtegun.files import guard_output, read_lines
-from saxtegun.lines import SESSION
+from saxtegun.commands import Refused, cut, plural
+from saxtegun.files import guard_output
+from saxtegun.lines import Run, told_in
 from saxtegun.parts import Part, read_manifest
 
 USAGE = "join FOLDER >lines"
+# What saxtegun split names so, and all lines.
+OF_A_PART = re.compile(r"[0-9]{8,}\.json|.*\.lines", re.S)
 
 
 def add_words(words: ArgumentParser) -> None:
     words.add_argument("folder", metavar="FOLDER")
 
 
-def close_in(line: str) -> Tuple[str, str]:
-    """The close of a line and the name of its session; two empty texts where it is none."""
-    try:
-        value = json.loads(line)
-        return str(value["close"]), str(value["name"])
-    except (ValueError, KeyError, TypeError, RecursionError):
-        return "", ""
+def check_close(place: str, run: Run, part: Part) -> None:
+    """Refuses the close of another session than the part has at its number."""
+    wanted = part.names[run.number] if run.number < len(part.names) else None
+    if run.name != wanted:
+        told = "no session" if wanted is None else repr(cut(wanted))
+        raise Refused(f"{place} closes {cut(run.name)!r}, where {told} is wanted: these are lines of another part")
 
 
 def joined_part(folder: str, part: Part) -> bool:
@@ -44,27 +45,24 @@ def joined_part(folder: str, part: Part) -> bool:
         raise Refused(f"{lines} is missing")
     guard_output(lines)
     closed, passed = 0, True
-    for number, line in read_lines(lines):
-        session = SESSION.search(line.rstrip("\n"))
-        if session is None or int(session[1]) != closed or not line.endswith("\n"):
-            raise Refused(f"{lines}, line {number}, has no line of session {closed} where one is wanted")
-        if not line.startswith('{"at":'):
-            close, name = close_in(line)
-            if closed >= len(part.names) or not close or name != part.names[closed]:
-                wanted = repr(cut(part.names[closed])) if closed < len(part.names) else "no session"
-                raise Refused(f"{lines}, line {number}, closes {cut(name)!r}, where {wanted} is wanted: these are lines of another part")
-            closed += 1
-            passed = passed and close == "passed"
-        sys.stdout.write(f'{line[: session.start()]}"session":{part.first + int(session[1])}}}\n')
+    for number, line, it in told_in(lines):
+        end = f',"session":{closed}}}\n'
+        if not line.endswith(end):
+            raise Refused(f"{lines}, line {number}, doesn't end as a line of session {closed}")
+        if isinstance(it, Run):
+            check_close(f"{lines}, line {number},", it, part)
+            passed = passed and it.close == "passed"
+        sys.stdout.write(f'{line[:-len(end)]},"session":{part.first + closed}}}\n')
+        closed += isinstance(it, Run)
     if closed != len(part.names):
-        raise Refused(f"{lines} closes {closed} of {len(part.names)} sessions")
+        raise Refused(f"{lines} closes {closed} of {plural(len(part.names), 'session')}")
     return passed
 
 
 def main(given: Namespace) -> int:
     parts = read_manifest(given.folder)
-    known = {it.file("lines") for it in parts}
+    known = {it.file(ending) for it in parts for ending in ("json", "lines")}
     for name in sorted(os.listdir(given.folder)):
-        if name.endswith(".lines") and name not in known:
+        if OF_A_PART.fullmatch(name) and name not in known:
             raise Refused(f"{os.path.join(given.folder, name)} is of no part")
     return 0 if all([joined_part(given.folder, it) for it in parts]) else 1

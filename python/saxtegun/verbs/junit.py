@@ -2,13 +2,15 @@
 
 Each session is a test case. `differs` and `stopped` are failures. `refused` is
 an error, or with --refused skipped a skipped test. With SESSIONS, the file that
-was played, each has the words of `saxtegun explain`.
+was played, each has the words of `saxtegun explain`; and it shows that the
+lines are whole, which they can't show themselves.
 
 Exit status: 0, or 2 if a file is refused."""
 from __future__ import annotations
 
 import sys
 from argparse import ArgumentParser, Namespace
+from itertools import chain
 from pathlib import Path
 
 from saxtegun.belonging import Tests, read_runs
@@ -16,7 +18,7 @@ from saxtegun.commands import Refused, add_game, add_order
 from saxtegun.files import guard_output
 from saxtegun.junit import junit_of
 from saxtegun.sessions import read_sessions
-from saxtegun.texts import over, read_game, say_others
+from saxtegun.texts import over, read_game, say_others, say_untested
 
 USAGE = "junit [SESSIONS] LINES [--game GAME.txt] [--order rows|columns] [--refused error|skipped] >junit.xml"
 
@@ -36,5 +38,10 @@ def main(given: Namespace) -> int:
     sessions = over(read_sessions(given.files[0]), game) if len(given.files) == 2 else None
     if sessions:
         say_others("junit", sessions, game)
-    sys.stdout.write(junit_of(read_runs(given.files[-1], sessions, Tests(order=given.order)), Path(given.files[0]).name, sessions, given.order, given.refused))
+        say_untested("junit", sessions.entries)
+    runs = read_runs(given.files[-1], sessions, Tests(order=given.order))
+    first = next(runs, None)
+    if first is None:
+        raise Refused(f"{given.files[-1]} closes no session, so nothing was played")
+    sys.stdout.write(junit_of(chain([first], runs), Path(given.files[0]).name, sessions, given.order, given.refused))
     return 0

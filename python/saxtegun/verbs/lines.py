@@ -8,7 +8,9 @@ docs/sessions.md describes the lines.
 Exit status, as that of ./replay: 0 every session passed, 1 some did not, 2
 there is no whole output. Then a line on standard error says which file, and
 where in it. It is 2 too if the program ends without the close of the last
-session. --timeout is for all sessions together."""
+session, or closes another number of them than there are. It is 1 if a line
+says that a session did not pass, whatever the program says by its status.
+--timeout is for all sessions together."""
 from __future__ import annotations
 
 import json
@@ -17,22 +19,34 @@ import re
 import sys
 import tempfile
 from argparse import ArgumentParser, Namespace
-from typing import List, Optional, Sequence, Tuple
+from typing import List, NamedTuple, Optional, Sequence, Tuple
 
 from saxtegun.commands import Refused, add_game, add_playing, add_ticks, plural
-from saxtegun.files import NoFile, guard_output, read_bytes
+from saxtegun.files import NoFile, TooLong, guard_output, read_bytes
 from saxtegun.playing import engine_of, lines_within, refusal
 from saxtegun.running import Beside, Ran, watched
 from saxtegun.sessions import MOST_BYTES, Entry, read_sessions, sessions_in
-from saxtegun.texts import over, read_game, say_others
+from saxtegun.texts import over, read_game, say_others, say_untested
 
 USAGE = "lines [SESSIONS] [--game GAME.txt] [--order rows|columns] [--workers N] >lines"
-# The close of a session that did not pass.
-CLOSED_OTHERWISE = re.compile('\\{"(?:cause|close":"(?!passed"))')
 BLOCK = 1 << 16
 # The end of a line, which says of which session it is.
-END = re.compile(rb'"session":(\d{1,9})}\n\Z')
+END = re.compile(rb'"session":([0-9]{1,9})}\n\Z')
 MOST_OF_AN_END = 40
+# How the line of a close begins, and that of one that passed, each behind the line before.
+CLOSE, PASSED = b'\n{"c', b'\n{"close":"passed",'
+
+
+class Closed(NamedTuple):
+    """What lines close: up to which session, how many, and how many of these passed."""
+
+    last: int
+    closes: int
+    passed: int
+
+    def is_whole(self, count: int) -> bool:
+        """Whether these are the closes of so many sessions."""
+        return self.last == self.closes == count
 
 
 def add_words(words: ArgumentParser) -> None:
@@ -50,7 +64,7 @@ def data_of(path: str) -> bytes:
     """The bytes of a file, none where it can't be read: the program says so itself, but would wait for a pipe."""
     try:
         return read_bytes(path, MOST_BYTES)
-    except NoFile:
+    except (NoFile, TooLong):
         raise
     except Refused:
         if path == "-":
@@ -66,19 +80,22 @@ def entries_of(path: str, data: bytes) -> Sequence[Entry]:
         return ()
 
 
-def count_of(data: bytes) -> int:
-    """How many sessions a text has; none where it is no list, which the program says itself."""
+def count_of(path: str, data: bytes) -> int:
+    """How many sessions a text has that a program has played. Refused where it is no list."""
     try:
         value = json.loads(data)
     except (ValueError, RecursionError):
-        return 0
-    return len(value) if isinstance(value, list) else 0
+        value = None
+    if not isinstance(value, list):
+        raise Refused(f"{told_of(path)} is no list of sessions, and the program says nothing of that")
+    return len(value)
 
 
-def check_closed(path: str, count: int, closed: int) -> None:
-    """Refuses lines that don't end with the close of the last session: a program that writes nothing has not played."""
-    if closed != count and count:
-        raise Refused(f"{told_of(path)} was not played whole: the program wrote nothing of {plural(count - closed, 'session')} of {count}")
+def check_closed(path: str, count: int, closed: Closed) -> None:
+    """Refuses lines that don't close each session, and end with the last: a program that writes nothing has not played."""
+    if not closed.is_whole(count):
+        raise Refused(f"{told_of(path)} was not played whole: the program closed {plural(closed.closes, 'session')} of {count}"
+                      + (f", and the last line is no close of session {count - 1}" if closed.last != count else ""))
 
 
 def write_all(output: int, data: bytes) -> None:
@@ -86,20 +103,25 @@ def write_all(output: int, data: bytes) -> None:
         data = data[os.write(output, data) :]
 
 
-def hand_on(source: int, output: int) -> int:
-    """Hands on what comes; how many sessions it closes, by its end. It goes past our own streams: whoever reads may keep this waiting for ever, and then
-    it must not keep them."""
-    end = b""
+def more_of(begin: bytes, end: bytes, block: bytes) -> int:
+    """How often a line begins so, of what came, where this is the end of what came before."""
+    return (end[max(0, len(end) + 1 - len(begin)) :] + block).count(begin)
+
+
+def hand_on(source: int, output: int) -> Closed:
+    """Hands on what comes; what it closes. It goes past our own streams: whoever reads may keep this waiting for ever, and then it must not keep them."""
+    end, count, passed = b"\n", 0, 0
     with open(source, "rb", buffering=0) as lines:
         for block in iter(lambda: lines.read(BLOCK), b""):
             write_all(output, block)
+            count, passed = count + more_of(CLOSE, end, block), passed + more_of(PASSED, end, block)
             end = (end + block)[-MOST_OF_AN_END:]
     found = END.search(end)
-    return int(found[1]) + 1 if found else 0
+    return Closed(int(found[1]) + 1 if found else 0, count, passed)
 
 
-def play(words: List[str], stdin: Optional[int], seconds: Optional[float]) -> Tuple[Ran, int]:
-    """Runs a program, and hands its lines on; how it ended, and how many sessions they close."""
+def play(words: List[str], stdin: Optional[int], seconds: Optional[float]) -> Tuple[Ran, Closed]:
+    """Runs a program, and hands its lines on; how it ended, and what they close."""
     source, output = os.pipe()
     sys.stdout.flush()
     beside = Beside(lambda: hand_on(source, sys.stdout.fileno()))
@@ -113,7 +135,7 @@ def play(words: List[str], stdin: Optional[int], seconds: Optional[float]) -> Tu
     return ran, beside.result()
 
 
-def play_data(path: str, data: bytes, given: Namespace) -> Tuple[Ran, int]:
+def play_data(path: str, data: bytes, given: Namespace) -> Tuple[Ran, Closed]:
     """Plays a file by its name, and what came from standard input from a copy."""
     words = engine_of(given).words()
     if path != "-":
@@ -129,13 +151,15 @@ def play_over(given: Namespace) -> int:
     game = read_game(given.game)
     sessions = over(read_sessions(given.sessions), game)
     say_others("lines", sessions, game)
-    passed, last = True, ""
+    say_untested("lines", sessions.entries)
+    count, passed, last = 0, 0, ""
     for last in lines_within(sessions.entries, sessions, engine_of(given)):
-        passed = passed and not CLOSED_OTHERWISE.match(last)
+        count, passed = count + last.startswith('{"c'), passed + last.startswith('{"close":"passed",')
         sys.stdout.write(last)
     found = END.search(last.encode())
-    check_closed(given.sessions, len(sessions.entries), int(found[1]) + 1 if found else 0)
-    return 0 if passed else 1
+    closed = Closed(int(found[1]) + 1 if found else 0, count, passed)
+    check_closed(given.sessions, len(sessions.entries), closed)
+    return 0 if passed == count else 1
 
 
 def main(given: Namespace) -> int:
@@ -144,9 +168,11 @@ def main(given: Namespace) -> int:
         return play_over(given)
     path = given.sessions
     data = data_of(path)
+    if b'"solved"' in data:
+        say_untested("lines", entries_of(path, data))
     sys.stdout.flush()
     ran, closed = play_data(path, data, given)
     if ran.status not in (0, 1):
         raise Refused(refusal(ran.said, told_of(path), entries_of(path, data)))
-    check_closed(path, count_of(data), closed)
-    return ran.status
+    check_closed(path, count_of(path, data), closed)
+    return ran.status if closed.passed == closed.closes else 1

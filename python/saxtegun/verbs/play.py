@@ -2,8 +2,12 @@
 played as a recording.
 
 Arrows or w a s d move, x or space acts, z or u undoes, r restarts, t is a tick,
-q ends. The level is drawn in the game's colours, or with --letters by
-its letters. --level N starts at the N-th level; messages don't count.
+q ends. The level is drawn in the game's colours, as near as the terminal has
+them; by letters with --letters, where it has none (NO_COLOR asks for that), or
+where all of it doesn't fit; and around the player where not even the letters
+fit. A cell without a letter has that of its highest object, underlined. Ctrl-Z
+leaves the game, fg goes on. --level N starts at the N-th level; messages don't
+count.
 
 With --save NAME SESSIONS.json what you played is added there at the end, also
 where you end it by Ctrl-C or close the window. Its
@@ -15,24 +19,23 @@ Exit status: 0, or 2 if the game is refused."""
 from __future__ import annotations
 
 import json
-import os
-import select
 import signal
 import sys
+import tempfile
 from argparse import ArgumentParser, Namespace
-from contextlib import contextmanager
-from typing import Any, Iterator, List, NoReturn, Optional
+from typing import Any, List, NoReturn, Optional
 
 from saxtegun.commands import Refused, add_ticks, plural, printable, say
 from saxtegun.explaining import cause_told, told
 from saxtegun.files import MARK, guard_places, locked, read_text, write_whole
 from saxtegun.games import game_of
+from saxtegun.keyboard import DRAW, keyboard, pass_over
 from saxtegun.levels import Labels, in_rows, read_cells, width_of
 from saxtegun.levelsets import count_of_levels, entries_of_levels
 from saxtegun.lines import Frame
 from saxtegun.playing import Engine, runs_of, shown_beyond
 from saxtegun.sessions import Entry, Input, Sessions, check_name, guard_size, read_or_new, with_more
-from saxtegun.terminal import CLEAR, KEYS, lettered, painted
+from saxtegun.terminal import CLEAR, KEYS, Screen, fitted, lettered, screen_now
 
 USAGE = "play GAME.txt [--level N] [--save NAME SESSIONS.json] [--letters]"
 FULL = "save in another file"
@@ -48,31 +51,6 @@ def add_words(words: ArgumentParser) -> None:
     add_ticks(words)
 
 
-@contextmanager
-def raw_terminal() -> Iterator[bool]:
-    """Reads keys as they are pressed, where standard input is a terminal."""
-    if not sys.stdin.isatty():
-        yield False
-        return
-    import termios
-    import tty
-
-    before = termios.tcgetattr(0)
-    try:
-        tty.setcbreak(0)
-        yield True
-    finally:
-        termios.tcsetattr(0, termios.TCSADRAIN, before)
-
-
-def next_key(is_terminal: bool) -> str:
-    """A key: a letter, or the three of an arrow; the empty text where there are no more."""
-    letter = os.read(0, 1).decode("latin-1")
-    if letter == "\x1b" and (not is_terminal or select.select([0], [], [], 0.05)[0]):
-        return letter + os.read(0, 1).decode("latin-1") + os.read(0, 1).decode("latin-1")
-    return letter
-
-
 def append(path: str, entry: str) -> None:
     """Adds an entry to a sessions file as it is at this moment."""
     with locked(path):
@@ -80,6 +58,22 @@ def append(path: str, entry: str) -> None:
         text = with_more(old, [entry])
         guard_size(path, text, len(old.entries) + 1, FULL)
         write_whole(path, text)
+
+
+def handed_out(entry: str) -> str:
+    """Writes an entry to standard output, or where that fails into a new file; where it is then."""
+    try:
+        print(entry, flush=True)
+        return "stands on standard output"
+    except (OSError, ValueError):
+        pass
+    try:
+        with tempfile.NamedTemporaryFile("w", encoding="utf-8", prefix="saxtegun-", suffix=".json", delete=False) as file:
+            file.write(f"[{entry}]\n")
+        return f"is in {file.name}"
+    except OSError:
+        say(entry)
+        return "stands above this line"
 
 
 def guard_saving(name: str, path: str) -> None:
@@ -110,10 +104,13 @@ class Play:
         self.frames = run.frames
 
     def entry(self, level: str = "") -> Entry:
-        return Entry(0, self.given.game, self.source, self.inputs, level, self.index, {}, False)
+        return Entry(0, "play", self.source, self.inputs, level, self.index, {}, False)
 
     def press(self, key: Input) -> str:
         """Plays one more input; what there is to say of it. It counts once it is played, so an interrupt leaves whole what was played before."""
+        switch = game_of(self.source).switches.get(key)
+        if switch is not None:
+            return f"the game has {switch}: the key is left out"
         longer = self.entry()._replace(inputs=[*self.inputs, key])
         run = shown_beyond(longer, len(self.frames), self.engine._replace(workers=1))
         if run.cause:
@@ -123,18 +120,27 @@ class Play:
         kinds = [it.kind for it in run.frames]
         return "solved: all levels" if "over" in kinds else "the next level" if "load" in kinds else ""
 
-    def draw(self, word: str, is_terminal: bool) -> None:
+    def draw(self, word: str) -> None:
+        """Draws the level that is reached, and what there is to say of the last key."""
+        told = printable(f"{game_of(self.source).title}: {plural(len(self.inputs), 'input')} {word}")
+        screen = screen_now()
+        if screen is None:
+            shown = [*self.level_in(None), told]
+        else:
+            below = [told[: screen.columns], HELP[: screen.columns]]
+            shown = [*self.level_in(screen._replace(rows=screen.rows - len(below) - 1)), *below]
+        sys.stdout.write(("" if screen is None else CLEAR) + "\n".join(shown) + "\n")
+        sys.stdout.flush()
+
+    def level_in(self, screen: Optional[Screen]) -> List[str]:
+        """The level that is reached, in a terminal or as plain letters."""
         text, labels = self.frames[-1].level, Labels()
         cells = read_cells(text, labels)
-        game = game_of(self.source)
         if cells is None:
-            lines = ["a name of an object holds a comma, so the level can't be drawn"]
-        else:
-            rows = [[labels.names[it] for it in row] for row in in_rows("columns", width_of(text, len(cells)), cells)]
-            lines = lettered(game, rows) if self.given.letters or not is_terminal else painted(game, rows)
-        head = CLEAR if is_terminal else ""
-        sys.stdout.write(head + "\n".join([*lines, printable(f"{game.title}: {plural(len(self.inputs), 'input')} {word}"), *([HELP] if is_terminal else [])]) + "\n")
-        sys.stdout.flush()
+            return ["a name of an object holds a comma, so the level can't be drawn"]
+        rows = [[labels.names[it] for it in row] for row in in_rows("columns", width_of(text, len(cells)), cells)]
+        game = game_of(self.source)
+        return lettered(game, rows) if screen is None or not rows else fitted(game, rows, screen, self.given.letters)
 
     def save(self, name: str, path: str) -> None:
         """Adds what was played to a file, or where that fails writes it to standard output: it is lost in no case."""
@@ -142,31 +148,35 @@ class Play:
         try:
             append(path, entry)
         except Refused as why:
-            print(entry, flush=True)
-            raise Refused(f"{why}; what was played stands on standard output: keep it, and call saxtegun add") from None
+            raise Refused(f"{why}; what was played {handed_out(entry)}: keep it, and call saxtegun add") from None
         say(f"play: {name}: {plural(len(self.inputs), 'input')} saved in {path}")
 
 
 def press_keys(play: Play) -> None:
     """Plays the keys up to the one that ends."""
-    with raw_terminal() as is_terminal:
-        play.draw("", is_terminal)
+    with keyboard() as keys:
+        word = ""
+        play.draw(word)
         while True:
-            key = next_key(is_terminal)
+            key = keys.next()
             if key in ("", "q", "\x03", "\x04"):
                 return
             it: Optional[Input] = KEYS.get(key)
             if it is not None:
-                play.draw(play.press(it), is_terminal)
+                word = play.press(it)
+            if it is not None or key == DRAW:
+                play.draw(word)
 
 
 def interrupt(number: int, frame: Any) -> NoReturn:
+    """Ends the play once, whatever else comes."""
+    on_signals(pass_over)
     raise KeyboardInterrupt
 
 
 def on_signals(handler: Any) -> None:
-    """What Ctrl-C and a window that is closed do."""
-    for name in ("SIGINT", "SIGTERM", "SIGHUP"):
+    """What Ctrl-C, Ctrl-\\ and a window that is closed do."""
+    for name in ("SIGINT", "SIGTERM", "SIGHUP", "SIGQUIT"):
         if hasattr(signal, name):
             signal.signal(getattr(signal, name), handler)
 
@@ -179,11 +189,15 @@ def main(given: Namespace) -> int:
     play = Play(given)
     on_signals(interrupt)
     try:
-        press_keys(play)
+        try:
+            press_keys(play)
+        finally:
+            on_signals(pass_over)
     except KeyboardInterrupt:
         # what was played is saved as behind q
         pass
     finally:
+        # as Python ends it forgets its functions, and a signal that had one would end it
         on_signals(signal.SIG_IGN)
         if given.save:
             play.save(*given.save)

@@ -23,7 +23,7 @@ from saxtegun.origins import add_date, origin_of, program_told
 from saxtegun.pages import Report
 from saxtegun.playing import engine_of, lines_or_played
 from saxtegun.sessions import read_sessions
-from saxtegun.texts import over, read_game, say_others
+from saxtegun.texts import over, read_game, say_others, say_untested
 
 USAGE = "report SESSIONS [LINES] [--game GAME.txt] [--order rows|columns] >report.html"
 
@@ -42,6 +42,7 @@ def main(given: Namespace) -> int:
     game = read_game(given.game)
     sessions = over(read_sessions(given.sessions), game)
     say_others("report", sessions, game)
+    say_untested("report", sessions.entries)
     engine = engine_of(given)
     with lines_or_played(sessions, given.lines, engine) as runs:
         played = f"Lines: {Path(given.lines).name}" if given.lines else program_told(engine.words())

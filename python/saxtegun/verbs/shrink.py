@@ -10,21 +10,23 @@ frames, with the same closes, or with the same crash, hang or stray line of one.
 With --stages S T the first stage at which they part also stays one of the same
 rules: S and T tell the stages of P and Q; `saxtegun` tells our own.
 
-FOLDER, which must not be there yet, gets the five files of a case. Its stdout
-is what P wrote, and P may be wrong: read it against the rule before you keep
-it.
+FOLDER, which must not be there yet, gets the five files of a case; if it has
+come to be there meanwhile, FOLDER-2 does, or the next. Its stdout is what P
+wrote, and P may be wrong: read it against the rule before you keep it.
 
 Exit status: 0 a case was written, 1 the programs don't diverge, 2 something
 is refused."""
 from __future__ import annotations
 
+import errno
 import os
 import re
 import shutil
 import sys
 import tempfile
 from argparse import ArgumentParser, Namespace
-from typing import Dict, List, NamedTuple, Optional
+from time import monotonic
+from typing import Dict, List, NamedTuple, Optional, Tuple
 
 from saxtegun.commands import Refused, add_game, add_order, cut, fold, plural, printable, say, seconds_in, workers_in
 from saxtegun.engines import FAILED, SECONDS, answers, engine_at, failure_told, tellers_of, with_frames
@@ -33,12 +35,17 @@ from saxtegun.levels import Labels, read_cells
 from saxtegun.lines import Run
 from saxtegun.parting import below_of, parting_of, sentence_of
 from saxtegun.playing import Engine, play_file
+from saxtegun.running import room_for_now
 from saxtegun.sessions import Entry, Sessions, chosen, read_sessions, written
 from saxtegun.shrinking import Programs, Way, cut_behind, shrunk
 from saxtegun.texts import over, read_game, say_others
 
 USAGE = "shrink P Q SESSIONS NAME [FOLDER] [options]"
 LETTERS_OF_A_FOLDER = 60
+# Below so many a number behind the name of a folder is looked for that makes it a new one.
+MOST_NAMES = 1000
+# So many seconds a session shrinks.
+WITHIN = 600
 
 
 def add_words(words: ArgumentParser) -> None:
@@ -51,6 +58,7 @@ def add_words(words: ArgumentParser) -> None:
     words.add_argument("--stages", metavar=("S", "T"), nargs=2, help="what tells the stages of P and of Q: they then go on parting by the same rules")
     words.add_argument("--workers", metavar="N", type=workers_in)
     words.add_argument("--timeout", metavar="SECONDS", type=seconds_in, default=SECONDS, help="how long a session may take, or else it hangs (10)")
+    words.add_argument("--within", metavar="SECONDS", type=seconds_in, default=WITHIN, help=f"leave nothing more out behind so many seconds ({WITHIN})")
     add_order(words)
 
 
@@ -69,11 +77,15 @@ class Found(NamedTuple):
 
 
 def first_that_parts(programs: Programs, entries: List[Entry]) -> Optional[Found]:
-    """The first entry on which the programs part."""
-    for entry, (one, other) in zip(entries, programs.pairs(entries)):
-        way = programs.way(entry, one, other)
-        if way is not None:
-            return Found(entry, with_frames(entry, one, programs.one), with_frames(entry, other, programs.other), way)
+    """The first entry on which the programs part. Few are played at once until some were the same: where a program hangs each takes all its time."""
+    first, size = 0, 1
+    while first < len(entries):
+        some = entries[first : first + size]
+        for entry, (one, other) in zip(some, programs.pairs(some)):
+            way = programs.way(entry, one, other)
+            if way is not None:
+                return Found(entry, with_frames(entry, one, programs.one) or one, with_frames(entry, other, programs.other) or other, way)
+        first, size = first + size, 2 * size
     return None
 
 
@@ -91,7 +103,7 @@ def with_reached(entry: Entry, run: Run) -> Entry:
 def files_of_case(entry: Entry, engine: Engine, of: Sessions) -> Dict[str, bytes]:
     """The five files of a case, as an engine answers it."""
     text = written([entry])
-    with tempfile.TemporaryDirectory(prefix="saxtegun-") as room:
+    with room_for_now() as room:
         path, lines = os.path.join(room, "input.json"), os.path.join(room, "lines")
         with open(path, "w", encoding="utf-8", newline="") as file:
             file.write(text)
@@ -102,8 +114,20 @@ def files_of_case(entry: Entry, engine: Engine, of: Sessions) -> Dict[str, bytes
     return {"input.json": text.encode(), "args": args.encode(), "stdout": stdout, "stderr": b"", "status": f"{status}\n".encode()}
 
 
-def write_case(folder: str, files: Dict[str, bytes]) -> None:
-    """Writes a case into a folder beside, which gets its name once all is there."""
+def taken_name(folder: str) -> str:
+    """Makes an empty folder by this name, or by another (`name-2`, ..) where something has come to be there, and answers its name."""
+    plain = folder.rstrip(os.sep)
+    for name in (folder, *(f"{plain}-{number}" for number in range(2, MOST_NAMES))):
+        try:
+            os.mkdir(name)
+            return name
+        except FileExistsError:
+            continue
+    raise Refused(f"{folder} can't be written: it is there, as are {MOST_NAMES - 2} others named after it")
+
+
+def write_case(folder: str, files: Dict[str, bytes]) -> str:
+    """Writes a case into a folder beside, which gets its name, or another that is free, once all is there. Answers that name."""
     beside = os.path.dirname(os.path.abspath(folder))
     room = ""
     try:
@@ -112,12 +136,26 @@ def write_case(folder: str, files: Dict[str, bytes]) -> None:
         for name, data in files.items():
             with open(os.path.join(room, name), "wb") as file:
                 file.write(data)
-        os.rename(room, folder)
+        return renamed(room, folder)
     except OSError as why:
         raise Refused(f"{folder} can't be written: {why.strerror}") from None
     finally:
         if room:
             shutil.rmtree(room, ignore_errors=True)
+
+
+def renamed(room: str, folder: str) -> str:
+    """Gives a folder a name that nothing had, and answers it."""
+    while True:
+        name = taken_name(folder)
+        try:
+            os.rename(room, name)
+            return name
+        except OSError as why:
+            # another has written into the one that was made for it
+            if why.errno not in (errno.ENOTEMPTY, errno.EEXIST):
+                os.rmdir(name)
+                raise
 
 
 def started_with(programs: Programs, found: Found) -> Entry:
@@ -126,18 +164,25 @@ def started_with(programs: Programs, found: Found) -> Entry:
     return shorter if programs.ways([shorter], found.way) == [found.way] else found.entry
 
 
-def tell(entry: Entry, programs: Programs, given: Namespace) -> Run:
-    """Tells where the programs part on what is left; what the first shows."""
+def played_again(entry: Entry, programs: Programs, way: Way) -> Tuple[Run, Run]:
+    """What the programs show of what is left. Refused where they don't part on it any more: one of them doesn't show the same each time."""
     one, other = next(programs.pairs([entry]))
+    if programs.way(entry, one, other, way) != way:
+        raise Refused(f"{cut(entry.name)} with {plural(len(entry.inputs), 'input')} no longer parts as it did before: a program doesn't show the same each time")
+    return one, other
+
+
+def tell(entry: Entry, one: Run, other: Run, programs: Programs, given: Namespace) -> None:
+    """Tells where the programs part on what is left."""
     for run, engine, name in ((one, programs.one, given.one), (other, programs.other, given.other)):
         if run.close in FAILED:
-            print(printable(f"{cut(entry.name)}: {failure_told(entry, with_frames(entry, run, engine), name)}"))
+            looked = with_frames(entry, run, engine)
+            print(printable(f"{cut(entry.name)}: {failure_told(entry, looked or run, name, looked is not None)}"))
     parting = parting_of(one, other)
     if parting is not None and one.close not in FAILED and other.close not in FAILED:
         print(printable(f"{cut(entry.name)}: {sentence_of(parting, one, other, entry)}"))
         for line in below_of(parting, entry, given.order):
             print(printable(f"    {line}"))
-    return one
 
 
 def main(given: Namespace) -> int:
@@ -145,7 +190,7 @@ def main(given: Namespace) -> int:
     sessions = over(read_sessions(given.sessions), game)
     say_others("shrink", sessions, game)
     folder = given.folder or folder_of(given.name)
-    if os.path.exists(folder):
+    if os.path.lexists(folder):
         raise Refused(f"{folder} is there already")
     guard_places(folder)
     engine = Engine(given.order, given.workers, seconds=given.timeout, may_build=False)
@@ -154,13 +199,19 @@ def main(given: Namespace) -> int:
     if found is None:
         print(f"{given.one} and {given.other} show the same")
         return 1
-    entry, tried = shrunk(programs, started_with(programs, found), found.way, told_progress)
-    one = tell(entry, programs, given)
+    begin = monotonic()
+    entry, tried = shrunk(programs, started_with(programs, found), found.way, told_progress, given.within)
+    if monotonic() - begin > given.within:
+        say(f"shrink: stopped behind {given.within:g} s; with a larger --within it may get smaller")
+    one, other = played_again(entry, programs, found.way)
+    tell(entry, one, other, programs, given)
     keeper = programs.one if one.close not in FAILED else programs.other
     if found.way[0] != "close":
         # the recorded level decides nothing here, and the one that P reached makes the case one that P passes
         entry = with_reached(entry, next(answers([entry], keeper)))
-    write_case(folder, files_of_case(entry, keeper, sessions))
+    written_as = write_case(folder, files_of_case(entry, keeper, sessions))
+    if written_as != folder:
+        say(f"shrink: {folder} has come to be there meanwhile: the case is written as {written_as}")
     sizes = [f"{plural(len(it.inputs), 'input')} and {plural(len(it.source), 'letter')} of source" for it in (found.entry, entry)]
-    print(f"from {sizes[0]} to {sizes[1]}, {plural(tried, 'session')} played; the case is {folder}")
+    print(f"from {sizes[0]} to {sizes[1]}, {plural(tried, 'session')} played; the case is {written_as}")
     return 0

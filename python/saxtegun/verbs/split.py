@@ -16,14 +16,16 @@ import os
 import shutil
 import tempfile
 from argparse import ArgumentParser, Namespace
+from array import array
 from bisect import bisect_left
 from itertools import accumulate
-from typing import Any, List, NamedTuple, Tuple
+from typing import Any, List, Sequence, Tuple
 
 from saxtegun.commands import Refused
 from saxtegun.files import read_text
 from saxtegun.parts import MANIFEST, Part, manifest_of, name_in
-from saxtegun.sessions import MOST_BYTES, MOST_ENTRIES, after_space
+from saxtegun.sessions import DEMAND, MOST_BYTES, MOST_ENTRIES, after_space
+from saxtegun.texts import say_demands
 
 USAGE = "split SESSIONS PARTS FOLDER"
 READER = json.JSONDecoder()
@@ -31,12 +33,30 @@ READER = json.JSONDecoder()
 MOST_SPLIT = 2**30
 
 
-class Cut(NamedTuple):
-    """An entry of the file: its text, its name, and about what it costs to play."""
+class Entries:
+    """The entries of a text: where each begins and ends, its name, and about what it costs to play. They take few bytes each, since there may be millions."""
 
-    text: str
-    name: str
-    cost: int
+    def __init__(self, text: str) -> None:
+        self.text = text
+        self.begins, self.ends, self.costs = array("q"), array("q"), array("q")
+        self.names: List[str] = []
+        self.demands = 0
+
+    def add(self, begin: int, end: int, value: Any) -> None:
+        self.begins.append(begin)
+        self.ends.append(end)
+        self.costs.append(cost_of(value))
+        self.names.append(name_in(value))
+        self.demands += isinstance(value, list) and DEMAND in value[2:]
+
+    def letters(self, first: int, behind: int) -> int:
+        """How many letters these entries have."""
+        return sum(self.ends[first:behind]) - sum(self.begins[first:behind])
+
+    def written(self, first: int, behind: int) -> bytes:
+        """A sessions file of these entries."""
+        texts = (self.text[begin:end] for begin, end in zip(self.begins[first:behind], self.ends[first:behind]))
+        return ("[\n" + ",\n".join(texts) + "\n]\n").encode()
 
 
 def add_words(words: ArgumentParser) -> None:
@@ -59,9 +79,9 @@ def cost_of(entry: Any) -> int:
     return 1 + (len(inputs) if isinstance(inputs, list) else 0)
 
 
-def bounds_of(costs: List[int], count: int) -> List[int]:
+def bounds_of(costs: Sequence[int], count: int) -> List[int]:
     """Where parts of about the same cost begin, and the end: each has an entry, where there are as many."""
-    total, so_far = sum(costs), list(accumulate(costs, initial=0))
+    total, so_far = sum(costs), array("q", accumulate(costs, initial=0))
     bounds = [0]
     for number in range(1, count):
         wanted = total * number / count
@@ -71,38 +91,46 @@ def bounds_of(costs: List[int], count: int) -> List[int]:
     return [*bounds, len(costs)]
 
 
-def entries_in(text: str) -> List[Cut]:
-    """The entries of a sessions file."""
-    entries: List[Cut] = []
+def entries_in(text: str, most: int) -> Entries:
+    """The entries of a sessions file, of which there may be so many."""
+    entries = Entries(text)
     mark, at = next_mark(text, 0, ("[",))
     at = after_space(text, at)
     if text[at : at + 1] == "]":
         mark, at = next_mark(text, at, ("]",))
     while mark != "]":
+        if len(entries.names) == most:
+            raise Refused(f"there are more than {most:,} sessions, and a part has at most {MOST_ENTRIES:,}: ask for more parts")
         begin = after_space(text, at)
         value, end = READER.raw_decode(text, begin)
-        entries.append(Cut(text[begin:end], name_in(value), cost_of(value)))
+        entries.add(begin, end, value)
         mark, at = next_mark(text, end, (",", "]"))
     if after_space(text, at) < len(text):
         raise ValueError(f"more stands behind the list, from letter {at} on")
     return entries
 
 
-def write_parts(count: int, entries: List[Cut], folder: str) -> None:
+def data_of(entries: Entries, first: int, behind: int) -> bytes:
+    """A sessions file of some entries, or a refusal where it would be too large."""
+    is_long = behind - first > MOST_ENTRIES or entries.letters(first, behind) > MOST_BYTES
+    data = b"" if is_long else entries.written(first, behind)
+    if is_long or len(data) > MOST_BYTES:
+        raise Refused(f"the part from session {first} on is larger than a file may be: ask for more parts")
+    return data
+
+
+def write_parts(count: int, entries: Entries, folder: str) -> None:
     """Writes the parts into a folder beside, which gets its name once all of them are there."""
     beside = os.path.dirname(os.path.abspath(folder))
     parts: List[Part] = []
     room = tempfile.mkdtemp(prefix=".saxtegun-", dir=beside)
     try:
         os.chmod(room, 0o755)
-        bounds = bounds_of([it.cost for it in entries], count)
+        bounds = bounds_of(entries.costs, count)
         for first, behind in zip(bounds, bounds[1:]):
-            part = Part(first, [it.name for it in entries[first:behind]])
-            data = ("[\n" + ",\n".join(it.text for it in entries[first:behind]) + "\n]\n").encode()
-            if len(data) > MOST_BYTES or behind - first > MOST_ENTRIES:
-                raise Refused(f"the part from session {first} on is larger than a file may be: ask for more parts")
+            part = Part(first, entries.names[first:behind])
             with open(os.path.join(room, part.file("json")), "wb") as file:
-                file.write(data)
+                file.write(data_of(entries, first, behind))
             parts.append(part)
         with open(os.path.join(room, MANIFEST), "w", encoding="ascii", newline="\n") as manifest:
             manifest.write(manifest_of(parts))
@@ -115,14 +143,15 @@ def main(given: Namespace) -> int:
     if given.parts < 1:
         raise Refused("PARTS must be 1 or more")
     try:
-        entries = entries_in(read_text(given.sessions, MOST_SPLIT))
+        entries = entries_in(read_text(given.sessions, MOST_SPLIT), given.parts * MOST_ENTRIES)
     except (ValueError, RecursionError) as why:
         raise Refused(f"{given.sessions} is no JSON list: {why}") from None
     if os.path.exists(given.folder):
         raise Refused(f"{given.folder} is there already")
     try:
         # no part is empty, but for a file without entries
-        write_parts(max(1, min(given.parts, len(entries))), entries, given.folder)
+        write_parts(max(1, min(given.parts, len(entries.names))), entries, given.folder)
     except OSError as why:
         raise Refused(f"{given.folder} can't be written: {why.strerror}") from None
+    say_demands("split", entries.demands)
     return 0

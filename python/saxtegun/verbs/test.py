@@ -69,7 +69,7 @@ def add_words(words: ArgumentParser) -> None:
 
 class Suite(NamedTuple):
     """What was played: the sessions of all files, numbered through, what they showed, how they ended, and the file of each. `elsewhere` is why sessions fail
-    that passed over a text of their own, and `remarks` tells which have one; `game` is the text at hand, over which those of `unanswered` weren't answered."""
+    that passed over a text of their own, and `remarks` tells which have one, and which files have no session; `game` is the text at hand, over which those of `unanswered` weren't answered."""
 
     sessions: Sessions
     runs: List[Run]
@@ -108,11 +108,12 @@ def read_files(given: Namespace, game: Optional[GameText]) -> List[Picked]:
     entries = [it for file in files for it in file.entries]
     if not entries:
         raise Refused(f"{', '.join(it.path for it in files)} has no session, so nothing was played")
-    for word, patterns in (("--filter", given.filter or []), ("--solved", given.solved)):
-        alone = unfitting(entries, patterns)
+    them = [Picked(it, picked(it, given.filter)) for it in files]
+    for word, patterns, of in (("--filter", given.filter or [], entries), ("--solved", given.solved, [it for one in them for it in one.entries])):
+        alone = unfitting(of, patterns)
         if alone:
             raise Refused(f"{word} fits no session ({', '.join(alone)})")
-    return [Picked(it, picked(it, given.filter)) for it in files]
+    return them
 
 
 def must_be_solved(entry: Entry, patterns: List[str]) -> bool:
@@ -141,6 +142,8 @@ def played(given: Namespace) -> Suite:
     engine = engine_of(given)
     suite = Suite(Sessions(", ".join(Path(it).name for it in split_files(given.files)[1]), "", []), [], {}, [], {}, [], game, [])
     for file in read_files(given, game):
+        if not file.sessions.entries:
+            suite.remarks.append(f"{file.sessions.path} has no session, so nothing of it was played")
         first = len(suite.runs)
         shown = runs_of(file.entries, file.sessions, engine) if file.entries else []
         ended = solved_of(file.entries, shown, file.sessions, engine)
@@ -266,7 +269,7 @@ def main(given: Namespace) -> int:
         raise Refused("--max-fail can't be negative")
     if "-" in given.files and (given.watch or given.files.count("-") > 1):
         raise Refused("standard input can be read only once: name it once, and without --watch")
-    guard_files((given.junit, given.report, given.markdown), given.files)
+    guard_files((given.junit, given.report, given.markdown), [*given.files, given.program])
     guard_output(*given.files)
     guard_places(given.junit, given.report, given.markdown)
     return watch(given) if given.watch else test(given)

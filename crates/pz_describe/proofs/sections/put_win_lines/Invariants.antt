@@ -1,0 +1,6 @@
+use Rattle.std.proofs.Common.{◌≡◌, ◌++◌, drop, flat_map}
+use Rattle.pz_describe.specs.Sections.{win_tokens}
+use Rattle.pz_describe.proofs.sections.put_win_lines.Given as goal
+
+abbrev pub invariant-loop-line : goal.invariant-loop-line
+invariant-loop-line l = l.page ++ flat_map win_tokens (drop l.line-index l.lines) ≡ l.fn.page ++ flat_map win_tokens l.lines

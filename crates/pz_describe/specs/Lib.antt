@@ -1,0 +1,4 @@
+pub mod Values
+pub mod Sections
+pub mod Program
+pub mod Description

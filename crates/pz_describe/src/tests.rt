@@ -1,0 +1,40 @@
+//! What is told of a source.
+
+use crate::describe;
+use std::test::Fail;
+
+const WALK: &str =
+    "title A (plain) walk\n\nOBJECTS\nBackground .\nblack\n\nPlayer p (him)\nWhite #f00\n.....\n.000.\n.010.\n.000.\n.....\n\nWall\ngrey\nLEGEND\n# = Wall\nO = Player or Wall\nCOLLISIONLAYERS\nBackground\nPlayer, Wall\nRULES\nright [ > Player | Wall ] -> [ Player | ] again\nWINCONDITIONS\nNo Wall\nLEVELS\nmessage Go (right)\np#.\n";
+
+const TOLD: &str = concat!(
+    "{\"fault\":null,",
+    "\"layers\":[{\"line\":21,\"names\":[\"background\"]},{\"line\":22,\"names\":[\"player\",\"wall\"]}],",
+    "\"legend\":[{\"kind\":\"object\",\"left\":[\"#\"],\"line\":18,\"members\":[2],\"right\":[\"Wall\"]},",
+    "{\"kind\":\"property\",\"left\":[\"O\"],\"line\":19,\"members\":[1,2],\"right\":[\"Player\",\"or\",\"Wall\"]}],",
+    "\"levels\":[{\"line\":28,\"message\":\"Go (right)\"},{\"line\":29,\"rows\":[\"p#.\"]}],",
+    "\"lines\":[[1,\"prelude\",false,\"title A (plain) walk\"],[2,\"prelude\",false,\"\"],[3,\"objects\",true,\"OBJECTS\"],[4,\"objects\",false,\"Background .\"],[5,\"objects\",false,\"black\"],[6,\"objects\",false,\"\"],[7,\"objects\",false,\"Player p\"],[8,\"objects\",false,\"White #f00\"],[9,\"objects\",false,\".....\"],[10,\"objects\",false,\".000.\"],[11,\"objects\",false,\".010.\"],[12,\"objects\",false,\".000.\"],[13,\"objects\",false,\".....\"],[14,\"objects\",false,\"\"],[15,\"objects\",false,\"Wall\"],[16,\"objects\",false,\"grey\"],[17,\"legend\",true,\"LEGEND\"],[18,\"legend\",false,\"# = Wall\"],[19,\"legend\",false,\"O = Player or Wall\"],[20,\"collisionlayers\",true,\"COLLISIONLAYERS\"],[21,\"collisionlayers\",false,\"Background\"],[22,\"collisionlayers\",false,\"Player, Wall\"],[23,\"rules\",true,\"RULES\"],[24,\"rules\",false,\"right [ > Player | Wall ] -> [ Player | ] again\"],[25,\"winconditions\",true,\"WINCONDITIONS\"],[26,\"winconditions\",false,\"No Wall\"],[27,\"levels\",true,\"LEVELS\"],[28,\"levels\",false,\"message Go (right)\"],[29,\"levels\",false,\"p#.\"],[30,\"levels\",false,\"\"]],",
+    "\"objects\":[{\"colours\":[\"black\"],\"layer\":0,\"line\":4,\"names\":[\"Background\",\".\"],\"sprite\":[]},",
+    "{\"colours\":[\"White\",\"#f00\"],\"layer\":1,\"line\":7,\"names\":[\"Player\",\"p\"],\"sprite\":[\".....\",\".000.\",\".010.\",\".000.\",\".....\"]},",
+    "{\"colours\":[\"grey\"],\"layer\":1,\"line\":15,\"names\":[\"Wall\"],\"sprite\":[]}],",
+    "\"prelude\":[[1,\"title\",\"A (plain) walk\"]],",
+    "\"program\":{\"early\":[{\"groups\":[[24]],\"loop\":false}],\"late\":[]},",
+    "\"rules\":[{\"line\":24,\"words\":[\"right\",\"[\",\">\",\"player\",\"|\",\"wall\",\"]\",\"->\",\"[\",\"player\",\"|\",\"]\",\"again\"]}],",
+    "\"wins\":[{\"line\":26,\"words\":[\"no\",\"wall\"]}]}",
+);
+
+const REFUSED: &str =
+    "{\"fault\":{\"code\":\"Section\",\"line\":0},\"layers\":[],\"legend\":[],\"levels\":[],\"lines\":[[1,\"prelude\",false,\"\"]],\"objects\":[],\"prelude\":[],\"program\":null,\"rules\":[],\"wins\":[]}";
+
+#[test]
+fn tells_a_game(rt: HostRuntime) -> Result<(), Fail> {
+    let text = describe(rt.alloc(), WALK)?;
+    assert!(rt; text.as_slice() == TOLD.as_bytes());
+    Ok(())
+}
+
+#[test]
+fn tells_the_fault_of_an_empty_source(rt: HostRuntime) -> Result<(), Fail> {
+    let text = describe(rt.alloc(), "")?;
+    assert!(rt; text.as_slice() == REFUSED.as_bytes());
+    Ok(())
+}

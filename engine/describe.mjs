@@ -1,0 +1,22 @@
+#!/usr/bin/env node
+// engine/describe.mjs FILE: what the engine has read of a source, as one line of JSON. The exit status is 0, or 2 with a line of failure; a source that is
+// refused is described too. SAXTEGUN_MODULE may name another module than out/saxtegun.wasm.
+import { Refusal, loadNamed, open, readInput, run, told } from './streams.mjs';
+
+const LINE_FEED = 0x0a;
+
+/** An answer's text as a line. */
+function asLine(answer) {
+  const lines = new Uint8Array(answer.lines.length + 1);
+  lines.set(answer.lines);
+  lines[answer.lines.length] = LINE_FEED;
+  return { ...answer, lines };
+}
+
+async function describe(words) {
+  if (words.length !== 1) throw new Refusal('bad command line');
+  const source = readInput(open(words[0])), engine = await loadNamed();
+  return told(asLine(engine.descriptionOf(source)));
+}
+
+await run(describe);

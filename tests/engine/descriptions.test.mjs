@@ -1,0 +1,128 @@
+// The description of a source by engine/saxtegun.mjs and by the exports. Over a module that has it, what is expected is worked out by hand; one that has none says so.
+import assert from 'node:assert/strict';
+import { existsSync, readFileSync } from 'node:fs';
+import test from 'node:test';
+import { load } from '../../engine/saxtegun.mjs';
+
+const OUT = new URL('../../engine/out/', import.meta.url);
+const MODULE = process.env.SAXTEGUN_MODULE ?? new URL('saxtegun.wasm', OUT), REFUSING = new URL('refusing.wasm', OUT);
+const EMPTY = Uint8Array.of(0, 0x61, 0x73, 0x6d, 1, 0, 0, 0);
+const ROOM = 8192, OUTCOME = 24, MARK = 7, LAST = 2n ** 64n - 1n;
+const engine = existsSync(MODULE) ? await load(readFileSync(MODULE)) : null;
+const it = (name, act) => test(name, { skip: !engine?.hasDescriptions && 'the module is not there, or gives no descriptions' }, act);
+const isRefusing = engine?.hasDescriptions && existsSync(REFUSING) && WebAssembly.Module.exports(new WebAssembly.Module(readFileSync(REFUSING))).some(({ name }) => name === 'saxtegun_description');
+
+/** The smallest game: a background, a player and a level. */
+const GAME = 'OBJECTS\nBackground .\nblack\nPlayer p\nred\nLEGEND\nCOLLISIONLAYERS\nBackground\nPlayer\nLEVELS\np.';
+const lines = (section, first, ...texts) => texts.map((text, at) => [first + at, section, at === 0, text]);
+const DESCRIPTION = {
+  fault: null,
+  layers: [{ line: 8, names: ['background'] }, { line: 9, names: ['player'] }],
+  legend: [],
+  levels: [{ line: 11, rows: ['p.'] }],
+  lines: [
+    ...lines('objects', 1, 'OBJECTS', 'Background .', 'black', 'Player p', 'red'), ...lines('legend', 6, 'LEGEND'),
+    ...lines('collisionlayers', 7, 'COLLISIONLAYERS', 'Background', 'Player'), ...lines('levels', 10, 'LEVELS', 'p.'),
+  ],
+  objects: [{ colours: ['black'], layer: 0, line: 2, names: ['Background', '.'], sprite: [] }, { colours: ['red'], layer: 1, line: 4, names: ['Player', 'p'], sprite: [] }],
+  prelude: [],
+  program: { early: [], late: [] },
+  rules: [],
+  wins: [],
+};
+const TEXT = JSON.stringify(DESCRIPTION);
+const NOTHING = '{"fault":{"code":"Section","line":0},"layers":[],"legend":[],"levels":[],"lines":[[1,"prelude",false,""]],"objects":[],"prelude":[],"program":null,"rules":[],"wins":[]}';
+const refused = fault => ({ status: 2, passed: false, lines: new Uint8Array(0), fault });
+
+/** A host of the module, with a source and a room of its own. */
+class Host {
+  constructor(module, source, size) {
+    const file = new TextEncoder().encode(source);
+    this.exports = new WebAssembly.Instance(module).exports;
+    [this.file, this.room, this.outcome] = [file.length, size, OUTCOME].map(bytes => this.exports.take_room(bytes) >>> 0);
+    this.bytes(this.file, file.length).set(file);
+    Object.assign(this, { length: file.length, size });
+  }
+
+  bytes(at, count) {
+    return new Uint8Array(this.exports.memory.buffer, at, count);
+  }
+
+  ask() {
+    this.bytes(this.room, this.size).fill(MARK);
+    const count = Number(this.exports.saxtegun_description(this.file, BigInt(this.length), this.room, BigInt(this.size), this.outcome));
+    const [status, fault, entry] = new BigUint64Array(this.bytes(this.outcome, OUTCOME).slice().buffer).values();
+    const held = count <= this.size ? count : 0;
+    assert.ok(this.bytes(this.room + held, this.size - held).every(byte => byte === MARK), 'the room keeps what no text takes');
+    return { status: Number(status), fault: Number(fault), entry: Number(entry), count, text: new TextDecoder().decode(this.bytes(this.room, held)) };
+  }
+}
+
+const MEMORY = { status: 2, fault: 1, entry: 0, count: 0, text: '' };
+const answered = text => ({ status: 0, fault: 0, entry: 0, count: text.length, text });
+
+test('a module without descriptions says so', async () => {
+  const old = await load(EMPTY);
+  assert.equal(old.hasDescriptions, false);
+  assert.deepEqual(old.description(GAME), { description: null, fault: 'no-descriptions' });
+  assert.deepEqual(old.descriptionOf(GAME), refused('no-descriptions'));
+});
+
+it('a source is described, as a text and as bytes', () => {
+  assert.deepEqual(engine.description(GAME), { description: DESCRIPTION, fault: null });
+  const bytes = new TextEncoder().encode(GAME);
+  for (const source of [GAME, bytes, bytes.buffer]) {
+    const { lines: told, ...answer } = engine.descriptionOf(source);
+    assert.deepEqual([answer, new TextDecoder().decode(told)], [{ status: 0, passed: true, fault: null }, TEXT]);
+  }
+});
+
+it('a source that is refused is described with its fault', () => {
+  assert.equal(new TextDecoder().decode(engine.descriptionOf('').lines), NOTHING);
+  const { description, fault } = engine.description(GAME.replace('Player\nLEVELS', 'LEVELS'));
+  assert.deepEqual([fault, description.fault, description.program], [null, { code: 'NoLayer', line: 4 }, null]);
+  assert.deepEqual(description.objects.map(({ names, layer }) => [names[0], layer]), [['Background', undefined], ['Player', undefined]]);
+});
+
+it('what is no text is not described', () => {
+  for (const source of [Uint8Array.of(0xff), Uint8Array.of(0x70, 0xc3), '\ud800']) {
+    assert.deepEqual(engine.descriptionOf(source), refused('not-json'));
+    assert.deepEqual(engine.description(source), { description: null, fault: 'not-json' });
+  }
+  assert.throws(() => engine.description(7), TypeError);
+});
+
+it('a room that is too small stays as it is, and the size that is answered fits', async () => {
+  const module = await WebAssembly.compile(readFileSync(MODULE));
+  const [small, fitting] = [TEXT.length - 1, TEXT.length].map(size => new Host(module, GAME, size).ask());
+  assert.deepEqual([small, fitting], [{ ...answered(TEXT), text: '' }, answered(TEXT)]);
+});
+
+it('an answer is not touched by the next one', () => {
+  const first = engine.descriptionOf(GAME);
+  engine.descriptionOf('');
+  assert.equal(new TextDecoder().decode(first.lines), TEXT);
+});
+
+test('whatever is refused of the heap, a description is whole or tells the want of memory', { skip: !isRefusing && 'there is no module that refuses, or it gives no descriptions' }, async () => {
+  const module = await WebAssembly.compile(readFileSync(REFUSING));
+  for (const [source, text] of [[GAME, TEXT], ['', NOTHING]]) {
+    const host = new Host(module, source, ROOM);
+    const { refuse, requests, blocks_out: blocksOut } = host.exports;
+    refuse(1n, 0n);
+    assert.deepEqual(host.ask(), answered(text));
+    const most = requests(), out = blocksOut();
+    let refusals = 0;
+    for (let number = 1n; number <= most + 1n; number++) {
+      for (const to of [number, LAST]) {
+        refuse(number, to);
+        const answer = host.ask(), isRefused = answer.fault === MEMORY.fault;
+        assert.deepEqual(answer, isRefused ? MEMORY : answered(text), `request ${number}`);
+        assert.ok(number <= most || !isRefused, 'a run that meets no refusal is whole');
+        assert.equal(blocksOut(), out, 'all that was taken is given back');
+        refusals += isRefused;
+      }
+    }
+    assert.ok(refusals >= most, `${refusals} of ${most}`);
+  }
+});

@@ -1,0 +1,119 @@
+"""Lines that are held against the sessions that they must be of."""
+import json
+import unittest
+
+from day import EXAMPLE, OnSessions
+from tool import run
+from saxtegun.belonging import ALL_BUT_ORDER, NAMES_ALONE, OF_ANY_ENGINE, mismatch
+from saxtegun.lines import Frame, Run
+from saxtegun.sessions import sessions_in
+
+LEVEL, OTHER = "background:0,\n", "background player:0,\n"
+
+
+def told(inputs, frames, close="passed", tests=ALL_BUT_ORDER, last=LEVEL):
+    """What is said against a session with these inputs, of frames each [inputs taken, kind]."""
+    sessions = sessions_in("x", json.dumps([["a", ["", inputs, LEVEL]]]))
+    shown = [Frame(at, kind, OTHER) for at, kind in frames]
+    if shown:
+        shown[-1] = shown[-1]._replace(level=last)
+    return mismatch(sessions, Run(0, "a", close, None if close in ("passed", "differs") else "loop-limit", shown), tests)
+
+
+START = [0, "start"]
+
+
+class Inputs(unittest.TestCase):
+    def test_each_input_is_shown_first_by_a_frame_of_its_kind(self):
+        for it, kinds in ((3, ("move", "restart", "over")), (4, ("move", "restart", "over")), ("undo", ("undo", "over")), ("restart", ("restart", "over")), ("tick", ("tick", "restart", "over"))):
+            for kind in ("move", "undo", "restart", "load", "tick", "over"):
+                with self.subTest(f"{it} by {kind}"):
+                    word = it if isinstance(it, str) else {3: "right", 4: "action"}[it]
+                    wanted = None if kind in kinds else f"session 0 shows '{kind}' at input 0, which is {word}"
+                    self.assertEqual(told([it], [START, [1, kind]]), wanted)
+                    self.assertEqual(told([it], [START, [1, kind], [1, "load"]]), wanted)
+
+    def test_an_input_that_is_not_shown_was_not_played_but_for_an_idle_tick(self):
+        self.assertEqual(told([3, 1], [START, [1, "move"]]), "session 0 shows nothing of input 1, which is left")
+        self.assertEqual(told([3, "undo"], [START, [2, "undo"]]), "session 0 shows nothing of input 0, which is right")
+        self.assertEqual(told([3], [START]), "session 0 shows nothing of input 0, which is right")
+        self.assertEqual(told([3], [START], "differs", last=OTHER), "session 0 shows nothing of input 0, which is right")
+        self.assertIsNone(told(["tick", 3, "tick"], [START, [2, "move"]]))
+        self.assertIsNone(told(["tick"], [START]))
+        self.assertIsNone(told([], [START]))
+
+    def test_a_session_that_was_stopped_took_the_inputs_that_it_shows(self):
+        self.assertIsNone(told([3, 1, 2], [START, [1, "move"]], "stopped"))
+        self.assertIsNone(told([3, 1, 2], [], "stopped"))
+        self.assertEqual(told([3, 1, 2], [START, [2, "move"]], "stopped"), "session 0 shows nothing of input 0, which is right")
+        self.assertEqual(told([3, "undo", 2], [START, [1, "move"], [2, "move"]], "stopped"), "session 0 shows 'move' at input 1, which is undo")
+
+    def test_a_session_that_was_refused_shows_nothing(self):
+        self.assertIsNone(told([3], [], "refused"))
+        self.assertEqual(told([3], [START], "refused"), "session 0 was refused and has frames")
+
+    def test_it_is_closed_as_its_last_level_says(self):
+        self.assertIsNone(told([3], [START, [1, "move"]]))
+        self.assertEqual(told([3], [START, [1, "move"]], last=OTHER), "session 0 is closed as passed, and its last level says otherwise")
+        self.assertEqual(told([3], [START, [1, "move"]], "differs"), "session 0 is closed as differs, and its last level says otherwise")
+
+    def test_no_session_passed_whose_last_level_is_none(self):
+        for last in ("garbage", LEVEL + "x", "a,b:0,"):
+            self.assertEqual(told([3], [START, [1, "move"]], last=last), "session 0 is closed as passed, and its last level is no level text")
+            self.assertIsNone(told([3], [START, [1, "move"]], "differs", last=last))
+
+    def test_lines_of_another_engine_may_show_anything(self):
+        self.assertIsNone(told([3, 1], [START], tests=OF_ANY_ENGINE))
+        self.assertIsNone(told([3, 1], [START], tests=NAMES_ALONE))
+        self.assertEqual(told([3], [START, [2, "move"]], tests=NAMES_ALONE), "session 0 takes more inputs than its 1")
+
+
+class Verbs(OnSessions):
+    def test_lines_of_a_recording_before_it_was_changed_are_not_believed(self):
+        """The recording got more inputs, or others, and its recorded level stayed: the old lines end with it."""
+        for change, wanted in ((lambda inputs: [*inputs, 0, 1], "shows nothing of input"), (lambda inputs: ["undo", *inputs[1:]], "shows 'move' at input 0, which is undo")):
+            entries = json.loads(EXAMPLE.read_text(encoding="utf-8"))
+            entries[0][1][1] = change(entries[0][1][1])
+            sessions = self.write("changed.json", json.dumps(entries))
+            for verb in ("explain", "junit", "report", "accept"):
+                with self.subTest(f"{verb}: {wanted}"):
+                    self.assert_refused(run(verb, sessions, self.lines), wanted)
+
+    def test_what_must_be_solved_is_among_what_is_played(self):
+        self.assert_refused(run("test", EXAMPLE, "--filter", "half*", "--solved", "both*"), "--solved fits no session (both*)")
+
+    def test_where_nothing_looks_whether_sessions_are_solved_that_is_said(self):
+        entries = json.loads(EXAMPLE.read_text(encoding="utf-8"))
+        sessions = self.write("demands.json", json.dumps([[*entries[0], "solved"], *entries[1:]]))
+        program = self.write("program", f"#!/bin/sh\ncat {self.lines}\nexit 1\n")
+        program.chmod(0o755)
+        for words in (("explain", sessions, self.lines), ("report", sessions, self.lines), ("junit", sessions, self.lines), ("split", sessions, 2, self.room / "parts"), ("lines", sessions, "--program", program)):
+            with self.subTest(words[0]):
+                self.assertEqual(run(*words).errors, f"{words[0]}: 1 session must be solved, and saxtegun test alone looks whether it is\n")
+        self.assertEqual(run("explain", EXAMPLE, self.lines).errors, "")
+
+    def test_lines_that_close_nothing_are_no_run(self):
+        self.assert_refused(run("junit", self.write("none.lines", "")), "closes no session, so nothing was played")
+
+    def test_the_status_of_a_program_is_held_against_its_lines(self):
+        """The example has a session that differs."""
+        program = self.write("program", f"#!/bin/sh\ncat {self.lines}\n")
+        program.chmod(0o755)
+        answer = run("lines", EXAMPLE, "--program", program)
+        self.assertEqual((answer.status, answer.out, answer.errors), (1, self.lines.read_text(encoding="utf-8"), ""))
+        program.write_text(f"#!/bin/sh\ntail -n 1 {self.lines}\n")
+        self.assertRegex(run("lines", EXAMPLE, "--program", program).errors, "was not played whole: the program closed 1 session of [0-9]+\n$")
+        program.write_text(f"#!/bin/sh\nhead -n -1 {self.lines}\n")
+        self.assertRegex(run("lines", EXAMPLE, "--program", program).errors, "was not played whole: the program closed 4 sessions of 5\n$")
+        program.write_text(f"#!/bin/sh\ntail -n 1 {self.lines}; head -n -1 {self.lines}; echo\n")
+        self.assertRegex(run("lines", EXAMPLE, "--program", program).errors, "was not played whole: the program closed 5 sessions of 5, and the last line is no close of session 4\n$")
+        program.write_text("#!/bin/sh\nexit 0\n")
+        self.assertIn("was not played whole", run("lines", EXAMPLE, "--program", program).errors)
+        self.assertIn("no list of sessions", run("lines", self.write("no.json", "{}"), "--program", program).errors)
+        with open(self.room / "long.json", "wb") as file:
+            file.truncate(2**24 + 1)
+        self.assert_refused(run("lines", self.room / "long.json", "--program", program), "has more than 16 MiB")
+
+
+if __name__ == "__main__":
+    unittest.main()

@@ -1,0 +1,50 @@
+"""dev/try: which cases it lays out, over a stand-in for `rt` that says how it was called and what it was given."""
+import os
+import subprocess
+import sys
+import unittest
+
+from tool import TOP, InARoom
+
+STAND_IN = f"""#!{sys.executable}
+import os, sys
+print(os.path.basename(os.getcwd()), *sys.argv[1:-1])
+print(*sorted(os.listdir(sys.argv[-1])), sep="\\n")
+sys.exit(5)
+"""
+PUSHES = [it.name for it in (TOP / "conformance/cases").glob("push-*")]
+
+
+class Try(InARoom):
+    def tried(self, *words):
+        """What dev/try answers: its status, how it called, the names of the cases that it laid out, and what it says."""
+        rt = self.room / "bin/rt"
+        rt.parent.mkdir(exist_ok=True)
+        rt.write_text(STAND_IN, encoding="utf-8")
+        rt.chmod(0o755)
+        path = {**os.environ, "PATH": f"{rt.parent}:{os.environ['PATH']}"}
+        ran = subprocess.run([TOP / "dev/try", *words], env=path, capture_output=True, text=True)
+        call, *files = ran.stdout.splitlines() or [""]
+        return ran.returncode, call, [it for it in files if "." not in it], ran.stderr
+
+    def test_cases_by_name(self):
+        status, call, names, said = self.tried("push-*")
+        self.assertEqual((status, call, names), (5, "pz_replayer try --seconds 120 --cases", sorted(PUSHES)))
+        self.assertRegex(said, rf"^dev/try: {len(PUSHES)} of [0-9]+ cases, unproved\n$")
+
+    def test_a_crate_has_the_cases_of_its_tower(self):
+        names = self.tried("pz_turn")[2]
+        self.assertIn("a-loop-of-as-many-passes-as-are-allowed", names)
+        self.assertNotIn("a-heading-that-is-repeated", names)
+        self.assertIn("a-heading-that-is-repeated", self.tried("pz_names")[2])
+
+    def test_a_crate_below_the_towers_has_all(self):
+        self.assertEqual(self.tried("pz_base")[2], self.tried()[2])
+
+    def test_what_is_neither_is_reported(self):
+        status, call, names, said = self.tried("pushes")
+        self.assertEqual((status, call, names, said), (2, "", [], "dev/try: there is no crate and no case named 'pushes'\n"))
+
+
+if __name__ == "__main__":
+    unittest.main()

@@ -1,0 +1,98 @@
+// What is drawn on a canvas: all of a level at first, and then only the cells that changed or had a mark, so that it shows what it would if all were drawn.
+import assert from "node:assert/strict";
+import test from "node:test";
+import { drawLevel } from "../../web/drawing.mjs";
+
+// A canvas that knows what stands in each cell of so many pixels, and how many were drawn.
+class Canvas {
+  constructor(size) {
+    Object.assign(this, { size, cells: new Map(), marks: new Map(), drawn: 0, hidden: false, sides: [0, 0] });
+  }
+
+  set width(width) {
+    this.sides[0] = width;
+    this.cells.clear();
+    this.marks.clear();
+  }
+
+  set height(height) {
+    this.sides[1] = height;
+  }
+
+  getContext() {
+    return {
+      drawImage: (picture, left, top) => {
+        this.drawn += 1;
+        this.cells.set(`${left / this.size},${top / this.size}`, picture);
+        this.marks.delete(`${left / this.size},${top / this.size}`);
+      },
+      beginPath: () => {},
+      closePath: () => {},
+      moveTo: (left, top) => { this.at = `${Math.floor(left / this.size)},${Math.floor(top / this.size)}`; },
+      lineTo: () => {},
+      fill: () => {},
+      stroke: () => this.marks.set(this.at, true),
+    };
+  }
+
+  get shown() {
+    return { cells: [...this.cells].sort(), marks: [...this.marks].sort(), sides: this.sides };
+  }
+}
+
+const PICTURES = { of: (label) => `picture ${label}` };
+const OTHERS = { of: (label) => `other ${label}` };
+const SCALE = 2, SIZE = 10;
+const level = (width, cells, order = "columns") => ({ width, cells, order });
+const frame = (...cells) => [{ cells, colour: "red" }];
+
+function freshly(...words) {
+  const canvas = new Canvas(SIZE);
+  drawLevel(canvas, ...words);
+  return canvas;
+}
+
+test("what is drawn over another level is what is drawn at once", () => {
+  const canvas = new Canvas(SIZE);
+  const steps = [
+    [level(3, [0, 1, 2, 3, 4, 5]), [], [], 6],
+    [level(3, [0, 1, 2, 3, 4, 5]), [], [], 0],
+    [level(3, [0, 1, 7, 3, 4, 5]), [], [], 1],
+    [level(3, [0, 1, 7, 3, 4, 8]), frame(0, 5), [], 1],
+    [level(3, [0, 1, 7, 3, 4, 8]), frame(3), [], 2],
+    [level(3, [0, 1, 7, 3, 4, 8]), [], [], 1],
+    [level(3, [0, 1, 7, 3, 4, 8]), [], [[2, 1, "a", "up"]], 0],
+    [level(3, [9, 1, 7, 3, 4, 8]), [], [[0, 0, "a", "action"]], 2],
+    [level(3, [9, 1, 7, 3, 4, 8]), [], [], 1],
+    [level(2, [9, 1, 7, 3, 4, 8]), [], [], 6],
+    [level(2, [9, 1, 7, 3, 4, 8], "rows"), [], [], 6],
+    [level(2, [9, 1, 7, 3, 4, 5], "rows"), frame(0), [], 1],
+    [level(2, [9, 1], "rows"), [], [], 2],
+  ];
+  for (const [place, [it, framed, headings, count]] of steps.entries()) {
+    canvas.drawn = 0;
+    drawLevel(canvas, it, PICTURES, SCALE, framed, headings);
+    assert.equal(canvas.drawn, count, `step ${place}`);
+    assert.deepEqual(canvas.shown, freshly(it, PICTURES, SCALE, framed, headings).shown, `step ${place}`);
+  }
+});
+
+test("another game and another size are drawn whole", () => {
+  const canvas = new Canvas(SIZE), it = level(3, [0, 1, 2, 3, 4, 5]);
+  drawLevel(canvas, it, PICTURES, SCALE);
+  canvas.drawn = 0;
+  drawLevel(canvas, it, OTHERS, SCALE);
+  assert.deepEqual([canvas.drawn, canvas.shown], [6, freshly(it, OTHERS, SCALE).shown]);
+  canvas.size = 15;
+  drawLevel(canvas, it, OTHERS, 3);
+  assert.deepEqual([canvas.drawn, canvas.shown.sides], [12, [45, 30]]);
+});
+
+test("a level that can't be read back hides the canvas, and what stood there is drawn again", () => {
+  const canvas = new Canvas(SIZE), it = level(1, [0]);
+  drawLevel(canvas, it, PICTURES, SCALE);
+  drawLevel(canvas, null, PICTURES, SCALE);
+  assert.equal(canvas.hidden, true);
+  drawLevel(canvas, it, PICTURES, SCALE);
+  assert.deepEqual([canvas.hidden, canvas.drawn], [false, 1]);
+});
