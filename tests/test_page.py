@@ -1,7 +1,8 @@
 """The playground: how dev/page joins it, what its policy allows, and that it reads games and tells faults as the command does. web/tests looks at it in browsers."""
-import hashlib
 import base64
+import hashlib
 import json
+import os
 import re
 import shutil
 import subprocess
@@ -240,7 +241,8 @@ class Twins(unittest.TestCase):
                 self.assertEqual(ran.returncode, 0, ran.stdout.decode(errors="replace"))
 
     def test_what_the_page_reads_takes_time_by_its_length(self):
-        ran = subprocess.run([NODE, "--test", "--test-reporter=tap", OWN / "costs.test.mjs"], stdout=subprocess.PIPE, stderr=subprocess.STDOUT, check=False)
+        room = {**os.environ, "NODE_OPTIONS": "--max-semi-space-size=128"}  # so that little time is taken by collecting
+        ran = subprocess.run([NODE, "--test", "--test-reporter=tap", OWN / "costs.test.mjs"], env=room, stdout=subprocess.PIPE, stderr=subprocess.STDOUT, check=False)
         self.assertEqual(ran.returncode, 0, ran.stdout.decode(errors="replace"))
 
 

@@ -1,6 +1,8 @@
 // What the page reads of a game takes not much more than twice the time for twice the text.
 import assert from 'node:assert/strict';
 import test from 'node:test';
+import { setFlagsFromString } from 'node:v8';
+import { runInNewContext } from 'node:vm';
 import { culpritTold } from '../../web/faults.mjs';
 import { readFileSync } from 'node:fs';
 import { toAdd } from '../../web/findings.mjs';
@@ -59,8 +61,12 @@ const READINGS = {
   'brackets': [20_000, size => linesOf(`${'('.repeat(size)}${')'.repeat(size)}\n${HEAD}`)],
 };
 
-/** Milliseconds of the processor, which others that use it take least from. */
+setFlagsFromString('--expose-gc');
+const collect = runInNewContext('gc');
+
+/** Milliseconds of the processor, which others that use it take least from, without what earlier acts left in memory. */
 function timeOf(act, size) {
+  collect();
   const begin = process.cpuUsage();
   act(size);
   return process.cpuUsage(begin).user / 1000;
@@ -68,18 +74,25 @@ function timeOf(act, size) {
 
 const leastOf = (act, size) => Math.min(...[1, 2, 3].map(() => timeOf(act, size)));
 
-/** How many times the time of a size the double takes, once a size takes long enough to be timed. */
-function growthOf(act, first) {
+/** The first size, doubled until it takes long enough to be timed, or null where none does. */
+function timedSize(act, first) {
   let size = first;
-  for (; timeOf(act, size) < LEAST_MS; size *= 2) if (size > LARGE) return 0;
-  return leastOf(act, 2 * size) / leastOf(act, size);
+  for (; timeOf(act, size) < LEAST_MS; size *= 2) if (size > LARGE) return null;
+  return size;
 }
+
+/** How many times the time of a size the double takes. */
+const growthOf = (act, size) => leastOf(act, 2 * size) / leastOf(act, size);
 
 for (const [what, [size, act]] of Object.entries(READINGS)) {
   test(`twice the input takes about twice the time: ${what}`, () => {
-    const growths = [];
-    while (growths.length < 8 && !growths.some(it => it <= MOST)) growths.push(growthOf(act, size));
-    assert.ok(growths.some(it => it <= MOST), `${growths}`);
+    const growths = [], timed = timedSize(act, size);
+    // memory that is just outgrown takes time of its own, which another size doesn't
+    for (const times of timed === null ? [] : [1, 2, 4, 1, 2, 4, 1, 2, 4]) {
+      growths.push(growthOf(act, times * timed));
+      if (growths.at(-1) <= MOST) return;
+    }
+    assert.equal(timed, null, `${growths}`);
   });
 }
 
