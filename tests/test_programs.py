@@ -6,10 +6,14 @@ import pty
 import shutil
 import subprocess
 import sys
+import tempfile
 import unittest
+import unittest.mock
 
 from tool import TOP, InARoom
+from saxtegun import programs
 from saxtegun.guarding import CIS
+from saxtegun.running import watched
 
 EXAMPLE = TOP / "examples/block-pushing.json"
 NODE = shutil.which("node")
@@ -197,6 +201,38 @@ class Released(InAFreshClone):
         closes = [it for it in map(json.loads, out.splitlines()) if "close" in it]
         self.assertEqual((status in (0, 1), [it["name"] for it in closes]), (True, [it[0] for it in json.loads(EXAMPLE.read_text(encoding="utf-8"))]))
         self.assertRegex(errors, r"^saxtegun: no program is built here; the module of Saxtegun \S+, commit [0-9a-f]{12}, plays in Node \S+\n$")
+
+    def another(self):
+        """Another folder of the functions that play in Node, whose own module is none."""
+        other = self.room / "other"
+        shutil.copytree(TOP / "engine", other, ignore=shutil.ignore_patterns("out"))
+        (other / "out").mkdir()
+        (other / "out/saxtegun.wasm").write_text("no module at all\n")
+        return other / "replay.mjs"
+
+    def test_another_engine_is_not_handed_our_module(self):
+        """It would play by ours, and be called the same."""
+        other, folder = self.another(), self.room / "case"
+        for words in (("compare", "--engines", "saxtegun", other, EXAMPLE), ("compare", "--engines", other, "saxtegun", "--stages", "saxtegun", "saxtegun", EXAMPLE)):
+            status, out, _ = self.called(*words)
+            self.assertEqual(status, 1, out)
+            self.assertIn("replay.mjs crashed before its first frame", out)
+            self.assertIn(": 0 the same, ", out)
+        status, out, _ = self.called("compare", "--engines", other, other, "--stages", "saxtegun", "saxtegun", EXAMPLE)
+        self.assertEqual((status, ": 0 the same, " in out), (1, True), out)
+        status, out, errors = self.called("shrink", "saxtegun", other, EXAMPLE, "both*", folder, "--within", "2")
+        self.assertEqual((status, "crashed" in out, "show the same" in errors), (0, True, False), errors)
+
+    def test_a_program_that_is_named_plays_by_its_own_module_in_each_round(self):
+        """Behind a round that was explained by stages, which our own module tells."""
+        with unittest.mock.patch.dict(os.environ), unittest.mock.patch.multiple(programs, CHOSEN=[], CHOSEN_FOR_STAGES=[], STAGES=(), say=lambda line: None):
+            os.environ.pop("SAXTEGUN_STAGES", None)
+            os.environ.pop("SAXTEGUN_MODULE", None)
+            programs.stages_words()
+            programs.choose()
+            with tempfile.TemporaryFile() as lines:
+                self.assertEqual(watched([str(self.another()), str(EXAMPLE)], lines).status, 2)
+            self.assertNotIn("SAXTEGUN_MODULE", os.environ)
 
     def test_the_author_sees_what_differs(self):
         status, out, errors = self.called("test", EXAMPLE)

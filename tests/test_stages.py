@@ -22,7 +22,8 @@ def what_tells_stages():
         return [], {}
     with mock.patch.dict(os.environ), mock.patch.object(programs, "CHOSEN_FOR_STAGES", []):
         try:
-            words, names = programs.stages_words(), dict(os.environ)
+            words = programs.stages_words()
+            names = programs.environment_of(words) or dict(os.environ)
         except Refused:
             return [], {}
     ran = subprocess.run([*words, "0", "1", "firings"], input=b"[]", stdout=subprocess.DEVNULL, stderr=subprocess.DEVNULL, env=names)

@@ -266,8 +266,9 @@ class Programs(unittest.TestCase):
         words = {it: value for it, value in os.environ.items() if it != "SAXTEGUN_STAGES"}
         script = programs.TOP / "engine/replay.mjs"
         with mock.patch.dict(os.environ, words, clear=True), mock.patch.multiple(programs, STAGES=(), STAGES_IN_NODE=script, CHOSEN_FOR_STAGES=[]):
-            self.assertEqual(programs.stages_words(), [shutil.which("node"), str(script)])
-            self.assertEqual(os.environ["SAXTEGUN_MODULE"], str(programs.RELEASED / programs.MODULE))
+            words = programs.stages_words()
+            self.assertEqual(words, [shutil.which("node"), str(script)])
+            self.assertEqual(programs.environment_of(words)["SAXTEGUN_MODULE"], str(programs.RELEASED / programs.MODULE))
 
 
 class InWords(unittest.TestCase):

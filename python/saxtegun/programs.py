@@ -8,7 +8,7 @@ import shutil
 import subprocess
 import sys
 from pathlib import Path
-from typing import Dict, List, NamedTuple, Optional
+from typing import Dict, List, NamedTuple, Optional, Sequence
 
 from saxtegun.commands import Refused, cut, printable, say
 from saxtegun.guarding import is_log
@@ -22,7 +22,7 @@ MODULE, SUMS = "saxtegun.wasm", "SHA256SUMS"
 VERSION = TOP / "VERSION"
 # What tells the stages of an input: the program that is built here, that of a release, and the module in Node.
 STAGES = (TOP / "crates/pz_stager/out/pz_stager", TOP / "bin/pz_stager")
-STAGES_IN_NODE = TOP / "engine/stages.mjs"
+REPLAY_IN_NODE, STAGES_IN_NODE = TOP / "engine/replay.mjs", TOP / "engine/stages.mjs"
 OLDEST_NODE = 20
 HOW_TO_GET_ONE = (
     "install Node 20 or later (nodejs.org), name the program of a release by SAXTEGUN_PROGRAM, or prove and build it with the Rattle kit by ./replay"
@@ -109,7 +109,14 @@ def in_node() -> Player:
         raise no_program(f"Node {version} is too old to play")
     if not (RELEASED / MODULE).is_file():
         raise no_program("no module is released")
-    return Player([node, str(TOP / "engine/replay.mjs")], f"no program is built here; {module_told(RELEASED)}, plays in Node {version}")
+    return Player([node, str(REPLAY_IN_NODE)], f"no program is built here; {module_told(RELEASED)}, plays in Node {version}")
+
+
+def environment_of(words: Sequence[str]) -> Optional[Dict[str, str]]:
+    """The environment in which a program is called: where our own functions play in Node, with the name of the released module; None for what there is. No other
+    program is told of that module, since another release's functions, or those of a candidate, would take it for their own."""
+    is_ours = list(words[1:2]) in ([str(REPLAY_IN_NODE)], [str(STAGES_IN_NODE)])
+    return {**os.environ, "SAXTEGUN_MODULE": str(RELEASED / MODULE)} if is_ours else None
 
 
 def player() -> Player:
@@ -120,8 +127,6 @@ def player() -> Player:
 def choose() -> List[str]:
     """How a program is called where none is named. A log says which it is; at a terminal `saxtegun --version` does."""
     it = player()
-    if it.words[0] != str(BUILDS):
-        os.environ["SAXTEGUN_MODULE"] = str(RELEASED / MODULE)
     if is_log(sys.stderr):
         say(f"saxtegun: {it.told}")
     return it.words
@@ -180,9 +185,7 @@ def choose_for_stages() -> List[str]:
         return [str(native)]
     if not STAGES_IN_NODE.is_file():
         raise Refused("nothing here tells stages: name a program that does by SAXTEGUN_STAGES")
-    node = in_node().words[0]
-    os.environ["SAXTEGUN_MODULE"] = str(RELEASED / MODULE)
-    return [node, str(STAGES_IN_NODE)]
+    return [in_node().words[0], str(STAGES_IN_NODE)]
 
 
 def stages_words(named: Optional[str] = None) -> List[str]:

@@ -14,6 +14,7 @@ from time import monotonic
 from typing import IO, Any, Callable, Dict, Generic, Iterator, List, Mapping, NamedTuple, Optional, Sequence, TypeVar
 
 from saxtegun.commands import Refused, say
+from saxtegun.programs import environment_of
 
 GIB = 2**30
 # So many bytes of lines a program may write into a file of ours, and so many it may say on standard error.
@@ -150,7 +151,7 @@ def started(words: Sequence[str], stdin: Any, output: Any, environment: Optional
     ran: "Optional[subprocess.Popen[bytes]]" = None
     try:
         with held():
-            ran = begun(words, stdin=stdin, stdout=output, stderr=subprocess.PIPE, env=environment)
+            ran = begun(words, stdin=stdin, stdout=output, stderr=subprocess.PIPE, env=environment_of(words) if environment is None else environment)
         assert ran is not None
         yield ran
     finally:
