@@ -209,6 +209,12 @@ class InACi(unittest.TestCase):
         self.assertEqual([it[0] for it in ended], [0, 0, 0], ended)
         self.assertEqual(self.uploaded(runner), ["summary.md"])
         self.assertEqual(self.act(self.runner(), upload="all")[-1][0], 2)
+        # a name of a stranger's is no option
+        for given, own in (("game", "game.txt"), ("sessions", "recordings.json")):
+            shutil.copy(runner.work / own, runner.work / "--help")
+            ended = self.act(runner, **{"game": "game.txt", "sessions": "recordings.json", given: "--help"})
+            self.assertEqual((ended[1][0], ended[1][1].count("usage:")), (0, 0), ended)
+            self.assertIn("4 sessions: 4 passed", ended[1][1])
 
     def test_the_action_used_twice_in_a_job_shows_nothing_of_the_first_again(self):
         runner = self.runner()
