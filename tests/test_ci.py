@@ -333,6 +333,11 @@ class InACi(unittest.TestCase):
         runner.values["runner.temp"] = str(runner.temp)
         for path in next(it["with"]["path"] for it in jobs["replay"]["steps"] if "upload" in it.get("uses", "")).splitlines():
             self.assertTrue(Path(runner.filled(path)).is_file(), path)
+        # all passed, of which one must be solved and isn't
+        for kind, status in (("unsolved", 1), ("none", 0)):
+            runner.values["steps.join.outputs.status"] = "0"
+            (runner.temp / "junit.xml").write_text(f'<failure message="" type="{kind}" />\n', encoding="utf-8")
+            self.assertEqual(runner.run(jobs["replay"]["steps"][-1])[0], status)
 
     def do(self, runner, step, kept=None):
         """Does a step of the matrix: the action, its shell, or what a download puts there."""
