@@ -28,6 +28,9 @@ RELEASED = "released"
 NOTICES = "NOTICES"
 MOST_RELEASED = 1_150_000
 GATE_ENDED = "The gate, ./check, passed on that commit; so its parts ended:"
+# So it keeps the end of each of its parts, of which the second is left out where there is no Node.
+ENDED = re.compile(r"(rt ci|cases by the module|cases by the program): [1-9][0-9]{0,8} passed, 0 failed")
+PARTS = ["rt ci", "cases by the module", "cases by the program"]
 # The engine for Node and for pages, beside its module.
 GLUE = ["engine/saxtegun.mjs", "engine/saxtegun.d.ts", "engine/replay.mjs", "engine/stages.mjs", "engine/describe.mjs", "engine/streams.mjs"]
 # What stands in a release as it stands here: the command with its package, the examples, and the documents for users.
@@ -139,8 +142,12 @@ def proved_words(top: Path, version: str, ends: Sequence[str]) -> str:
 
 
 def ends_in(text: str) -> List[str]:
-    """How the parts of the gate ended, as PROVED.txt says."""
-    return [it[4:] for it in text.partition(f"{GATE_ENDED}\n")[2].partition("\n\n")[0].splitlines()]
+    """How the parts of the gate ended, as PROVED.txt says. Refused where the gate doesn't tell it so: nobody has written that but who made the file."""
+    ends = [it[4:] for it in text.partition(f"{GATE_ENDED}\n")[2].partition("\n\n")[0].split("\n")]
+    matches = [ENDED.fullmatch(it) for it in ends]
+    if [it and it[1] for it in matches] not in (PARTS, [PARTS[0], PARTS[2]]):
+        raise Broken("its PROVED.txt doesn't tell how the parts of the gate ended as ./check does where all passed")
+    return ends
 
 
 CONTENTS = """# What is in this archive

@@ -87,10 +87,45 @@ class Verbs(OnSessions):
         sessions = self.write("demands.json", json.dumps([[*entries[0], "solved"], *entries[1:]]))
         program = self.write("program", f"#!/bin/sh\ncat {self.lines}\nexit 1\n")
         program.chmod(0o755)
-        for words in (("explain", sessions, self.lines), ("report", sessions, self.lines), ("junit", sessions, self.lines), ("split", sessions, 2, self.room / "parts"), ("lines", sessions, "--program", program)):
+        escaped = self.write("escaped.json", json.dumps([[*entries[0], "solved"], *entries[1:]]).replace('"solved"', '"\\u0073olved"'))
+        for words in (("split", sessions, 1, self.room / "parts"), ("lines", sessions, "--program", program), ("lines", escaped, "--program", program)):
             with self.subTest(words[0]):
-                self.assertEqual(run(*words).errors, f"{words[0]}: 1 session must be solved, and saxtegun test alone looks whether it is\n")
+                self.assertEqual(run(*words).errors, f"{words[0]}: 1 session must be solved, which lines don't tell: saxtegun test looks whether it is\n")
+        (self.room / "parts" / "00000000.lines").write_bytes(self.lines.read_bytes())
+        joined = run("join", self.room / "parts")
+        self.assertEqual((joined.status, joined.errors), (1, "join: 1 session must be solved, which lines don't tell: saxtegun test looks whether it is\n"))
         self.assertEqual(run("explain", EXAMPLE, self.lines).errors, "")
+
+    def demanding(self, end):
+        """The example, of which the first session must be solved, and a program that shows such an end of it with one more input."""
+        entries = json.loads(EXAMPLE.read_text(encoding="utf-8"))
+        lines = self.lines.read_text(encoding="utf-8").split("\n")
+        close = next(at for at, it in enumerate(lines) if it.startswith('{"close"'))
+        last, told = json.loads(lines[close - 1]), json.loads(lines[close])
+        more = {**last, "at": last["at"] + 1, "frame": last["frame"] + 1, "kind": end}
+        shown = [*lines[: close], *(json.dumps(it, separators=(",", ":")) for it in (more, {**told, "frames": told["frames"] + 1}))]
+        self.write("longer.lines", "".join(f"{it}\n" for it in shown))
+        program = self.write("program", f"#!/bin/sh\ncat {self.room}/longer.lines\n")
+        program.chmod(0o755)
+        return self.write("demands.json", json.dumps([[*entries[0], "solved"], *entries[1:]])), program
+
+    def test_where_lines_are_told_with_their_sessions_these_are_held_to_what_they_demand(self):
+        for end, is_solved in (("over", True), ("undo", False)):
+            sessions, program = self.demanding(end)
+            told = {verb: run(verb, sessions, self.lines, "--program", program) for verb in ("explain", "junit", "report")}
+            for verb, answer in told.items():
+                with self.subTest(verb, end=end):
+                    self.assertEqual((answer.status, answer.errors), (0, ""))
+                    self.assertEqual(is_solved, "no longer solved" not in answer.out)
+            self.assertEqual(is_solved, "session 0, both levels solved: passed: no longer solved" not in told["explain"].out)
+            self.assertEqual(is_solved, not told["explain"].out.endswith(", 1 no longer solved\n"))
+            self.assertIn(f'failures="{1 if is_solved else 2}"', told["junit"].out)
+            self.assertEqual(is_solved, '["both levels solved","failed",' not in told["report"].out)
+
+    def test_what_a_session_demands_is_never_passed_over_where_nothing_plays(self):
+        sessions, _ = self.demanding("undo")
+        for verb in ("explain", "junit", "report"):
+            self.assert_refused(run(verb, sessions, self.lines, "--program", self.room / "none"), "there is no program at")
 
     def test_lines_that_close_nothing_are_no_run(self):
         self.assert_refused(run("junit", self.write("none.lines", "")), "closes no session, so nothing was played")

@@ -209,6 +209,12 @@ class InACi(unittest.TestCase):
         self.assertEqual([it[0] for it in ended], [0, 0, 0], ended)
         self.assertEqual(self.uploaded(runner), ["summary.md"])
         self.assertEqual(self.act(self.runner(), upload="all")[-1][0], 2)
+        # a name of a stranger's is no option
+        for given, own in (("game", "game.txt"), ("sessions", "recordings.json")):
+            shutil.copy(runner.work / own, runner.work / "--help")
+            ended = self.act(runner, **{"game": "game.txt", "sessions": "recordings.json", given: "--help"})
+            self.assertEqual((ended[1][0], ended[1][1].count("usage:")), (0, 0), ended)
+            self.assertIn("4 sessions: 4 passed", ended[1][1])
 
     def test_the_action_used_twice_in_a_job_shows_nothing_of_the_first_again(self):
         runner = self.runner()
@@ -327,6 +333,11 @@ class InACi(unittest.TestCase):
         runner.values["runner.temp"] = str(runner.temp)
         for path in next(it["with"]["path"] for it in jobs["replay"]["steps"] if "upload" in it.get("uses", "")).splitlines():
             self.assertTrue(Path(runner.filled(path)).is_file(), path)
+        # all passed, of which one must be solved and isn't
+        for kind, status in (("unsolved", 1), ("none", 0)):
+            runner.values["steps.join.outputs.status"] = "0"
+            (runner.temp / "junit.xml").write_text(f'<failure message="" type="{kind}" />\n', encoding="utf-8")
+            self.assertEqual(runner.run(jobs["replay"]["steps"][-1])[0], status)
 
     def do(self, runner, step, kept=None):
         """Does a step of the matrix: the action, its shell, or what a download puts there."""

@@ -2,6 +2,7 @@
 import gc
 import io
 import json
+import random
 import subprocess
 import sys
 import tempfile
@@ -324,6 +325,27 @@ class Costs(unittest.TestCase):
         game = Game(legend_of_letters(2000))
         self.assertLess(MOST_NAMES - game.names_left, 5000)
         self.assertEqual(game.notes, [])
+
+    def test_of_a_chain_of_aggregates_none_is_gone_through_for_each(self):
+        """Each is the one before and an object."""
+        lines = "\n".join(f"{one} = {other} and Player" for one, other in zip(LETTERS[1:2000], ["Background", *LETTERS[1:]]))
+        game = Game(f"{HEAD}LEGEND\n{lines}\nCOLLISIONLAYERS\nBackground\nPlayer\nWINCONDITIONS\nLEVELS\n{LETTERS[1]}\n")
+        self.assertLess(MOST_NAMES - game.names_left, 20_000)
+        self.assertEqual(game.notes, [])
+
+    def test_what_is_known_of_names_changes_none_of_them(self):
+        """Of names that come to one another too, or to themselves, in whichever order they are asked for."""
+        chosen = random.Random(0)
+        for _ in range(300):
+            names = [f"n{it}" for it in range(8)]
+            lines = "\n".join(f"{it} = {' and '.join(chosen.choices([*names, *(f'o{it}' for it in range(5))], k=chosen.randint(1, 3)))}" for it in names)
+            objects = "".join(f"o{it}\nred\n" for it in range(5))
+            game = Game(f"title x\nOBJECTS\nBackground\nblack\nPlayer\nred\n{objects}LEGEND\n{lines}\nCOLLISIONLAYERS\nBackground\nLEVELS\n.\n")
+            chosen.shuffle(names)
+            for it in names:
+                self.assertEqual(game.members(it), game.members_beyond(game.meaning_of(it), set()), lines)
+
+
 class Far(unittest.TestCase):
     def test_texts_behind_a_session_take_no_longer_than_reading_them(self):
         """A million of them take a second or so, where a comparison of each with a word would take ten."""

@@ -138,6 +138,19 @@ class Memory(unittest.TestCase):
             self.assertLess(int(ran.stdout), 20 * LETTERS, quote)
 
 
+class Options(OnSessions):
+    def test_behind_two_dashes_nothing_is_an_option(self):
+        """Wherever other options and names stand."""
+        whole = run("junit", EXAMPLE, self.lines).out
+        for name in ("--refused=skipped", "--help", "-x"):
+            (self.room / name).write_bytes(self.lines.read_bytes())
+            for words in ((EXAMPLE, "--", name), ("--", EXAMPLE, name), (EXAMPLE, "--refused", "error", "--", name), ("--refused", "error", "--", EXAMPLE, name)):
+                with self.subTest(words):
+                    answer = run("junit", *words, cwd=self.room)
+                    self.assertEqual((answer.status, answer.out, answer.errors), (0, whole, ""))
+        self.assert_refused(run("junit", EXAMPLE, "--", "--refused", "skipped", cwd=self.room), "name one or two files")
+
+
 class Changes(OnSessions):
     def test_recordings_that_are_added_at_the_same_time_are_all_there(self):
         sessions = self.write("s.json", "[]\n")

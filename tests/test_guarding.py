@@ -9,6 +9,7 @@ import unittest
 
 from day import EXAMPLE, OnSessions
 from tool import run
+from saxtegun.commands import cut, printable
 from saxtegun.guarding import guarded
 from saxtegun.telling import MOST_FAILURES, Failure, markdown
 
@@ -55,6 +56,13 @@ class Guarding(unittest.TestCase):
         for at in range(0, len(failures), MOST_FAILURES):
             for line in markdown(failures[at : at + MOST_FAILURES], "24 sessions").split("\n"):
                 self.assertFalse(is_command(line), line)
+
+    def test_no_blanks_of_a_name_lead_to_a_row_that_looks_like_ours(self):
+        """A terminal breaks a line that is long; each name is told from others still."""
+        for blanks in (" " * 4, " " * 70, " " * 71):
+            self.assertEqual(cut(f"x{blanks}5 sessions: 5 passed"), f"x\\u{{20*{len(blanks)}}}5 sessions: 5 passed")
+        self.assertEqual(cut("a   b"), "a   b")
+        self.assertEqual(printable("a\u2800\u3164\u115f\u1160\uffa0b"), "a\\u{2800}\\u{3164}\\u{115f}\\u{1160}\\u{ffa0}b")
 
     def test_what_is_no_command_stays(self):
         for line in ("", "a :: b", "x::y", "# [ a ]", "## [a]", "| ##.#", "passed, solved: the first", "    ####"):

@@ -1,4 +1,5 @@
 """`saxtegun junit`: read back by a reader of XML."""
+import json
 import unittest
 from xml.etree import ElementTree
 
@@ -36,6 +37,18 @@ class JUnit(OnSessions):
         suite = self.suite(self.write("sessions.json", sessions), self.write("lines", lines), "--order", "rows")
         names = [it.get("name") for it in suite]
         self.assertEqual((len(set(names)), len(names)), (len(names), int(suite.get("tests"))))
+
+    def test_a_number_behind_a_name_makes_no_name_that_is_there(self):
+        """Nor one of a session that comes later; and letters that are written by their number are those numbers."""
+        names = ["a", "a (session 2)", "a", "b", "b", "b (session 4)", "a (session 2) (session 2)", "\0", "\\u{0}"]
+        level = json.dumps("background player:0,\n")
+        lines = "".join(
+            f'{{"at":0,"frame":0,"kind":"start","level":{level},"session":{number}}}\n{{"close":"passed","frames":1,"name":{json.dumps(name)},"session":{number}}}\n'
+            for number, name in enumerate(names)
+        )
+        told = [it.get("name") for it in self.suite(self.write("lines", lines))]
+        self.assertEqual(len(set(told)), len(names), told)
+        self.assertEqual(told[:5], ["a", "a (session 2)", "a (session 2) (session 2)", "b", "b (session 4)"])
 
     def test_no_name_breaks_the_file(self):
         sessions, lines = sessions_and_lines(NAMES, LETTERS)

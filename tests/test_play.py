@@ -20,7 +20,7 @@ from saxtegun.games import Game
 from saxtegun.terminal import CLEAR, Depth, Screen, codes_of, depth_of, fitted, lettered, marked, painted, pixels_of
 
 START = "####..\n#.O#..\n#..###\n#@P..#\n#..*.#\n#..###\n####..\n"
-ENDS = (signal.SIGINT, signal.SIGTERM, signal.SIGHUP)
+ENDS = (signal.SIGINT, signal.SIGTERM, signal.SIGHUP, signal.SIGUSR1, signal.SIGUSR2, signal.SIGALRM, signal.SIGXCPU)
 RIGHT = START.replace("#@P..#", "#@.P.#")
 
 

@@ -16,7 +16,7 @@ from unittest import mock
 
 TOP = Path(__file__).resolve().parent.parent
 sys.path.insert(0, str(TOP / "dev"))
-from releasing import MODULE, NOTICES, PROGRAM, Broken, Built, check_version, ends_in, gate_of, headline, make, make_released, package_files, release_of, sum_of, told  # noqa: E402
+from releasing import MODULE, NOTICES, PROGRAM, Broken, Built, check_version, ends_in, gate_of, headline, make, make_released, package_files, proved_words, release_of, sum_of, told  # noqa: E402
 from crates import all_below, read_crates, read_uses  # noqa: E402
 from freshness import newer  # noqa: E402
 from forging import EVIL, bombs, digits, forged, forged_packages, lengths, member, sparse, speaking, with_blocks, with_data  # noqa: E402
@@ -429,6 +429,22 @@ class Release(unittest.TestCase):
         promise = " ".join(headline(self.one))
         self.assertTrue(promise.startswith("For every list of recorded sessions") and promise.endswith("equals the recorded one."), promise)
         self.assertIn("".join(f"    {it}\n" for it in headline(self.one)), text)
+
+    def test_how_the_gate_ended_is_taken_only_as_the_gate_tells_it(self):
+        rest = ["cases by the program: 9 passed, 0 failed"]
+        module = "cases by the module: 9 passed, 0 failed"
+        self.assertEqual(ends_in(proved_words(self.one, self.version, [ENDS[0], module, *rest])), [ENDS[0], module, *rest])
+        wrong = (
+            [], ENDS[:1], rest, [*ENDS, "audited by the kit's makers"], [*rest, ENDS[0]], [ENDS[0], *ENDS], ["rt ci: 7 passed, 1 failed", *rest], ["rt ci: 0 passed, 0 failed", *rest],
+            ["rt ci: 7 passed, 0 failed, all proved", *rest], ["rt ci: \u0667 passed, 0 failed", *rest], ["rt ci: 07 passed, 0 failed", *rest], [f"{ENDS[0]}\u2028", *rest],
+        )
+        for ends in wrong:
+            with self.subTest(ends), self.assertRaisesRegex(Broken, "doesn't tell how the parts of the gate ended as ./check does"):
+                ends_in(proved_words(self.one, self.version, ends))
+        forged = Path(self.kept.name) / "told" / f"saxtegun-{self.version}-linux-x86_64.tar.gz"
+        put(forged, release_of(self.one, self.version, STAND_IN._replace(ends=[*ENDS, "audited by the kit's makers"])).archive())
+        with self.assertRaisesRegex(Broken, "as ./check does"):
+            differences(self.one, forged, STAND_IN)
 
     def gate(self):
         """A clone in which the gate has passed, and what it built."""

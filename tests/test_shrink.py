@@ -226,6 +226,14 @@ class First(unittest.TestCase):
                 self.assertEqual(shrinking.gone_with([{1}, {2}], {5}, lambda gone: ENTRY), wanted)
 
 
+    def test_no_stage_is_made_once_its_time_is_over(self):
+        """A stage looks through all of a source, which may be long."""
+        stage = mock.Mock(return_value=(0, lambda gone: ENTRY))
+        for end, calls in ((-1.0, 0), (float("inf"), 1)):
+            shrinking = Shrinking(Programs(Engine(), Engine(), end=end), ENTRY, (), lambda *_: None)
+            self.assertEqual((shrinking.leave_out(stage), stage.call_count), (False, calls))
+
+
 class Smaller(unittest.TestCase):
     """What each stage leaves out."""
 

@@ -51,7 +51,7 @@ class OnStreams(OnSessions):
         parts = self.room / "parts"
         parts.mkdir()
         names = [it[0] for it in json.loads(EXAMPLE.read_text(encoding="utf-8"))]
-        (parts / "parts.txt").write_text(json.dumps({"first": 0, "names": names}) + "\n" + json.dumps({"sessions": len(names)}) + "\n")
+        (parts / "parts.txt").write_text(json.dumps({"first": 0, "names": names}) + "\n" + json.dumps({"sessions": len(names), "solved": 0}) + "\n")
         (parts / "00000000.lines").write_bytes(self.lines.read_bytes())
         played = ["--program", self.program]
         self.calls = [

@@ -200,7 +200,7 @@ class Suite(InARoom):
         self.split_and_play(SUITES[0], 9)
         self.without_lines(8)
         self.files()[8].with_suffix(".lines").unlink()
-        self.change_last_line({"sessions": 8})
+        self.change_last_line({"sessions": 8, "solved": 0})
         self.assert_refused(run("join", self.parts), "00000008.json is of no part")
         (self.parts / "00000008.json").rename(self.parts / "notes.json")
         self.assertEqual(run("join", self.parts).status, 1)
@@ -221,10 +221,10 @@ class Suite(InARoom):
     def test_a_manifest_that_names_other_sessions_than_it_counts_is_reported(self):
         self.split_and_play(SUITES[0], 9)
         for count, what in ((8, "names 9 sessions where it counts 8"), (10, "names 9 sessions where it counts 10")):
-            self.change_last_line({"sessions": count})
+            self.change_last_line({"sessions": count, "solved": 0})
             self.assert_refused(run("join", self.parts), what)
-        for count in (9.0, "9", None, [9]):
-            self.change_last_line({"sessions": count})
+        for end in (*({"sessions": it, "solved": 0} for it in (9.0, "9", None, [9])), {"sessions": 9}, {"sessions": 9, "solved": "0"}):
+            self.change_last_line(end)
             self.assert_refused(run("join", self.parts), "doesn't end with the number of its sessions")
 
     def test_a_number_that_is_not_whole_is_no_first_session(self):

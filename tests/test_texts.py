@@ -143,6 +143,9 @@ class DayOfDemands(OfAGame):
 class Demands(unittest.TestCase):
     def test_what_is_meant_to_demand_and_does_not_is_refused(self):
         body = ["", [], ""]
+        for it in ("solved", "Solved", ["solved"]):
+            for within in ([None, it], [None, "1716.5", it]):
+                self.assertEqual(fault_of(["a", [*body, *within]]), "its second list holds 'solved' or nearly that, which would demand nothing there: it stands behind that list")
         for it in ("slved", "Solved", "solve", "solevd", "soved", "xsolved", "must be solved", "to be solved", "SOLVED NOW", "\u2713solved", "solved " * 1000):
             self.assertEqual(fault_of(["a", body, 1, it]), f"its further element {cut(it)!r} is nearly 'solved', and would demand nothing")
         for it in (["solved"], {"solved": True}, {"must": "be Solved"}, [[{"a": [1, "solved"]}]]):

@@ -30,10 +30,10 @@ def environment():
     return {"SAXTEGUN_PROGRAM": str(PROGRAM), **{name: value for name, value in os.environ.items() if name != "CI"}}
 
 
-def run(tool, *words, stdin=b""):
+def run(tool, *words, stdin=b"", cwd=None):
     """Runs a verb of `./saxtegun`, or the tool at a path, with these words."""
     command = [tool] if isinstance(tool, Path) else [TOP / "saxtegun", tool]
-    return Answer(subprocess.run([sys.executable, *command, *map(str, words)], input=stdin, stdout=subprocess.PIPE, stderr=subprocess.PIPE, env=environment()))
+    return Answer(subprocess.run([sys.executable, *command, *map(str, words)], input=stdin, stdout=subprocess.PIPE, stderr=subprocess.PIPE, env=environment(), cwd=cwd))
 
 
 # A crate of one function, which is proved.

@@ -3,8 +3,10 @@ from __future__ import annotations
 
 import importlib
 import sys
+from argparse import Namespace
+from typing import Any, List
 
-from saxtegun.commands import fail, parser, serve
+from saxtegun.commands import Words, fail, parser, serve
 from saxtegun.programs import version_told
 
 VERBS = {
@@ -25,6 +27,8 @@ VERBS = {
     "split": "splits a sessions file into parts",
     "join": "joins the lines of the parts",
 }
+# Stands before a word that would be taken for an option.
+HIDING = "\0"
 # Those whose standard output is a file for other tools.
 OF_DATA = ("lines", "report", "junit", "accept", "source", "testdata", "join")
 
@@ -37,6 +41,24 @@ def overview() -> str:
         f"usage: saxtegun VERB ..\n\n{rows}\n`saxtegun VERB --help` describes a verb, and `saxtegun --version` says what plays. "
         "Exit status: 0 all is well, 1 something differs, 2 there is no answer.\n"
     )
+
+
+def hidden(words: List[str]) -> List[str]:
+    """The words of a verb, in which what stands behind `--` is no option; a word that has been typed holds no such letter."""
+    at = words.index("--") if "--" in words else len(words)
+    return [*words[:at], *(HIDING + it if it.startswith("-") else it for it in words[at + 1 :])]
+
+
+def shown(value: Any) -> Any:
+    """What was read of such words as it stood there."""
+    if isinstance(value, list):
+        return [shown(it) for it in value]
+    return value[len(HIDING) :] if isinstance(value, str) and value.startswith(HIDING) else value
+
+
+def words_read(reader: Words, words: List[str]) -> Namespace:
+    """The words of a verb; argparse loses `--` where options may stand anywhere."""
+    return Namespace(**{name: shown(value) for name, value in vars(reader.parse_intermixed_args(hidden(words))).items()})
 
 
 def main() -> int:
@@ -56,7 +78,7 @@ def main() -> int:
     verb = importlib.import_module(f"saxtegun.verbs.{words[0]}")
     reader = parser(f"saxtegun {words[0]}", f"saxtegun {verb.USAGE}", verb.__doc__ or "")
     verb.add_words(reader)
-    return int(verb.main(reader.parse_intermixed_args(words[1:])))
+    return int(verb.main(words_read(reader, words[1:])))
 
 
 def call() -> None:

@@ -4,6 +4,7 @@ from __future__ import annotations
 import argparse
 import gc
 import os
+import re
 import signal
 import sys
 import traceback
@@ -20,6 +21,9 @@ SMALL = {ord(letter): letter.lower() for letter in "ABCDEFGHIJKLMNOPQRSTUVWXYZ"}
 ORDERS = ("rows", "columns")
 # So many letters of a name or a line of a source are told.
 MOST_LETTERS = 200
+# Behind so many blanks a terminal may begin a new row, where a stranger's words look like a line of ours; these letters show none either.
+BLANKS = re.compile(" {4,}")
+BLANK_LETTERS = frozenset("\u115f\u1160\u2800\u3164\uffa0")
 MOST_WORKERS = 64
 MOST_SECONDS = 1_000_000
 # What ends this process, or its terminal, in a way that it can still tidy up; and in so many seconds it comes again where nobody has heard it.
@@ -33,15 +37,20 @@ def fold(text: str) -> str:
 
 
 def printable(text: str) -> str:
-    """A text of a stranger on a line of a terminal: what isn't printable stands there by its number."""
-    if text.isprintable():
+    """A text of a stranger on a line of a terminal: what isn't printable, or is blank and no space, stands there by its number."""
+    if text.isprintable() and BLANK_LETTERS.isdisjoint(text):
         return text
-    return "".join(letter if letter.isprintable() else f"\\u{{{ord(letter):x}}}" for letter in text)
+    return "".join(letter if letter.isprintable() and letter not in BLANK_LETTERS else f"\\u{{{ord(letter):x}}}" for letter in text)
+
+
+def begin_of(text: str) -> str:
+    """A text of a stranger, or its beginning, where it is long."""
+    return text if len(text) <= MOST_LETTERS else f"{text[:MOST_LETTERS]}.."
 
 
 def cut(text: str) -> str:
-    """A text of a stranger that is read in a line among others: its beginning, where it is long."""
-    return text if len(text) <= MOST_LETTERS else f"{text[:MOST_LETTERS]}.."
+    """A text of a stranger that is read in a line among others: its beginning, where it is long, with the number of blanks where there are many."""
+    return BLANKS.sub(lambda blanks: f"\\u{{20*{len(blanks[0])}}}", begin_of(text))
 
 
 def plural(count: int, word: str, many: str = "") -> str:

@@ -66,6 +66,7 @@ class Game:
         self.definitions: Dict[str, Tuple[str, List[str]]] = dict(reversed([it for it in map(definition_of, EXPLAINING.each(of["legend"])) if it]))
         self.names_left = MOST_NAMES
         self.known_members: Dict[str, List[str]] = {}
+        self.ended_once: Set[str] = set()
         self.known_meanings: Dict[str, str] = {}
         self.known_drawn: Dict[str, FrozenSet[str]] = {}
         self.drawing_names: Dict[str, bool] = {}
@@ -115,7 +116,7 @@ class Game:
         if name not in self.known_members:
             EXPLAINING.look()
             seen: Set[str] = set()
-            self.known_members[name] = self.members_beyond(name, seen) if self.names_left > 0 else []
+            self.known_members[name] = self.members_beyond(name, seen, self.ended_once) if self.names_left > 0 else []
             self.names_left -= len(seen)
         return self.known_members[name]
 
@@ -137,18 +138,26 @@ class Game:
             self.known_drawn[meaning] = frozenset({self.layers.get(it): it for it in self.members(meaning)}.values())
         return self.known_drawn[meaning]
 
-    def members_beyond(self, name: str, seen: Set[str]) -> List[str]:
-        """The objects that a name stands for and that are not reached through names that are seen; those that are gone through are seen then."""
+    def members_beyond(self, name: str, seen: Set[str], ended_once: Optional[Set[str]] = None) -> List[str]:
+        """The objects that a name stands for and that are not reached through names that are seen; those that are gone through are seen then. `ended_once`
+        are names that come to no name twice, and so not to themselves: of these what is known is taken, so that no chain of them is gone through for each."""
         found: Dict[str, bool] = {}
-        left = [name]
+        left, is_once = [name], True
         while left:
             it = left.pop()
-            if it not in seen:
-                seen.add(it)
-                if it in self.first_names:
-                    found[self.first_names[it]] = True
-                elif it in self.definitions:
-                    left += reversed(self.definitions[it][1])
+            if it in seen:
+                is_once = is_once and it in self.first_names
+                continue
+            seen.add(it)
+            if it in self.first_names:
+                found[self.first_names[it]] = True
+            elif ended_once is not None and it in ended_once and self.names_left > 0:
+                found.update(dict.fromkeys(self.known_members[it], True))
+                self.names_left -= len(self.known_members[it])
+            elif it in self.definitions:
+                left += reversed(self.definitions[it][1])
+        if ended_once is not None and is_once:
+            ended_once.add(name)
         return list(found)
 
     def draws(self, name: str) -> bool:

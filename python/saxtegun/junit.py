@@ -18,6 +18,14 @@ def writable(text: str) -> str:
     return UNWRITTEN.sub(lambda letter: f"\\u{{{ord(letter[0]):x}}}", text)
 
 
+def told_apart(run: Run, names: Set[str]) -> str:
+    """The name of a case, which none of these has: one that is there already is told from the first by its number."""
+    name = writable(run.name)
+    while name in names:
+        name += f" (session {run.number})"
+    return name
+
+
 def case_of(run: Run, name: str, entry: Optional[Entry], order: str, refused: str, failure: Optional[str]) -> Tuple[ElementTree.Element, Optional[str]]:
     """The test case of a session, and what it counts as. `failure` is why one that passed counts as failed."""
     sentence, below = told(run, entry, order)
@@ -25,7 +33,7 @@ def case_of(run: Run, name: str, entry: Optional[Entry], order: str, refused: st
     kind = run.close
     if failure and counted is None:
         sentence, counted, kind = failure, "failure", "unsolved"
-    case = ElementTree.Element("testcase", {"classname": "sessions", "name": writable(name)})
+    case = ElementTree.Element("testcase", {"classname": "sessions", "name": name})
     if counted:
         words = {"message": writable(sentence)}
         if counted != "skipped":
@@ -39,9 +47,8 @@ def junit_of(runs: Iterable[Run], name: str, sessions: Optional[Sessions], order
     suite, counts = ElementTree.Element("testsuite"), {"failure": 0, "error": 0, "skipped": 0}
     names: Set[str] = set()
     for run in runs:
-        # a name that is there already is told from the first by its number
-        label = f"{run.name} (session {run.number})" if run.name in names else run.name
-        names.add(run.name)
+        label = told_apart(run, names)
+        names.add(label)
         entry = sessions.entries[run.number] if sessions else None
         case, counted = case_of(run, label, entry, order, refused, (failures or {}).get(run.number))
         suite.append(case)

@@ -9,7 +9,7 @@ from pathlib import Path
 from typing import Any, Callable, Dict, List, Optional, Sequence, Tuple, Union
 
 from saxtegun.budget import EXPLAINING, NOT_LOOKED_AT, UsedUp
-from saxtegun.commands import cut, plural
+from saxtegun.commands import begin_of, plural
 from saxtegun.culprits import repeated_in
 from saxtegun.explaining import Ending, cause_told, culprit_told, ending_told, fault_in, stop_of, written_lines
 from saxtegun.games import Game, game_of
@@ -97,7 +97,7 @@ def source_lines(source: str, cause: str) -> List[List[Any]]:
     if meant is None or not 1 <= meant[0] <= meant[1] <= len(lines):
         return []
     first, last = max(1, meant[0] - NEIGHBOURS), min(len(lines), meant[1] + NEIGHBOURS, meant[0] + MOST_LINES)
-    return [[number, cut(lines[number - 1].rstrip("\r")), meant[0] <= number <= meant[1]] for number in range(first, last + 1)]
+    return [[number, begin_of(lines[number - 1].rstrip("\r")), meant[0] <= number <= meant[1]] for number in range(first, last + 1)]
 
 
 def frames_of(run: Run, labels: Labels) -> List[List[Any]]:

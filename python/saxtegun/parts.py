@@ -27,10 +27,17 @@ def name_in(entry: Any) -> str:
     return entry[0] if isinstance(entry, list) and entry and isinstance(entry[0], str) else ""
 
 
-def manifest_of(parts: List[Part]) -> str:
-    """A line for each part, and at last the number of sessions, so that a manifest that is cut off is told."""
+class Manifest(NamedTuple):
+    """The parts of a suite, and how many of its sessions must be solved."""
+
+    parts: List[Part]
+    demands: int
+
+
+def manifest_of(parts: List[Part], demands: int) -> str:
+    """A line for each part, and at last the number of sessions, so that a manifest that is cut off is told, and of those that must be solved."""
     lines: List[Dict[str, Any]] = [{"first": it.first, "names": it.names} for it in parts]
-    return "".join(json.dumps(it, ensure_ascii=True) + "\n" for it in [*lines, {"sessions": sum(len(it.names) for it in parts)}])
+    return "".join(json.dumps(it, ensure_ascii=True) + "\n" for it in [*lines, {"sessions": sum(len(it.names) for it in parts), "solved": demands}])
 
 
 def value_in(line: str) -> Dict[str, Any]:
@@ -68,15 +75,15 @@ def parts_in(path: str, lines: List[str]) -> List[Part]:
     return parts
 
 
-def read_manifest(folder: str) -> List[Part]:
+def read_manifest(folder: str) -> Manifest:
     path = os.path.join(folder, MANIFEST)
     if not os.path.isdir(folder):
         raise Refused(f"{folder} is no folder")
     if not os.path.exists(path):
         raise Refused(f"{folder} has no parts: {MANIFEST}, which saxtegun split writes, is not there")
     *lines, last = read_text(path).splitlines() or [""]
-    count = number_in(last, "sessions")
-    if count is None:
+    count, demands = number_in(last, "sessions"), number_in(last, "solved")
+    if count is None or demands is None:
         # nobody can tell whether an older one is whole
         raise Refused(f"{path} doesn't end with the number of its sessions: it is cut off, or of an older saxtegun split; split the sessions again")
     parts = parts_in(path, lines)
@@ -85,4 +92,4 @@ def read_manifest(folder: str) -> List[Part]:
         raise Refused(f"{path} names {plural(named, 'session')} where it counts {count}")
     if not parts:
         raise Refused(f"{path} names no part")
-    return parts
+    return Manifest(parts, demands)

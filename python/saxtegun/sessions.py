@@ -157,6 +157,8 @@ def fault_of(entry: Any) -> Optional[str]:
         return "its index is no whole number"
     if any(LONE_SURROGATE.search(it) for it in (entry[0], body[0], body[2])):
         return "a text of it holds half a letter (a lone surrogate)"
+    if any(it == DEMAND or is_nearly_demand(it) for it in body[4:]):
+        return f"its second list holds {DEMAND!r} or nearly that, which would demand nothing there: it stands behind that list"
     return demand_fault(entry[2:])
 
 

@@ -159,6 +159,8 @@ class Shrinking:
 
     def leave_out(self, stage: Stage) -> bool:
         """Leaves out what a stage can; answers whether that made the session smaller."""
+        if self.programs.is_over():
+            return False
         before, (count, without) = self.entry, stage(self.entry)
         trial = stage, before.source, tuple(before.inputs)
         if trial in self.trials:

@@ -1,11 +1,11 @@
 """Whether a session solves its game: `passed` says that its level is as recorded, not that it was won."""
 from __future__ import annotations
 
-from typing import Dict, Optional, Sequence
+from typing import Dict, List, Optional, Sequence
 
 from saxtegun.levelsets import first_level, wins_of
 from saxtegun.lines import Run
-from saxtegun.playing import Engine, runs_of
+from saxtegun.playing import Engine, runs_of, runs_played
 from saxtegun.sessions import Entry, Sessions
 
 SOLVED = "solved"
@@ -24,9 +24,33 @@ def solved_told(entry: Entry, run: Optional[Run]) -> str:
     return f"solved up to level {first_level(entry) + wins - 1}" if wins else "not solved"
 
 
+def with_one_more(entries: Sequence[Entry]) -> List[Entry]:
+    return [it._replace(inputs=[*it.inputs, ONE_MORE]) for it in entries]
+
+
+def no_longer(end: str) -> str:
+    """Why a session fails that passed, and must be solved."""
+    return f"no longer solved: {end}"
+
+
+def unsolved_told(count: int) -> str:
+    """How many sessions passed and must be solved, and aren't, behind the counts of all."""
+    return f", {count} no longer solved" if count else ""
+
+
+def unsolved_among(sessions: Sessions, engine: Engine) -> Dict[int, str]:
+    """Why sessions fail that must be solved as their file says, if they pass; by their numbers. Lines don't show the last win, so they are played."""
+    wanted = [it for it in sessions.entries if it.is_solved_wanted]
+    ends = {it.number: "not played" for it in wanted}
+    played = [it for it in wanted if len(it.inputs) < MOST_INPUTS]
+    for entry, run in zip(played, runs_played(with_one_more(played), sessions, engine) if played else ()):
+        ends[entry.number] = solved_told(entry, run)
+    return {number: no_longer(end) for number, end in ends.items() if end != SOLVED}
+
+
 def solved_of(entries: Sequence[Entry], runs: Sequence[Run], of: Sessions, engine: Engine) -> Dict[int, str]:
     """How each session ended that was played, by its place among these."""
     places = [it for it, run in enumerate(runs) if run.close in ("passed", "differs") and len(entries[it].inputs) < MOST_INPUTS]
-    longer = [entries[it]._replace(inputs=[*entries[it].inputs, ONE_MORE]) for it in places]
+    longer = with_one_more([entries[it] for it in places])
     shown = runs_of(longer, of, engine) if longer else []
     return {place: solved_told(entries[place], run) for place, run in zip(places, shown)}

@@ -89,4 +89,4 @@ def say_untested(verb: str, entries: Iterable[Entry]) -> None:
 
 def say_demands(verb: str, count: int) -> None:
     if count:
-        say(f"{verb}: {plural(count, 'session')} must be solved, and saxtegun test alone looks whether {'it is' if count == 1 else 'they are'}")
+        say(f"{verb}: {plural(count, 'session')} must be solved, which lines don't tell: saxtegun test looks whether {'it is' if count == 1 else 'they are'}")

@@ -5,7 +5,9 @@ SESSIONS is the file that was played, and LINES what the program wrote for it
 that did not pass has a line with its cause; those that one fault of a game
 refuses have one together. Below it stands the line of the source that the cause
 names, or the first cells that differ, with what stands there and what was
-recorded. If the game's letters can draw them, both levels follow.
+recorded. If the game's letters can draw them, both levels follow. A session that
+passed, and isn't solved though its entry demands that, has a line too: those that
+must be solved are played for that, also where LINES are there.
 
 Sessions and frames are counted from 0, as the program does, columns and rows
 from 1. --order must be the order of the lines.
@@ -23,7 +25,8 @@ from saxtegun.files import guard_output
 from saxtegun.lines import UNANSWERED, Run
 from saxtegun.playing import engine_of, lines_or_played
 from saxtegun.sessions import read_sessions
-from saxtegun.texts import over, read_game, say_others, say_untested
+from saxtegun.solving import unsolved_among, unsolved_told
+from saxtegun.texts import over, read_game, say_others
 from saxtegun.ticks import ticks_told
 
 USAGE = "explain SESSIONS [LINES] [--game GAME.txt] [--order rows|columns]"
@@ -56,13 +59,18 @@ def main(given: Namespace) -> int:
     game = read_game(given.game)
     sessions = over(read_sessions(given.sessions), game)
     say_others("explain", sessions, game)
-    say_untested("explain", sessions.entries)
+    engine = engine_of(given)
     closes: List[str] = []
+    count = 0
     told_of: Dict[Tuple[object, ...], Told] = {}
-    with lines_or_played(sessions, given.lines, engine_of(given)) as runs:
+    unsolved = unsolved_among(sessions, engine)
+    with lines_or_played(sessions, given.lines, engine) as runs:
         for run in runs:
             closes.append(run.close)
-            if run.close != "passed":
+            if run.close == "passed" and run.number in unsolved:
+                count += 1
+                told_of[(run.number,)] = Told(run, unsolved[run.number], [], [])
+            elif run.close != "passed":
                 entry = sessions.entries[run.number]
                 # one fault of a game is one, however many sessions it refuses
                 key: Tuple[object, ...] = (entry.source, run.cause) if run.close == "refused" else (run.number,)
@@ -71,5 +79,5 @@ def main(given: Namespace) -> int:
                 else:
                     told_of[key] = Told(run, *told(run, entry, given.order, given.game or ""), [])
     lines = [line for it in told_of.values() for line in it.lines()]
-    sys.stdout.write("\n".join([*lines, summary(closes) + ticks_told()]) + "\n")
+    sys.stdout.write("\n".join([*lines, summary(closes) + unsolved_told(count) + ticks_told()]) + "\n")
     return 2 if UNANSWERED in closes else 0

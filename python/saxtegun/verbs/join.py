@@ -20,6 +20,7 @@ from saxtegun.commands import Refused, cut, plural
 from saxtegun.files import guard_output
 from saxtegun.lines import Run, told_in
 from saxtegun.parts import Part, read_manifest
+from saxtegun.texts import say_demands
 
 USAGE = "join FOLDER >lines"
 # What saxtegun split names so, and all lines.
@@ -60,9 +61,10 @@ def joined_part(folder: str, part: Part) -> bool:
 
 
 def main(given: Namespace) -> int:
-    parts = read_manifest(given.folder)
+    parts, demands = read_manifest(given.folder)
     known = {it.file(ending) for it in parts for ending in ("json", "lines")}
     for name in sorted(os.listdir(given.folder)):
         if OF_A_PART.fullmatch(name) and name not in known:
             raise Refused(f"{os.path.join(given.folder, name)} is of no part")
+    say_demands("join", demands)
     return 0 if all([joined_part(given.folder, it) for it in parts]) else 1

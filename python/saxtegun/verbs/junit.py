@@ -3,7 +3,8 @@
 Each session is a test case. `differs` and `stopped` are failures. `refused` is
 an error, or with --refused skipped a skipped test. With SESSIONS, the file that
 was played, each has the words of `saxtegun explain`; and it shows that the
-lines are whole, which they can't show themselves.
+lines are whole, which they can't show themselves. Sessions that must be solved
+are then played, and are failures if they aren't.
 
 Exit status: 0, or 2 if a file is refused."""
 from __future__ import annotations
@@ -14,11 +15,13 @@ from itertools import chain
 from pathlib import Path
 
 from saxtegun.belonging import Tests, read_runs
-from saxtegun.commands import Refused, add_game, add_order
+from saxtegun.commands import Refused, add_game, add_playing, add_ticks
 from saxtegun.files import guard_output
 from saxtegun.junit import junit_of
+from saxtegun.playing import engine_of
 from saxtegun.sessions import read_sessions
-from saxtegun.texts import over, read_game, say_others, say_untested
+from saxtegun.solving import unsolved_among
+from saxtegun.texts import over, read_game, say_others
 
 USAGE = "junit [SESSIONS] LINES [--game GAME.txt] [--order rows|columns] [--refused error|skipped] >junit.xml"
 
@@ -26,7 +29,8 @@ USAGE = "junit [SESSIONS] LINES [--game GAME.txt] [--order rows|columns] [--refu
 def add_words(words: ArgumentParser) -> None:
     words.add_argument("files", metavar="[SESSIONS] LINES", nargs="+")
     add_game(words)
-    add_order(words)
+    add_playing(words)
+    add_ticks(words)
     words.add_argument("--refused", choices=("error", "skipped"), default="error")
 
 
@@ -38,10 +42,10 @@ def main(given: Namespace) -> int:
     sessions = over(read_sessions(given.files[0]), game) if len(given.files) == 2 else None
     if sessions:
         say_others("junit", sessions, game)
-        say_untested("junit", sessions.entries)
     runs = read_runs(given.files[-1], sessions, Tests(order=given.order))
     first = next(runs, None)
     if first is None:
         raise Refused(f"{given.files[-1]} closes no session, so nothing was played")
-    sys.stdout.write(junit_of(chain([first], runs), Path(given.files[0]).name, sessions, given.order, given.refused))
+    unsolved = unsolved_among(sessions, engine_of(given)) if sessions else {}
+    sys.stdout.write(junit_of(chain([first], runs), Path(given.files[0]).name, sessions, given.order, given.refused, unsolved))
     return 0

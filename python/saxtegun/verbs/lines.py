@@ -168,7 +168,7 @@ def main(given: Namespace) -> int:
         return play_over(given)
     path = given.sessions
     data = data_of(path)
-    if b'"solved"' in data:
+    if b'"solved"' in data or b"\\u" in data:
         say_untested("lines", entries_of(path, data))
     sys.stdout.flush()
     ran, closed = play_data(path, data, given)

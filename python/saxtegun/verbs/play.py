@@ -39,6 +39,8 @@ from saxtegun.terminal import CLEAR, KEYS, Screen, fitted, lettered, screen_now
 
 USAGE = "play GAME.txt [--level N] [--save NAME SESSIONS.json] [--letters]"
 FULL = "save in another file"
+# What ends a process that doesn't hear it.
+ENDS = ("SIGINT", "SIGTERM", "SIGHUP", "SIGQUIT", "SIGUSR1", "SIGUSR2", "SIGALRM", "SIGVTALRM", "SIGPROF", "SIGXCPU")
 HELP = "arrows move, x acts, z undoes, r restarts, t ticks, q ends"
 
 
@@ -175,8 +177,8 @@ def interrupt(number: int, frame: Any) -> NoReturn:
 
 
 def on_signals(handler: Any) -> None:
-    """What Ctrl-C, Ctrl-\\ and a window that is closed do."""
-    for name in ("SIGINT", "SIGTERM", "SIGHUP", "SIGQUIT"):
+    """What Ctrl-C, Ctrl-\\, a window that is closed, and whatever else would end this do."""
+    for name in ENDS:
         if hasattr(signal, name):
             signal.signal(getattr(signal, name), handler)
 

@@ -4,7 +4,8 @@ what was recorded.
 SESSIONS is the file that was played, and LINES what the program wrote for it
 (`-`: standard input). Without LINES the sessions are played now, and one that
 hangs is played further, to find out where. --order must be the order of the
-lines. The page opens from the disk in any browser, and needs no network. The
+lines. Sessions that must be solved are played in any case, and fail if they
+aren't. The page opens from the disk in any browser, and needs no network. The
 same files give the same page; only --date puts a date there.
 
 Exit status: 0, or 2 if a file is refused, or with --timeout some session had no
@@ -23,7 +24,8 @@ from saxtegun.origins import add_date, origin_of, program_told
 from saxtegun.pages import Report
 from saxtegun.playing import engine_of, lines_or_played
 from saxtegun.sessions import read_sessions
-from saxtegun.texts import over, read_game, say_others, say_untested
+from saxtegun.solving import unsolved_among
+from saxtegun.texts import over, read_game, say_others
 
 USAGE = "report SESSIONS [LINES] [--game GAME.txt] [--order rows|columns] >report.html"
 
@@ -42,14 +44,14 @@ def main(given: Namespace) -> int:
     game = read_game(given.game)
     sessions = over(read_sessions(given.sessions), game)
     say_others("report", sessions, game)
-    say_untested("report", sessions.entries)
     engine = engine_of(given)
+    unsolved = unsolved_among(sessions, engine)
     with lines_or_played(sessions, given.lines, engine) as runs:
         played = f"Lines: {Path(given.lines).name}" if given.lines else program_told(engine.words())
         report = Report(sessions, given.order, origin_of(sessions, given, played), *([] if given.lines else [Finder(sessions, engine)]))
         late = False
         for run in runs:
-            report.add(run)
+            report.add(run, unsolved.get(run.number))
             late = late or run.close == UNANSWERED
     sys.stdout.write(report.page())
     return 2 if late else 0

@@ -5,8 +5,8 @@ FOLDER must not be there yet. Each part is a sessions file, FOLDER/NUMBER.json,
 where NUMBER is that of its first session in SESSIONS. The parts have about
 equally many inputs, so that they end together. Entries are copied letter by
 letter, so the program judges them as in SESSIONS. FOLDER/parts.txt says what
-belongs together. SESSIONS may be larger than a file that the program takes; a
-part must not be.
+belongs together, and how many sessions must be solved. SESSIONS may be larger
+than a file that the program takes; a part must not be.
 
 Exit status: 0, or 2 if SESSIONS is no list or a part would be too large."""
 from __future__ import annotations
@@ -133,7 +133,7 @@ def write_parts(count: int, entries: Entries, folder: str) -> None:
                 file.write(data_of(entries, first, behind))
             parts.append(part)
         with open(os.path.join(room, MANIFEST), "w", encoding="ascii", newline="\n") as manifest:
-            manifest.write(manifest_of(parts))
+            manifest.write(manifest_of(parts, entries.demands))
         os.rename(room, folder)
     finally:
         shutil.rmtree(room, ignore_errors=True)

@@ -42,7 +42,7 @@ from saxtegun.origins import add_date, origin_of, program_told
 from saxtegun.pages import Report
 from saxtegun.playing import engine_of, runs_of
 from saxtegun.sessions import Entry, Sessions, fits, read_sessions, unfitting
-from saxtegun.solving import SOLVED, solved_of
+from saxtegun.solving import SOLVED, no_longer, solved_of, unsolved_told
 from saxtegun.telling import Failure, annotation, markdown, once
 from saxtegun.texts import GameText, of_another_text, over, read_game, remark
 from saxtegun.ticks import forget, ticks_told
@@ -164,7 +164,7 @@ def unsolved_in(suite: Suite, patterns: List[str]) -> Dict[int, str]:
     """Why sessions fail that passed, and must be solved."""
     wanted = [it for it in suite.sessions.entries if must_be_solved(it, patterns)]
     ends = {it.number: suite.solved.get(it.number, "not played") for it in wanted}
-    return {number: f"no longer solved: {end}" for number, end in ends.items() if end != SOLVED and suite.runs[number].close == "passed"}
+    return {number: no_longer(end) for number, end in ends.items() if end != SOLVED and suite.runs[number].close == "passed"}
 
 
 def failures_of(suite: Suite, though_passed: Dict[int, str], given: Namespace, hung: Finder) -> List[Failure]:
@@ -205,7 +205,7 @@ def tell(suite: Suite, failures: List[Failure], unsolved: Dict[int, str], given:
     if len(failures) > most:
         show(f"and {plural(len(failures) - most, 'more failure')}")
     ends = Counter("solved" if it == SOLVED else "not solved" if it == "not solved" else "solved in part" for it in suite.solved.values())
-    counts = summary(it.close for it in suite.runs) + (f", {len(unsolved)} no longer solved" if unsolved else "")
+    counts = summary(it.close for it in suite.runs) + unsolved_told(len(unsolved))
     counts += f", {len(suite.elsewhere)} only over its own text" if suite.elsewhere else ""
     counts += f"; {', '.join(f'{ends[it]} {it}' for it in ('solved', 'solved in part', 'not solved'))}"
     counts += ticks_told()
