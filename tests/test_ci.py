@@ -261,10 +261,19 @@ class InACi(unittest.TestCase):
         self.act(runner, sessions="", sha256=self.sum)
         (runner.work / "closes.expected").touch()
         status, out, errors = runner.run({"run": commands})
-        self.assertEqual((status, errors), (1, ""))
-        self.assertIn("+a recording that has gone stale\tdiffers\t\n", out)
+        self.assertEqual(status, 1)
+        self.assertIn('["a recording that has gone stale","differs",null]\n', (runner.work / "closes").read_text())
         shutil.copy(runner.work / "closes", runner.work / "closes.expected")
         self.assertEqual(runner.run({"run": commands}), (0, "", ""))
+        # names that would be commands, or move a cursor: of what changes, and of what stands beside it
+        names = ["::error file=README.md,line=1::forged", "x ##[error]forged", "\x1b]0;owned\x07\x9b2J", "##vso[task.complete]"]
+        entries = json.loads((runner.work / "sessions.json").read_text(encoding="utf-8"))
+        named = [[name, entry[1]] for name, entry in zip([*names, "last"], entries)]
+        (runner.work / "sessions.json").write_text(json.dumps(named), encoding="utf-8")
+        status, out, errors = runner.run({"run": commands})
+        self.assertEqual((status, out), (1, "closes.expected closes differ: byte 3, line 1\n"))
+        closes = (runner.work / "closes").read_bytes()
+        self.assertEqual((errors, closes.decode("ascii").replace("\n", "").isprintable(), closes.count(b"\n")), ("", True, 5))
 
     def test_the_commands_that_play_parts_give_the_bytes_of_one_run(self):
         runner = self.runner()
@@ -280,9 +289,14 @@ class InACi(unittest.TestCase):
         for name in ("game.txt", "recordings.json"):
             shutil.copy(TOP / "examples/day" / name, runner.work)
         commands = next(it for it in commands_of_page() if "--game" in it)
-        self.assertEqual(runner.run({"run": commands}), (0, "", ""))
+        self.assertEqual(runner.run({"run": commands}), (1, "", ""))
         self.assertEqual((runner.work / "lines").read_text(encoding="utf-8"), (TOP / "examples/day.lines").read_text(encoding="utf-8"))
         self.assertIn("a recording that has gone stale", (runner.work / "report.html").read_text(encoding="utf-8"))
+        # and where all pass the status is that
+        recordings = runner.work / "recordings.json"
+        recordings.write_text(json.dumps(json.loads(recordings.read_text(encoding="utf-8"))[:4]), encoding="utf-8")
+        shutil.rmtree(runner.work / "parts")
+        self.assertEqual(runner.run({"run": commands}), (0, "", ""))
 
     def gitlab_job(self):
         return next(it["replay"] for it in files_of_page() if "script" in it.get("replay", {}))
