@@ -19,7 +19,7 @@ class WithSource(OnSessions):
         self.game = self.write("game.txt", 'title "B" \u00e4\r\n')
 
     def test_only_the_source_is_another(self):
-        answer = run("source", self.game, self.write("odd.json", ODD))
+        answer = run("source", self.game, self.write("odd.json", ODD), "--all")
         new = '"title \\"B\\" \u00e4\\r\\n"'
         self.assertEqual((answer.status, answer.out), (0, ODD.replace('"one"', new).replace('"two"', new)))
         self.assertIn("2 sessions got another source, of 2", answer.errors)
@@ -35,8 +35,24 @@ class WithSource(OnSessions):
     def test_sessions_of_several_games_do_not_get_one_source(self):
         entries = [["one", ["title One\n", [], ""]], ["two", ["title Two\n", [], ""]]]
         sessions = self.write("games.json", json.dumps(entries))
-        self.assert_refused(run("source", self.game, sessions), "the sessions are of 2 games")
+        self.assert_refused(run("source", self.game, sessions), f"the sessions and {self.game} are of 3 games, by their titles")
         self.assertIn("2 sessions got another source", run("source", self.game, sessions, "--all").errors)
+
+    def test_the_text_of_another_game_stays(self):
+        """Its title is another, or it has none, so that nobody knows."""
+        for text, why in (("title A wholly different game\n", "are of 2 games, by their titles"), ("OBJECTS\n", "a text that would go has no title")):
+            sessions = self.write("games.json", json.dumps([["follows", ["", [], ""]], ["other", [text, [], ""]]]))
+            before = sessions.read_bytes()
+            for words in (("--follow",), ()):
+                self.assert_refused(run("source", self.game, sessions, "--in-place", *words), why)
+                self.assertEqual(sessions.read_bytes(), before)
+            self.assertEqual(run("source", self.game, sessions, "--in-place", "--follow", "--only", "other").status, 0)
+            self.assertNotEqual(sessions.read_bytes(), before)
+
+    def test_what_has_the_title_of_the_game_gets_its_text(self):
+        sessions = self.write("games.json", json.dumps([["follows", ["", [], ""]], ["older", ['TITLE  "B" \u00e4\nOBJECTS\n', [], ""]]]))
+        self.assertEqual(run("source", self.game, sessions, "--in-place", "--follow").status, 0)
+        self.assertEqual([it[1][0] for it in json.loads(sessions.read_text(encoding="utf-8"))], ["", ""])
 
     def test_a_game_that_is_not_utf_8_is_refused_with_its_line(self):
         self.game.write_bytes(b"title A\nOBJECTS \xff\n")

@@ -11,7 +11,8 @@ from day import OnSessions
 from test_test import RULE, OfAGame
 from tool import TOP, environment, plays, run
 from saxtegun.commands import cut
-from saxtegun.sessions import fault_of, is_nearly_demand
+from saxtegun.sessions import Entry, fault_of, is_nearly_demand
+from saxtegun.texts import GameText, remedy
 
 STUCK = "[ > Player | Crate ] -> [ Player | Crate ]"
 
@@ -30,6 +31,22 @@ class OfTwoTexts(OfAGame):
 
     def remedy(self, path, it="it"):
         return f"`saxtegun source {self.game} {path} --follow --in-place` makes {it} follow {self.game}\n"
+
+
+class Remedies(unittest.TestCase):
+    def remedy(self, *sources, game="title A\n"):
+        return remedy("s.json", [Entry(it, "a", text, [], "", 0, {}, False) for it, text in enumerate(sources)], GameText("game.txt", game))
+
+    def test_no_call_is_proposed_that_takes_the_text_of_another_game_away(self):
+        call = "`saxtegun source game.txt s.json --follow --in-place`"
+        self.assertEqual(self.remedy("title A\n\n", "title A\nrun\n"), f"{call} makes them follow game.txt")
+        self.assertEqual(self.remedy("title B\n"), "by its title it is of another game")
+        self.assertEqual(self.remedy("title B\n", "title C\n"), "by their titles they are of other games")
+        alone = f"not all have its title: with --only NAME behind it {call} makes one follow that is of game.txt"
+        self.assertEqual(self.remedy("title A\n\n", "title B\n"), alone)
+        for texts in (("run\n",), ("run\n", "title B\n")):
+            self.assertEqual(self.remedy(*texts), alone)
+        self.assertEqual(self.remedy("run\n", game="walk\n"), alone.replace("not all have its title", "not all have a title"))
 
 
 @plays

@@ -49,6 +49,10 @@ class Block(NamedTuple):
     rows: List[str]
 
 
+# What a game is called that has no title.
+UNTITLED = "a game"
+
+
 class Game:
     """How a game looks. `notes` tells what is drawn otherwise than the game draws it."""
 
@@ -56,7 +60,7 @@ class Game:
         lines = lines_of(source)
         of = {section: [line.text for line in lines if line.section == section] for section in ("prelude", "objects", "legend", "collisionlayers")}
         self.notes: List[str] = []
-        self.title = "a game"
+        self.title = UNTITLED
         self.ground = PALETTE["black"]
         # by an input the word that switches it off: the site takes no such key, so no recording has it
         self.switches: Dict[Union[int, str], str] = {}
@@ -240,6 +244,17 @@ def definition_of(line: str) -> Optional[Tuple[str, Tuple[str, List[str]]]]:
     if joint not in ("and", "or") or any(it != joint for it in right[1::2]):
         return None
     return fold(left[0]), (joint, right[::2])
+
+
+@lru_cache(maxsize=64)
+def title_of(source: str) -> str:
+    """The title of a game, read without the rest of it."""
+    found = UNTITLED
+    for line in lines_of(source):
+        keyword, value = (*SPACE.split(line.text, 1), "")[:2]
+        if line.section == "prelude" and fold(keyword) == "title":
+            found = cut(trimmed(value))
+    return found
 
 
 @lru_cache(maxsize=64)

@@ -7,6 +7,7 @@ from typing import Iterable, List, NamedTuple, Optional, Sequence
 
 from saxtegun.commands import Refused, cut, plural, say
 from saxtegun.files import MARK, read_text
+from saxtegun.games import UNTITLED, title_of
 from saxtegun.sessions import Entry, Sessions
 from saxtegun.sources import WHITE
 
@@ -66,12 +67,22 @@ def names_told(entries: Sequence[Entry]) -> str:
     return f"{names}, .." if len(entries) > NAMES_TOLD else names
 
 
+def remedy(path: str, others: Sequence[Entry], game: GameText) -> str:
+    """What makes sessions follow the text at hand that have one of their own. None is proposed that would take another game's text away."""
+    title, titles = title_of(game.source), {title_of(it.source) for it in others}
+    call = f"`saxtegun source {quote(game.path)} {quote(path)} --follow --in-place"
+    if titles == {title} != {UNTITLED}:
+        return f"{call}` makes {'it' if len(others) == 1 else 'them'} follow {game.path}"
+    if title in titles or UNTITLED in titles:
+        return f"not all have {'a' if title == UNTITLED else 'its'} title: with --only NAME behind it {call}` makes one follow that is of {game.path}"
+    return "by its title it is of another game" if len(others) == 1 else "by their titles they are of other games"
+
+
 def remark(path: str, others: Sequence[Entry], game: GameText) -> str:
     """That sessions have a text of their own which isn't the one at hand, and what makes them follow it."""
     has = "has" if len(others) == 1 else "have"
-    it = "it" if len(others) == 1 else "them"
     what = f"{path}: {plural(len(others), 'session')} {has} another text than {game.path} ({names_told(others)})"
-    return f"{what}; `saxtegun source {quote(game.path)} {quote(path)} --follow --in-place` makes {it} follow {game.path}"
+    return f"{what}; {remedy(path, others, game)}"
 
 
 def say_others(verb: str, sessions: Sessions, game: Optional[GameText]) -> List[Entry]:

@@ -8,17 +8,18 @@ follow each edit. With --in-place the new file replaces SESSIONS once it is
 whole.
 
 Exit status: 0, or 2 if a file is refused or --only fits no session. It is also
-2 if sessions of different games would get this source: name those of the game
-with --only, or say --all."""
+2 if texts of other games would be replaced, by their titles, or texts without
+one: name the sessions of GAME.txt with --only, or say --all."""
 from __future__ import annotations
 
 import sys
 from argparse import ArgumentParser, Namespace
+from typing import Sequence
 
 from saxtegun.commands import Refused, plural, say
-from saxtegun.games import game_of
 from saxtegun.files import guard_output, guard_places, write_again
-from saxtegun.sessions import changed, chosen, guard_size, read_sessions
+from saxtegun.games import UNTITLED, title_of
+from saxtegun.sessions import Entry, changed, chosen, guard_size, read_sessions
 from saxtegun.texts import read_named
 
 USAGE = "source GAME.txt SESSIONS [--follow] [--only PATTERN..] [--all] [--in-place] [>NEW]"
@@ -35,6 +36,16 @@ def add_words(words: ArgumentParser) -> None:
     words.add_argument("--all", action="store_true", help="also where they are of different games, by their titles")
 
 
+def check_titles(entries: Sequence[Entry], text: str, given: Namespace) -> None:
+    """Refuses where a text would be taken away that may be another game's: titles alone tell which game it is of."""
+    titles = {title_of(it.source) for it in entries if it.source}
+    if UNTITLED in titles:
+        raise Refused(f"a text that would go has no title, so nothing tells that it is of {given.game}: name the sessions of that with --only, or say --all")
+    games = titles | {title_of(text)}
+    if titles and len(games) > 1:
+        raise Refused(f"the sessions and {given.game} are of {len(games)} games, by their titles: name those of {given.game} with --only, or say --all")
+
+
 def main(given: Namespace) -> int:
     if given.in_place and given.sessions == "-":
         raise Refused("--in-place needs a file, and standard input is none")
@@ -44,9 +55,8 @@ def main(given: Namespace) -> int:
     text, sessions = read_named(given.game).source, read_sessions(given.sessions)
     source = "" if given.follow else text
     entries = [it for it in chosen(sessions, given.only) if it.source != source]
-    titles = {game_of(it.source).title for it in entries if it.source}
-    if len(titles) > 1 and not given.all and not given.only:
-        raise Refused(f"the sessions are of {len(titles)} games, by their titles: name those of {given.game} with --only, or say --all")
+    if not given.all and not given.only:
+        check_titles(entries, text, given)
     new = changed(sessions, {it.number: ("source", source) for it in entries})
     if given.in_place:
         guard_size(given.sessions, new, len(sessions.entries), LARGE)
