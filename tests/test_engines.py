@@ -115,6 +115,37 @@ class Compare(OnEngines):
         self.assertEqual(answer.status, 1)
         self.assertIn("one wrote a line before its first frame that is none of its session: ", answer.out)
 
+    def saying(self, name, data):
+        """An engine that writes this."""
+        self.write(f"{name}.lines", "").write_bytes(data)
+        path = self.write(name, f"#!/bin/sh\ncat '{self.room}/{name}.lines'\n")
+        path.chmod(0o755)
+        return path
+
+    def test_two_engines_that_played_nothing_are_not_the_same(self):
+        sessions = self.sessions([3], [1, 3])
+        lines = "".join(f'{{"close":"passed","frames":0,"name":"session of {it + 1}","session":{it}}}\n' for it in range(2)).encode()
+        one, other = self.saying("one", lines), self.saying("other", lines)
+        answer = run("compare", "--engines", one, other, sessions)
+        self.assertEqual((answer.status, answer.out.splitlines()[-1]), (1, "2 sessions: 0 the same, 2 diverge"))
+        self.assertIn("one wrote a line before its first frame that is none of its session: ", answer.out)
+        old = self.write("old.txt", SOURCE)
+        self.assert_refused(run("compare", "--sources", old, old, sessions, "--program", one), "no close of a session of 0 frames")
+        path = self.room / "one.lines"
+        self.assert_refused(run("compare", path, path), "no close of a session of 0 frames")
+        for words in ((), ("--game", old)):
+            answer = run("lines", sessions, "--program", one, *words)
+            self.assertEqual((answer.status, answer.out.encode()), (2, lines))
+            self.assertIn("2 sessions that the program closes as played have no frame", answer.errors)
+
+    def test_levels_that_are_not_utf_8_are_not_the_same(self):
+        sessions = self.sessions([3])
+        text = '{"at":0,"frame":0,"kind":"start","level":"caf%s:0,","session":0}\n{"close":"differs","frames":1,"name":"session of 1","session":0}\n'
+        one, other = (self.saying(name, (text % letter).encode("latin-1")) for name, letter in (("one", "\xe8"), ("other", "\xe9")))
+        answer = run("compare", "--engines", one, other, sessions)
+        self.assertEqual((answer.status, answer.out.splitlines()[-1]), (1, "1 session: 0 the same, 1 diverges"))
+        self.assertIn("one wrote a line before its first frame that is none of its session: ", answer.out)
+
     def compare(self, other, *words):
         return run("compare", "--engines", self.engine("none"), other, self.room / "sessions.json", *words)
 
@@ -291,6 +322,20 @@ class Lines(unittest.TestCase):
         for line in ("debug\n", "[]\n", "\n", {**START, "session": 1}, {**START, "frame": 4}, {**START, "at": 2, "frame": 1}, {**CLOSE, "name": "b"}, {**CLOSE, "frames": 7}):
             [run], failed = self.read(START, line, CLOSE)
             self.assertEqual((run.close, run.cause, len(run.frames), failed), ("stray", line.strip() if isinstance(line, str) else json.dumps(line), 1, None))
+
+    def test_a_close_without_a_frame_is_none_of_a_session_that_was_played(self):
+        for close in ("passed", "differs"):
+            line = {**CLOSE, "close": close, "frames": 0}
+            runs, failed = self.read(line)
+            self.assertEqual((runs, failed.close, failed.cause), ([], "stray", json.dumps(line)))
+        [run], failed = self.read({**CLOSE, "close": "refused", "cause": "Missing:0", "frames": 0})
+        self.assertEqual((run.close, failed), ("refused", None))
+
+    def test_a_number_of_a_frame_that_is_none_is_a_fault(self):
+        for number in (False, 0.0, "0", None):
+            line = {**START, "frame": number}
+            [run], _ = self.read(line, START, CLOSE)
+            self.assertEqual((run.close, run.cause), ("stray", json.dumps(line)))
 
     def test_a_line_behind_the_last_close_is_a_fault_of_the_last_session(self):
         [run], failed = self.read(START, CLOSE, "bye\n")

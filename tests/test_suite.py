@@ -57,7 +57,7 @@ class Suite(InARoom):
     def test_a_name_is_told_cut(self):
         names = ["a" * 300, "b" * 300]
         self.assertEqual(self.split(1, json.dumps([[names[0], ["OBJECTS", [], ""]]])).status, 0)
-        (self.parts / "00000000.lines").write_text(json.dumps({"close": "passed", "frames": 0, "name": names[1], "session": 0}, separators=(",", ":")) + "\n", encoding="utf-8")
+        (self.parts / "00000000.lines").write_text(json.dumps({"cause": "Missing:0", "close": "refused", "frames": 0, "name": names[1], "session": 0}, separators=(",", ":")) + "\n", encoding="utf-8")
         answer = run("join", self.parts)
         self.assertEqual((answer.status, answer.out), (2, ""))
         self.assertIn(f"closes '{'b' * 200}..', where '{'a' * 200}..' is wanted", answer.errors)
@@ -154,7 +154,7 @@ class Suite(InARoom):
 
     def test_the_lines_of_another_part_are_reported(self):
         self.split_and_play(SUITES[0], 9)
-        self.files()[0].with_suffix(".lines").write_text('{"close":"passed","frames":0,"name":"","session":1}\n')
+        self.files()[0].with_suffix(".lines").write_text('{"cause":"Missing:0","close":"refused","frames":0,"name":"","session":1}\n')
         self.assert_refused(run("join", self.parts), "line 1: session 1 where session 0 is wanted")
 
     def test_what_is_no_line_of_the_program_in_its_place_is_reported(self):

@@ -11,7 +11,7 @@ from typing import IO, Any, Iterator, List, NamedTuple, Optional, Sequence, Tupl
 from saxtegun.budget import EXPLAINING, NOT_LOOKED_AT
 from saxtegun.commands import Refused, cut
 from saxtegun.explaining import input_told
-from saxtegun.lines import UNANSWERED, Frame, Run, close_of, frame_of, line_of, may_follow, written_frame
+from saxtegun.lines import UNANSWERED, Frame, Run, close_of, frame_of, is_count, line_of, may_follow, written_frame
 from saxtegun.playing import Engine, batches
 from saxtegun.programs import stages_words
 from saxtegun.running import PATIENCE, Said, Unanswered, check_bounds, end, room_for_now, started, time_left, wait_a_while, written_to
@@ -24,7 +24,7 @@ CRASHED, STRAY = "crashed", "stray"
 FAILED = (CRASHED, STRAY, UNANSWERED)
 # So many seconds a session has where nothing else is said.
 SECONDS = 10.0
-# So many lines that are none are read for a session, and so many letters of a line: an engine in a loop writes more than is read soon.
+# So many lines that are none are read for a session, and so many bytes of a line: an engine in a loop writes more than is read soon.
 MOST_STRAY = 1000
 MOST_OF_LINE = 2**30
 # So many lines that an engine says of itself are kept, and so many sessions are played first; then twice as many as long as that is quick.
@@ -113,8 +113,21 @@ class Reader:
             self.runs.append(self.run_of(run))
             self.frames, self.stray, self.count = [], None, 0
         else:
-            self.stray = self.stray or (text.rstrip("\n"), len(self.frames))
-            self.count += 1
+            self.note(text)
+
+    def take_data(self, data: bytes) -> None:
+        """Takes a line as it was written. One that isn't UTF-8 is none: two that differ in such bytes alone would be read as the same."""
+        try:
+            text = data.decode("utf-8")
+        except UnicodeDecodeError:
+            self.note(data.decode("utf-8", "replace"))
+        else:
+            self.take(text)
+
+    def note(self, text: str) -> None:
+        """Keeps a line that is none as the fault of its session, if it is the first."""
+        self.stray = self.stray or (text.rstrip("\n"), len(self.frames))
+        self.count += 1
 
     def is_next(self, frame: Frame, number: int) -> bool:
         """Whether a frame may be the next of a session."""
@@ -129,7 +142,7 @@ class Reader:
         if line["session"] != number:
             return None, None
         if "close" not in line:
-            return frame_of(line) if line.get("frame") == len(self.frames) else None, None
+            return frame_of(line) if is_count(line.get("frame"), len(self.frames)) else None, None
         run = close_of(line, self.frames)
         return None, run if run is not None and run.name == self.entries[number].name else None
 
@@ -167,10 +180,10 @@ def asked(entries: Sequence[Entry], engine: Engine) -> Answer:
             file.write(b"[" + b",".join(next(batches(entries))) + b"]")
         with open(lines, "wb") as output:
             ended = call([*engine.words(), path], output, engine.seconds)
-        with open(lines, encoding="utf-8", errors="replace", newline="\n") as shown:
-            for text in iter(lambda: shown.readline(MOST_OF_LINE), ""):
-                if text.endswith("\n") or ended.is_good:
-                    reader.take(text)
+        with open(lines, "rb") as shown:
+            for data in iter(lambda: shown.readline(MOST_OF_LINE), b""):
+                if data.endswith(b"\n") or ended.is_good:
+                    reader.take_data(data)
                 if reader.is_lost:
                     break
     failed = reader.end(ended, engine.seconds)

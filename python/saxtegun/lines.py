@@ -15,6 +15,8 @@ KINDS = ("start", "move", "undo", "restart", "load", "tick", "over")
 BEFORE_OVER = ("move", "tick", "over")
 READER = json.JSONDecoder()
 CLOSES = ("passed", "differs", "stopped", "refused")
+# How a session is closed that was played to its end.
+PLAYED = ("passed", "differs")
 # How a session is closed that the command has stopped, since it had no answer in its time. No program writes that.
 UNANSWERED = "unanswered"
 # How each line of the program ends.
@@ -116,6 +118,9 @@ def closed_by(line: Dict[str, Any], count: int) -> Optional[Run]:
     if line["close"] not in CLOSES or not isinstance(name, str) or not (cause is None or isinstance(cause, str)):
         return None
     if not is_count(line.get("frames"), count) or (cause is None) == (line["close"] in ("stopped", "refused")):
+        return None
+    if count == 0 and line["close"] in PLAYED:
+        # whoever played it has shown its start
         return None
     return Run(line["session"], name, line["close"], cause, [])
 

@@ -23,6 +23,7 @@ from typing import List, NamedTuple, Optional, Sequence, Tuple
 
 from saxtegun.commands import Refused, add_game, add_playing, add_ticks, plural
 from saxtegun.files import NoFile, TooLong, guard_output, read_bytes
+from saxtegun.lines import PLAYED
 from saxtegun.playing import engine_of, lines_within, refusal
 from saxtegun.running import Beside, Ran, watched
 from saxtegun.sessions import MOST_BYTES, Entry, read_sessions, sessions_in
@@ -34,15 +35,18 @@ BLOCK = 1 << 16
 END = re.compile(rb'"session":([0-9]{1,9})}\n\Z')
 MOST_OF_AN_END = 40
 # How the line of a close begins, and that of one that passed, each behind the line before.
-CLOSE, PASSED = b'\n{"c', b'\n{"close":"passed",'
+CLOSE, PASSED = b'\n{"c', b'\n{"close":"passed","frames":'
+# And how one begins of a session that was played to its end, though it shows no frame.
+SHOWS_NOTHING = tuple(b'\n{"close":"%s","frames":0,' % it.encode() for it in PLAYED)
 
 
 class Closed(NamedTuple):
-    """What lines close: up to which session, how many, and how many of these passed."""
+    """What lines close: up to which session, how many, how many of these passed, and how many of them that were played show nothing."""
 
     last: int
     closes: int
     passed: int
+    unshown: int
 
     def is_whole(self, count: int) -> bool:
         """Whether these are the closes of so many sessions."""
@@ -96,6 +100,8 @@ def check_closed(path: str, count: int, closed: Closed) -> None:
     if not closed.is_whole(count):
         raise Refused(f"{told_of(path)} was not played whole: the program closed {plural(closed.closes, 'session')} of {count}"
                       + (f", and the last line is no close of session {count - 1}" if closed.last != count else ""))
+    if closed.unshown:
+        raise Refused(f"{told_of(path)} was not played: {plural(closed.unshown, 'session')} that the program closes as played {'has' if closed.unshown == 1 else 'have'} no frame")
 
 
 def write_all(output: int, data: bytes) -> None:
@@ -110,14 +116,15 @@ def more_of(begin: bytes, end: bytes, block: bytes) -> int:
 
 def hand_on(source: int, output: int) -> Closed:
     """Hands on what comes; what it closes. It goes past our own streams: whoever reads may keep this waiting for ever, and then it must not keep them."""
-    end, count, passed = b"\n", 0, 0
+    end, count, passed, unshown = b"\n", 0, 0, 0
     with open(source, "rb", buffering=0) as lines:
         for block in iter(lambda: lines.read(BLOCK), b""):
             write_all(output, block)
             count, passed = count + more_of(CLOSE, end, block), passed + more_of(PASSED, end, block)
+            unshown += sum(more_of(it, end, block) for it in SHOWS_NOTHING)
             end = (end + block)[-MOST_OF_AN_END:]
     found = END.search(end)
-    return Closed(int(found[1]) + 1 if found else 0, count, passed)
+    return Closed(int(found[1]) + 1 if found else 0, count, passed, unshown)
 
 
 def play(words: List[str], stdin: Optional[int], seconds: Optional[float]) -> Tuple[Ran, Closed]:
@@ -152,12 +159,14 @@ def play_over(given: Namespace) -> int:
     sessions = over(read_sessions(given.sessions), game)
     say_others("lines", sessions, game)
     say_untested("lines", sessions.entries)
-    count, passed, last = 0, 0, ""
+    count, passed, unshown, last = 0, 0, 0, ""
+    close, success, *shows_nothing = (it[1:].decode() for it in (CLOSE, PASSED, *SHOWS_NOTHING))
     for last in lines_within(sessions.entries, sessions, engine_of(given)):
-        count, passed = count + last.startswith('{"c'), passed + last.startswith('{"close":"passed",')
+        count, passed = count + last.startswith(close), passed + last.startswith(success)
+        unshown += last.startswith(tuple(shows_nothing))
         sys.stdout.write(last)
     found = END.search(last.encode())
-    closed = Closed(int(found[1]) + 1 if found else 0, count, passed)
+    closed = Closed(int(found[1]) + 1 if found else 0, count, passed, unshown)
     check_closed(given.sessions, len(sessions.entries), closed)
     return 0 if passed == count else 1
 
