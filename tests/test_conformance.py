@@ -4,6 +4,8 @@ import subprocess
 import sys
 import unittest
 from fnmatch import fnmatchcase
+from pathlib import Path
+from time import monotonic, sleep
 from xml.etree import ElementTree
 
 from test_guarding import is_command
@@ -73,6 +75,41 @@ class Runner(InARoom):
         status, out, _ = self.ran("--limit", "1", "--jobs", "8", "--only", "undo-*", "--only", "walk-two*", "--only", "movement-*", program)
         self.assertEqual((status, out.count("not answered in 1 s")), (1, 2))
         self.assertIn("1 passed, 3 failed\n", out)
+
+    def test_no_line_of_an_engine_ends_the_suite(self):
+        """Lists in lists, a session below 0, a number of too many digits, half a letter: the case fails, and the others are told."""
+        [movement] = CASES.glob("movement-goes-column-by-column")
+        (self.room / "good").write_bytes((movement / "stdout").read_bytes())
+        (self.room / "wanted").write_bytes((CASES / UNDO / "stdout").read_bytes())
+        surrogate = (CASES / UNDO / "stdout").read_text(encoding="utf-8").replace("background player", "\\ud800", 1)
+        for line in ("[" * 100_000, '{"session":-500}', '{"session":-500,"level":"a:0,"}', f'{{"session":{"9" * 5_000}}}', '{"session":true,"level":[[]]}', surrogate.rstrip()):
+            (self.room / "line").write_text(f"{line}\n", encoding="utf-8")
+            for order in ("cat '{0}/line' '{0}/wanted'", "cat '{0}/wanted' '{0}/line'"):
+                program = self.program(f"if grep -q undo; then {order.format(self.room)}; else cat '{self.room}/good'; fi")
+                status, out, errors = self.ran("--only", UNDO, "--only", movement.name, "--junit", self.room / "x.xml", program)
+                with self.subTest(line[:20], order=order):
+                    self.assertEqual((status, errors, out.splitlines()[-1]), (1, "", "1 passed, 1 failed"))
+                    self.assertEqual(len(ElementTree.parse(self.room / "x.xml").getroot()), 2)
+
+    def test_what_writes_without_an_end_is_stopped(self):
+        """Soon, and no more of it is read than tells that: of one that writes on, and of one that wrote too much and ended."""
+        for script in ("exec yes", "exec yes >&2", "head -c 5000000 /dev/zero"):
+            begin = monotonic()
+            status, out, errors = self.ran("--limit", "60", "--only", UNDO, self.program(script))
+            self.assertEqual((status, errors), (1, ""))
+            self.assertRegex(out, f"^case {UNDO} \\.\\.\\. stopped: it wrote more than 10[0-9]{{5}} bytes\n")
+            self.assertLess(monotonic() - begin, 30)
+
+    def test_what_an_engine_leaves_behind_ends_with_it(self):
+        program = self.answers(UNDO, str)
+        program.write_text(f"{program.read_text()}\nsleep 1000 >&- 2>&- & echo $! >'{self.room}/left'\n")
+        self.assertEqual(self.ran("--only", UNDO, program)[0], 0)
+        number = int((self.room / "left").read_text())
+        state = Path(f"/proc/{number}/stat")
+        until = monotonic() + 10
+        while state.exists() and ") Z " not in state.read_text() and monotonic() < until:
+            sleep(0.05)
+        self.assertFalse(state.exists() and ") Z " not in state.read_text())
 
     def test_a_junit_file_has_each_case(self):
         self.ran("--junit", self.room / "x.xml", "--only", UNDO, "--only", "movement-*", self.answers(UNDO, str))
