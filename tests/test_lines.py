@@ -2,7 +2,9 @@
 import json
 import random
 import subprocess
+import sys
 import unittest
+from time import monotonic
 
 from day import EXAMPLE, OnSessions
 from tool import PROGRAM, TOP, plays, run
@@ -34,6 +36,26 @@ class Lines(OnSessions):
         self.assert_refused(answer, "block-pushing.json was not played: the recorded level of session 4 (a recording that has gone stale) is no level text (bad-level 4)")
         self.assert_refused(run("lines", "--program", program, stdin=b"[]"), "standard input was not played: the recorded level of session 4 is no level text")
         self.assert_refused(run("lines", EXAMPLE, "--program", self.program("kill -9 $$")), "was not played: nothing is told")
+
+    def test_what_an_ended_program_has_left_behind_is_not_waited_for(self):
+        """It holds the pipe from a session of its own, in which nobody ends it, and may write into it without an end."""
+        holds = "os.setsid(); time.sleep(20)"
+        writes = "os.setsid(); end = time.monotonic() + 20\n    while time.monotonic() < end: os.write(1, b'x' * 1000)"
+        for act, status in ((holds, 1), (writes, 2)):
+            program = self.write("program", f"#!{sys.executable}\nimport os, sys, time\nsys.stdout.write(open({str(self.lines)!r}).read())\nsys.stdout.flush()\nif os.fork() == 0:\n    {act}\n    os._exit(0)\nos._exit(1)\n")
+            program.chmod(0o755)
+            for words in ((), ("--timeout", "10")):
+                begin = monotonic()
+                answer = run("lines", EXAMPLE, "--program", program, *words)
+                self.assertLess(monotonic() - begin, 10)
+                self.assertEqual((answer.status, answer.out.startswith(self.lines.read_text(encoding="utf-8"))), (status, True))
+
+    def test_a_program_that_hangs_and_leaves_something_behind_is_stopped_in_its_time(self):
+        program = self.write("program", f"#!{sys.executable}\nimport os, time\nif os.fork() == 0: os.setsid()\ntime.sleep(20)\n")
+        program.chmod(0o755)
+        begin = monotonic()
+        self.assert_refused(run("lines", EXAMPLE, "--program", program, "--timeout", "1"), "not answered in 1 s")
+        self.assertLess(monotonic() - begin, 10)
 
     def test_what_is_said_while_building_is_handed_on(self):
         answer = run("lines", EXAMPLE, "--program", self.program('echo "proving a; 1 left" >&2\necho "memory" >&2\nexit 2'))

@@ -314,6 +314,24 @@ class Done(unittest.TestCase):
                     ran = subprocess.run([sys.executable, "-B", str(command), "lines", "--help"], cwd=folder, stdin=subprocess.DEVNULL, capture_output=True)
                     self.assertEqual((ran.returncode, ran.stderr), (0, b""))
 
+    def test_a_relative_entry_of_pythonpath_names_no_module_of_it(self):
+        """Those that Python itself reads as it begins aside: nobody is asked before."""
+        with tempfile.TemporaryDirectory() as name:
+            away = Path(name)
+            (away / "below").mkdir()
+            known = subprocess.run([sys.executable, "-c", "import sys; print(*sys.modules)"], stdout=subprocess.PIPE, check=True).stdout.decode().split()
+            for module in {"argparse", "gc", "json", "select", "signal", "subprocess", "tempfile", "traceback"} - {*known}:
+                for folder in (away, away / "below"):
+                    (folder / f"{module}.py").write_text("raise SystemExit('a stranger was run')\n")
+            for path in (":/none", "/none:", ".", "below", "./below:/none", f"/none:{os.pardir}/{away.name}", ""):
+                with self.subTest(path):
+                    env = {**os.environ, "PYTHONPATH": path}
+                    ran = subprocess.run([sys.executable, "-B", str(TOP / "saxtegun"), "lines", "--help"], cwd=away, env=env, stdin=subprocess.DEVNULL, capture_output=True)
+                    self.assertEqual((ran.returncode, ran.stderr), (0, b""))
+            # where it is called among Python's own modules these stay there
+            ran = subprocess.run([sys.executable, "-B", str(TOP / "saxtegun"), "lines", "--help"], cwd=os.path.dirname(os.__file__), env={**os.environ, "PYTHONPATH": ":/none"}, capture_output=True)
+            self.assertEqual((ran.returncode, ran.stderr), (0, b""))
+
     def test_who_presses_ctrl_c_behind_another_signal_sees_it_end_by_that(self):
         for number in (signal.SIGTERM, signal.SIGHUP):
             with self.subTest(number):

@@ -16,21 +16,25 @@ from __future__ import annotations
 import json
 import os
 import re
+import select
 import sys
 import tempfile
 from argparse import ArgumentParser, Namespace
-from typing import List, NamedTuple, Optional, Sequence, Tuple
+from threading import Event
+from typing import Iterator, List, NamedTuple, Optional, Sequence, Tuple
 
 from saxtegun.commands import Refused, add_game, add_playing, add_ticks, plural
 from saxtegun.files import NoFile, TooLong, guard_output, read_bytes
 from saxtegun.lines import PLAYED
 from saxtegun.playing import engine_of, lines_within, refusal
-from saxtegun.running import Beside, Ran, watched
+from saxtegun.running import PAUSE, Beside, Ran, watched
 from saxtegun.sessions import MOST_BYTES, Entry, read_sessions, sessions_in
 from saxtegun.texts import over, read_game, say_others, say_untested
 
 USAGE = "lines [SESSIONS] [--game GAME.txt] [--order rows|columns] [--workers N] >lines"
 BLOCK = 1 << 16
+# So many bytes a pipe holds at most.
+MOST_IN_A_PIPE = 1 << 20
 # The end of a line, which says of which session it is.
 END = re.compile(rb'"session":([0-9]{1,9})}\n\Z')
 MOST_OF_AN_END = 40
@@ -114,11 +118,25 @@ def more_of(begin: bytes, end: bytes, block: bytes) -> int:
     return (end[max(0, len(end) + 1 - len(begin)) :] + block).count(begin)
 
 
-def hand_on(source: int, output: int) -> Closed:
+def blocks_in(source: int, ended: Event) -> Iterator[bytes]:
+    """What comes through a pipe until it is closed, or until the program has ended: what that has left behind may hold the pipe for ever, and write into it."""
+    left = MOST_IN_A_PIPE
+    while left > 0:
+        is_over = ended.is_set()
+        is_there = bool(select.select([source], [], [], PAUSE)[0])
+        block = os.read(source, BLOCK) if is_there else b""
+        if not block and (is_there or is_over):
+            return
+        left -= len(block) if is_over else 0
+        if block:
+            yield block
+
+
+def hand_on(source: int, output: int, ended: Event) -> Closed:
     """Hands on what comes; what it closes. It goes past our own streams: whoever reads may keep this waiting for ever, and then it must not keep them."""
     end, count, passed, unshown = b"\n", 0, 0, 0
     with open(source, "rb", buffering=0) as lines:
-        for block in iter(lambda: lines.read(BLOCK), b""):
+        for block in blocks_in(lines.fileno(), ended):
             write_all(output, block)
             count, passed = count + more_of(CLOSE, end, block), passed + more_of(PASSED, end, block)
             unshown += sum(more_of(it, end, block) for it in SHOWS_NOTHING)
@@ -131,10 +149,14 @@ def play(words: List[str], stdin: Optional[int], seconds: Optional[float]) -> Tu
     """Runs a program, and hands its lines on; how it ended, and what they close."""
     source, output = os.pipe()
     sys.stdout.flush()
-    beside = Beside(lambda: hand_on(source, sys.stdout.fileno()))
+    ended = Event()
+    beside = Beside(lambda: hand_on(source, sys.stdout.fileno(), ended))
     try:
-        with open(output, "wb") as lines:
-            ran = watched(words, lines, stdin, seconds)
+        try:
+            with open(output, "wb") as lines:
+                ran = watched(words, lines, stdin, seconds)
+        finally:
+            ended.set()
     except Refused:
         # what was written before is handed on
         beside.join()
