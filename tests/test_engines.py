@@ -1,5 +1,6 @@
 """`saxtegun compare --engines` and `saxtegun shrink` with an engine that crashes, hangs, or writes a line of its own: each is told, with the session and the input."""
 import contextlib
+import hashlib
 import io
 import json
 import sys
@@ -137,6 +138,14 @@ class Compare(OnEngines):
             answer = run("lines", sessions, "--program", one, *words)
             self.assertEqual((answer.status, answer.out.encode()), (2, lines))
             self.assertIn("2 sessions that the program closes as played have no frame", answer.errors)
+
+    def test_our_own_engine_is_told_where_it_is_one_that_was_named(self):
+        sessions, ours = self.sessions([3]), self.engine("none")
+        with unittest.mock.patch.dict("os.environ", {"SAXTEGUN_PROGRAM": str(ours)}):
+            answer = run("compare", "--engines", "saxtegun", ours, sessions)
+        digest = hashlib.sha256(ours.read_bytes()).hexdigest()[:16]
+        self.assertEqual((answer.status, answer.errors), (0, f"compare: saxtegun is {ours}, which SAXTEGUN_PROGRAM names (SHA-256 {digest})\n"))
+        self.assertEqual(self.compare(ours).errors, "")
 
     def test_levels_that_are_not_utf_8_are_not_the_same(self):
         sessions = self.sessions([3])

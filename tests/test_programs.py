@@ -202,6 +202,11 @@ class Released(InAFreshClone):
         self.assertEqual((status in (0, 1), [it["name"] for it in closes]), (True, [it[0] for it in json.loads(EXAMPLE.read_text(encoding="utf-8"))]))
         self.assertRegex(errors, r"^saxtegun: no program is built here; the module of Saxtegun \S+, commit [0-9a-f]{12}, plays in Node \S+\n$")
 
+    def test_a_report_names_the_module_that_decides_its_frames(self):
+        status, out, _ = self.called("report", EXAMPLE)
+        module = (TOP / "released/saxtegun.wasm").read_bytes()
+        self.assertEqual((status, f"Played by saxtegun.wasm (SHA-256 {hashlib.sha256(module).hexdigest()[:16]}), order columns." in out), (0, True))
+
     def another(self):
         """Another folder of the functions that play in Node, whose own module is none."""
         other = self.room / "other"

@@ -7,6 +7,7 @@ from pathlib import Path
 from typing import List
 
 from saxtegun.commands import cut, plural
+from saxtegun.programs import file_that_plays
 from saxtegun.sessions import Sessions
 
 VERSION = Path(__file__).resolve().parents[2] / "VERSION"
@@ -32,5 +33,5 @@ def origin_of(sessions: Sessions, given: Namespace, played: str) -> List[str]:
 
 def program_told(words: List[str]) -> str:
     """A program by its name and its content."""
-    path = Path(words[0])
+    path = file_that_plays(words)
     return f"Played by {path.name} (SHA-256 {digest_of(path.read_bytes())})" if path.is_file() else f"Played by {path.name}"

@@ -132,14 +132,21 @@ def choose() -> List[str]:
     return it.words
 
 
+def file_that_plays(words: Sequence[str]) -> Path:
+    """The file that decides what is shown where a program is called so: the module where that plays in Node, and the program where ./replay calls it."""
+    if environment_of(words) is not None:
+        return RELEASED / MODULE
+    return BUILT if words[0] == str(BUILDS) and BUILT.is_file() else Path(words[0])
+
+
 def version_told() -> str:
     """The version of this command, and what plays: its file and the sum of that."""
     lines = [f"saxtegun {VERSION.read_text(encoding='utf-8').strip() if VERSION.is_file() else 'of no version'}"]
     try:
         path = named_program(None)
         it = Player([path], f"the program plays that {'SAXTEGUN_PROGRAM names' if os.environ.get('SAXTEGUN_PROGRAM') else 'came with it'}") if path else player()
-        file = path or (BUILT if it.words[0] == str(BUILDS) else RELEASED / MODULE)
-        lines += [it.told, f"{hashlib.sha256(Path(file).read_bytes()).hexdigest()}  {file}"]
+        file = file_that_plays(it.words)
+        lines += [it.told, f"{hashlib.sha256(file.read_bytes()).hexdigest()}  {file}"]
     except Refused as why:
         lines.append(f"nothing plays: {why}")
     return "".join(f"{printable(it)}\n" for it in lines)

@@ -4,7 +4,8 @@ input, which cells, and both levels.
     saxtegun compare ONE.lines OTHER.lines [SESSIONS]
         compares two files of lines; SESSIONS lets it name inputs and draw levels
     saxtegun compare --engines P Q SESSIONS
-        plays two programs that have our command line; `saxtegun` is our own
+        plays two programs that have our command line; `saxtegun` is our own, or
+        the one that SAXTEGUN_PROGRAM names, which is then said
     saxtegun compare --engines P Q --stages S T SESSIONS
         names also the first stage at which they part, and its rule: S and T tell
         the stages of P and Q as docs/sessions.md has them; `saxtegun` is our own
@@ -22,6 +23,7 @@ no session to compare, or with --sources some session had no answer in the time
 that --timeout names."""
 from __future__ import annotations
 
+import os
 import sys
 from argparse import ArgumentParser, Namespace
 from itertools import zip_longest
@@ -30,16 +32,17 @@ from typing import Iterator, List, NamedTuple, Optional, Sequence, Tuple
 
 from saxtegun.acting import Text
 from saxtegun.belonging import NAMES_ALONE, OF_ANY_ENGINE, read_runs
-from saxtegun.commands import Refused, add_playing, cut, plural, printable
-from saxtegun.engines import FAILED, SECONDS, answers, engine_at, failure_told, tellers_of, with_frames
+from saxtegun.commands import Refused, add_playing, cut, plural, printable, say
+from saxtegun.engines import FAILED, OURS, SECONDS, answers, engine_at, failure_told, tellers_of, with_frames
 from saxtegun.explaining import cause_told
 from saxtegun.files import guard_files, guard_output, guard_places, write_whole
 from saxtegun.leading import Side, stage_parting
 from saxtegun.lines import UNANSWERED, Run
-from saxtegun.origins import add_date, origin_of
+from saxtegun.origins import add_date, digest_of, origin_of
 from saxtegun.pages import Report, comparison
 from saxtegun.parting import Parting, below_of, parting_of, sentence_of
 from saxtegun.playing import Engine, engine_of, runs_played
+from saxtegun.programs import named_program
 from saxtegun.sessions import Entry, Sessions, read_sessions
 from saxtegun.texts import read_named, say_others
 
@@ -77,6 +80,13 @@ def pairs_of(one: Iterator[Run], other: Iterator[Run], paths: Sequence[str]) -> 
         yield left, right
 
 
+def say_ours(paths: Sequence[str]) -> None:
+    """Says which program the word for our own engine stands for, where that is one that was named: it may be any."""
+    if OURS in paths and os.environ.get("SAXTEGUN_PROGRAM"):
+        path = Path(named_program(None))
+        say(f"compare: {OURS} is {path}, which SAXTEGUN_PROGRAM names (SHA-256 {digest_of(path.read_bytes())})")
+
+
 class Sides(NamedTuple):
     """The runs to compare, in pairs; the sessions that they are of, where these are known; and the engines that play them, where two are named."""
 
@@ -103,6 +113,7 @@ def sides_of(given: Namespace) -> Sides:
     engine = engine_of(given)._replace(tests=OF_ANY_ENGINE, may_build=False)
     if given.engines:
         engines = [engine_at(it, engine._replace(seconds=given.timeout or SECONDS)) for it in given.engines]
+        say_ours(given.engines)
         one, other = (answers(sessions.entries, it) for it in engines)
         return Sides(sessions, pairs_of(one, other, given.engines), engines)
     say_others("compare", sessions, read_named(given.sources[1]))
