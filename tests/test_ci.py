@@ -295,8 +295,12 @@ class InACi(unittest.TestCase):
         # and where all pass the status is that
         recordings = runner.work / "recordings.json"
         recordings.write_text(json.dumps(json.loads(recordings.read_text(encoding="utf-8"))[:4]), encoding="utf-8")
-        shutil.rmtree(runner.work / "parts")
         self.assertEqual(runner.run({"run": commands}), (0, "", ""))
+        # lines of that run stand there no more where the next ends early
+        self.assertTrue((runner.work / "parts/00000000.lines").exists())
+        (runner.work / "game.txt").write_text("")
+        self.assertNotEqual(runner.run({"run": commands})[0], 0)
+        self.assertEqual([it for it in (runner.work / "parts").glob("*.lines") if it.stat().st_size], [])
 
     def gitlab_job(self):
         return next(it["replay"] for it in files_of_page() if "script" in it.get("replay", {}))

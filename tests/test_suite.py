@@ -72,12 +72,48 @@ class Suite(InARoom):
                     self.assertEqual(joined.out, whole)
                     self.assertEqual(joined.status, int((CASES / name / "status").read_text()))
 
+    def split_a_day(self, parts, count=5):
+        """Splits recordings of a day, and puts their lines there; these, of which the last differs."""
+        recordings = json.loads((TOP / "examples/day/recordings.json").read_text(encoding="utf-8"))[:count]
+        whole = part_lines((TOP / "examples/day.lines").read_text(encoding="utf-8"), 0, count)
+        self.assertEqual(self.split(parts, json.dumps(recordings)).status, 0)
+        self.play(whole)
+        return whole
+
     def test_the_status_is_0_where_all_sessions_passed(self):
-        self.split_and_play(SUITES[0], 9)
-        for file in self.files():
-            lines = file.with_suffix(".lines")
-            lines.write_text(re.sub('"cause":"[^"]*",|"close":"\\w+"', lambda it: '"close":"passed"' if "close" in it[0] else "", lines.read_text()))
-        self.assertEqual(run("join", self.parts).status, 0)
+        whole = self.split_a_day(2, 4)
+        answer = run("join", self.parts)
+        self.assertEqual((answer.status, answer.out, answer.errors), (0, whole, ""))
+
+    def test_lines_of_other_sessions_of_the_same_names_are_reported(self):
+        """Of another part, of one that was played before its sessions were others, and of what nobody played."""
+        [[_, body]] = json.loads((TOP / "examples/day/recordings.json").read_text(encoding="utf-8"))[:1]
+        line = (TOP / "examples/day.lines").read_text(encoding="utf-8").splitlines()
+        shown = part_lines("\n".join(line) + "\n", 0, 1)
+        name = json.loads(shown.splitlines()[-1])["name"]
+        played = [name, body]
+        for entries, lines, what in (
+            ([played, [name, [body[0], body[1], "other:0,\n"]]], (shown, shown), "00000001.lines, line "),
+            ([played, [name, [body[0], [*body[1], 0], body[2]]]], (shown, shown), "shows nothing of input"),
+            ([played, played], (shown, f'{{"close":"passed","frames":0,"name":{json.dumps(name)},"session":0}}\n'), "line 1: no close of a session of 0 frames"),
+        ):
+            with self.subTest(what):
+                self.parts = self.room / what
+                self.assertEqual(self.split(2, json.dumps(entries)).status, 0)
+                for file, text in zip(self.files(), lines):
+                    file.with_suffix(".lines").write_text(text, encoding="utf-8")
+                self.assert_refused(run("join", self.parts), what)
+
+    def test_a_part_with_other_sessions_than_it_was_split_into_is_reported(self):
+        self.split_a_day(2)
+        file = self.files()[1]
+        text = file.read_text(encoding="utf-8")
+        file.unlink()
+        self.assert_refused(run("join", self.parts), f"{file.name} is missing")
+        file.write_text(self.files()[0].read_text(encoding="utf-8"), encoding="utf-8")
+        self.assert_refused(run("join", self.parts), f"{file.name} has other sessions than parts.txt names: split the sessions again")
+        file.write_text(text, encoding="utf-8")
+        self.assertEqual(run("join", self.parts).status, 1)
 
     def test_parts_are_consecutive(self):
         entries = json.loads((CASES / SUITES[0] / "input.json").read_text())
@@ -159,9 +195,8 @@ class Suite(InARoom):
 
     def test_what_is_no_line_of_the_program_in_its_place_is_reported(self):
         """Lines of a part are torn, doubled, swapped or lost, and numbers are written in other digits than the program's."""
-        whole = (TOP / "examples/day.lines").read_text(encoding="utf-8")
-        names = [json.loads(it)["name"] for it in whole.splitlines() if it.startswith('{"close"')]
-        self.assertEqual(self.split(1, json.dumps([[it, ["", [], ""]] for it in names])).status, 0)
+        whole = self.split_a_day(1)
+        names = range(5)
         file = self.parts / "00000000.lines"
         file.write_text(whole, encoding="utf-8")
         self.assertEqual((run("join", self.parts).out, run("join", self.parts).status), (whole, 1))

@@ -3,23 +3,29 @@ its number in the whole file.
 
 Each part FOLDER/NUMBER.json needs its lines, FOLDER/NUMBER.lines, as the
 program wrote them. The output is what the program writes for the whole file.
+Over which text of a game they were played, lines don't tell: remove those of a
+run before.
 
 Exit status, as the program's: 0 every session passed, 1 some did not. It is 2,
 with a line on standard error, if a part has no lines, if one of them is no
-line of the program in its place, if its sessions aren't closed under the names
-of FOLDER/parts.txt, if that is cut off, or if a part is there that it doesn't
-know. What was written before is then no whole output."""
+line of the program in its place, if they don't show the inputs of its sessions
+or aren't closed as those are, under their names, if FOLDER/parts.txt is cut
+off, or if a part is there that it doesn't know. What was written before is then
+no whole output."""
 from __future__ import annotations
 
 import os
 import re
 import sys
 from argparse import ArgumentParser, Namespace
+from typing import List
 
+from saxtegun.belonging import ALL_BUT_ORDER, mismatch
 from saxtegun.commands import Refused, cut, plural
 from saxtegun.files import guard_output
-from saxtegun.lines import Run, told_in
-from saxtegun.parts import Part, read_manifest
+from saxtegun.lines import Frame, Run, told_in
+from saxtegun.parts import MANIFEST, Part, read_manifest
+from saxtegun.sessions import Sessions, read_sessions
 from saxtegun.texts import say_demands
 
 USAGE = "join FOLDER >lines"
@@ -39,20 +45,42 @@ def check_close(place: str, run: Run, part: Part) -> None:
         raise Refused(f"{place} closes {cut(run.name)!r}, where {told} is wanted: these are lines of another part")
 
 
+def sessions_of(folder: str, part: Part) -> Sessions:
+    """The sessions of a part, against which its lines are held. Refused where they aren't those that it was split into."""
+    path = os.path.join(folder, part.file("json"))
+    if not os.path.exists(path):
+        raise Refused(f"{path} is missing")
+    sessions = read_sessions(path)
+    if [it.name for it in sessions.entries] != part.names:
+        raise Refused(f"{path} has other sessions than {MANIFEST} names: split the sessions again")
+    return sessions
+
+
+def check_run(place: str, run: Run, sessions: Sessions) -> None:
+    """Refuses a session whose frames and close aren't those of its entry: names alone say nothing of what was played."""
+    fault = mismatch(sessions, run, ALL_BUT_ORDER)
+    if fault:
+        raise Refused(f"{place} {fault}: these are lines of other sessions than {sessions.path} has")
+
+
 def joined_part(folder: str, part: Part) -> bool:
     """Writes the lines of a part; answers whether all its sessions passed."""
     lines = os.path.join(folder, part.file("lines"))
     if not os.path.exists(lines):
         raise Refused(f"{lines} is missing")
     guard_output(lines)
-    closed, passed = 0, True
+    sessions, closed, passed = sessions_of(folder, part), 0, True
+    frames: List[Frame] = []
     for number, line, it in told_in(lines):
         end = f',"session":{closed}}}\n'
         if not line.endswith(end):
             raise Refused(f"{lines}, line {number}, doesn't end as a line of session {closed}")
         if isinstance(it, Run):
             check_close(f"{lines}, line {number},", it, part)
-            passed = passed and it.close == "passed"
+            check_run(f"{lines}, line {number}:", it._replace(frames=frames), sessions)
+            passed, frames = passed and it.close == "passed", []
+        else:
+            frames.append(it)
         sys.stdout.write(f'{line[:-len(end)]},"session":{part.first + closed}}}\n')
         closed += isinstance(it, Run)
     if closed != len(part.names):
