@@ -89,6 +89,14 @@ class DayOfCommits(InAGitFolder):
         self.assertLess(len(found), 10)
 
 
+class UsedUpWithin(unittest.TestCase):
+    def test_where_the_time_ends_in_the_midst_what_is_known_is_told(self):
+        """As the committed text is read, to be played without its clock."""
+        sessions = sessions_in("x", json.dumps([["a", ["title x\n" * 1_000, [], ""]]] * 2))
+        with mock.patch.object(committed.EXPLAINING, "left", -1.0), committed.EXPLAINING.spent():
+            self.assertEqual(committed.parted([(it, it) for it in sessions.entries], [], sessions, Engine(has_ticks=True)), [])
+
+
 class Hostile(InAGitFolder):
     def hacks(self, name):
         """A program that leaves a trace, and the trace."""

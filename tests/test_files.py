@@ -9,6 +9,7 @@ import sys
 import unittest
 import unittest.mock
 from contextlib import redirect_stdout
+from time import sleep
 
 from day import EXAMPLE, OnSessions
 from tool import TOP, environment, run
@@ -87,7 +88,7 @@ class Sizes(OnSessions):
         limit = f"{full} would have {size:,} bytes, and a sessions file has at most 16,777,216: nothing is written; "
         for words, told in (
             (("add", full, console, "--program", program), f"{limit}add them to another file, or name the game by --game, whose text isn't copied"),
-            (("source", game, full, "--in-place"), "bytes, and a sessions file has at most 16,777,216: nothing is written; with --follow they need no copies of the text"),
+            (("source", game, full, "--in-place", "--all"), "bytes, and a sessions file has at most 16,777,216: nothing is written; with --follow they need no copies of the text"),
         ):
             with self.subTest(words[0]):
                 self.assert_refused(run(*words), told)
@@ -186,6 +187,31 @@ class Changes(OnSessions):
                 write_again(str(path), was, "three")
         self.assertEqual(read_text(str(path)), "two")
         self.assertEqual(sorted(it.name for it in self.room.iterdir() if it.name.startswith(".saxtegun")), [])
+
+    def test_a_pipe_that_nobody_reads_is_not_waited_for(self):
+        program, pipe = self.write("program", PLAYER), self.room / "pipe"
+        program.chmod(0o755)
+        os.mkfifo(pipe)
+        words = [sys.executable, TOP / "saxtegun", "test", self.write("s.json", f"[{ENTRY % (0, 0)}]"), "--program", program, "--junit", pipe]
+        ran = subprocess.run(words, stdin=subprocess.DEVNULL, stdout=subprocess.PIPE, stderr=subprocess.PIPE, env=environment(), timeout=20, check=False)
+        self.assertEqual((ran.returncode, ran.stderr.decode()), (2, f"saxtegun test: {pipe} can't be written: nobody reads this pipe\n"))
+        with subprocess.Popen(["cat", pipe], stdout=subprocess.PIPE) as reader:
+            # it waits for who writes, and counts as a reader then
+            sleep(0.5)
+            ran = subprocess.run(words, stdin=subprocess.DEVNULL, stdout=subprocess.PIPE, stderr=subprocess.PIPE, env=environment(), timeout=20, check=False)
+            self.assertEqual((ran.returncode, ran.stderr), (0, b""))
+            self.assertIn(b"<testsuite", reader.stdout.read())
+
+    def test_a_file_of_the_system_that_has_nothing_yet_is_refused(self):
+        """As /proc/kmsg is to root: nothing comes, and it is no end."""
+        path = self.write("kmsg", "")
+        file = unittest.mock.MagicMock()
+        file.__enter__.return_value = file
+        file.read.return_value = None
+        with open(path, "rb") as real, unittest.mock.patch.object(files, "opened", lambda it: file):
+            file.fileno.return_value = real.fileno()
+            with self.assertRaisesRegex(Refused, "kmsg can't be read: it has no content yet"):
+                read_text(str(path))
 
     def test_what_this_tells_is_not_written_over(self):
         for word in ("--markdown", "--junit", "--report"):

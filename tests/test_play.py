@@ -13,11 +13,12 @@ import termios
 import time
 import unittest
 from random import Random
+from unittest import mock
 
 from test_test import OfAGame
 from tool import TOP, environment, plays, run
 from saxtegun.games import Game
-from saxtegun.terminal import CLEAR, Depth, Screen, codes_of, depth_of, fitted, lettered, marked, painted, pixels_of
+from saxtegun.terminal import CLEAR, Depth, Screen, codes_of, depth_of, fitted, lettered, marked, painted, pixels_of, screen_now
 
 START = "####..\n#.O#..\n#..###\n#@P..#\n#..*.#\n#..###\n####..\n"
 ENDS = (signal.SIGINT, signal.SIGTERM, signal.SIGHUP, signal.SIGUSR1, signal.SIGUSR2, signal.SIGALRM, signal.SIGXCPU)
@@ -215,6 +216,12 @@ class Terminal(OfAGame):
             self.assertEqual(codes_of(colour, Depth.NUMBERED), (f"38;5;{number}", f"48;5;{number}"))
         for colour, codes in (("#000000", ("30", "40")), ("#cd0000", ("31", "41")), ("#ff0000", ("91", "101")), ("#ffffff", ("97", "107"))):
             self.assertEqual(codes_of(colour, Depth.FIRST), codes)
+
+    def test_a_terminal_that_does_not_know_its_size_has_one(self):
+        for told, size in (((0, 0), (80, 24)), ((0, 24), (80, 24)), ((100, 0), (80, 24)), ((100, 30), (100, 30))):
+            with mock.patch("os.get_terminal_size", lambda number: os.terminal_size(told)), mock.patch("sys.stdout") as output, mock.patch.dict(os.environ, {"TERM": "xterm"}):
+                output.isatty.return_value = True
+                self.assertEqual(screen_now()[:2], size)
 
     def test_the_environment_says_how_many_colours_there_are(self):
         for told, depth in (({}, Depth.FIRST), ({"TERM": "xterm"}, Depth.FIRST), ({"TERM": "screen-256color"}, Depth.NUMBERED), ({"TERM": "xterm-direct"}, Depth.ALL),

@@ -6,6 +6,7 @@ import unittest
 
 from day import EXAMPLE, OnSessions, case, lines_of_example
 from tool import PROGRAM, TOP, plays, run
+from saxtegun.sessions import chosen, sessions_in
 
 PULLED = "[ < Player | Crate ] -> [ < Player | < Crate ]"
 PUSHED = "[ > Player | Crate ] -> [ > Player | > Crate ]"
@@ -60,6 +61,12 @@ class WithSource(OnSessions):
 
 
 class Accept(OnSessions):
+    def test_a_name_stands_for_its_session_alone(self):
+        """Though it is a pattern that fits others."""
+        sessions = sessions_in("s.json", json.dumps([[it, ["", [], ""]] for it in ("level [12]", "level 1", "level 2", "*")]))
+        for patterns, numbers in ((["level [12]"], [0]), (["*"], [3]), (["level [1]"], [1]), (["level *"], [0, 1, 2]), (["level [12]", "level ?"], [0, 1, 2])):
+            self.assertEqual([it.number for it in chosen(sessions, patterns)], numbers)
+
     def test_what_was_reached_is_recorded(self):
         answer = run("accept", EXAMPLE, self.lines)
         self.assertEqual(answer.status, 0)

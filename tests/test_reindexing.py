@@ -124,6 +124,22 @@ class Bounds(unittest.TestCase):
         self.assertEqual(found.told(), "session 0, a: passes in 1 level (index 700) of the 1000 that were tried; 7 more were not tried, so its index 0 stays")
         self.assertEqual(self.found(count, {}).told(), "session 0, a: passes in no level of the 1000 that were tried; 7 more were not tried, so its index 0 stays")
 
+    def test_where_the_time_is_over_no_more_levels_are_tried(self):
+        """Of two recordings the first was tried in all, so its index is known; the other keeps its own."""
+        source = "LEVELS\n" + "a\n\n" * 60
+        sessions = sessions_in("s.json", json.dumps([[name, [source, [], "a:0,"]] for name in "abc"]))
+        sizes = []
+
+        def played(entries, of, engine):
+            sizes.append(len(entries))
+            return [Run(number, it.name, "passed" if it.index == 3 else "differs", None, []) for number, it in enumerate(entries)]
+
+        with unittest.mock.patch.object(reindexing, "runs_played", played):
+            found = reindexing.reindexed(sessions.entries, sessions, Engine(), 0.0)
+            self.assertEqual(([it.new for it in found], [it.tried for it in found], sizes), ([3, None, None], [59, 5, 0], [3, 64]))
+            self.assertEqual(found[1].told(), "session 1, b: passes in 1 level (index 3) of the 5 that were tried; 54 more were not tried, so its index 0 stays")
+            self.assertEqual([it.new for it in reindexing.reindexed(sessions.entries, sessions, Engine())], [3, 3, 3])
+
     def test_a_level_without_an_answer_is_named(self):
         found = self.found(4, {1: "passed", 3: UNANSWERED})
         self.assertEqual((found.new, found.has_answer), (None, False))

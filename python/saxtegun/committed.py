@@ -13,7 +13,7 @@ from time import monotonic
 from typing import Dict, List, NamedTuple, Optional, Sequence, Tuple
 
 from saxtegun.acting import Text
-from saxtegun.budget import EXPLAINING
+from saxtegun.budget import EXPLAINING, UsedUp
 from saxtegun.commands import Refused, printable
 from saxtegun.leading import Side, stage_parting
 from saxtegun.lines import Run
@@ -119,7 +119,7 @@ def parted(pairs: Sequence[Tuple[Entry, Entry]], runs: Sequence[Run], of: Sessio
             parting = parting_of(was, run) if was.close == "passed" else None
             if parting is not None:
                 found.append(Broken(old, new, (was, run), parting))
-    except Refused:
+    except (Refused, UsedUp):
         # what is known is told
         pass
     return found
@@ -135,6 +135,6 @@ def leads(found: Sequence[Broken], path: str, engine: Engine) -> Dict[int, List[
             led = stage_parting(sides, it.runs, it.parting, engine, SECONDS_TO_LEAD)
             if led is not None:
                 told[it.new.number] = [led.sentence, *led.rules]
-    except Refused:
+    except (Refused, UsedUp):
         pass
     return told

@@ -1,6 +1,7 @@
 """Files: what is read, and what is written beside and renamed, so that nothing is written over what is being read or what another has written meanwhile."""
 from __future__ import annotations
 
+import errno
 import os
 import stat
 import sys
@@ -28,7 +29,7 @@ class NoFile(Refused):
 
 
 def without_waiting(path: str, flags: int) -> int:
-    """Opens a file. A pipe that nobody writes into would be waited for here."""
+    """Opens a file. A pipe that nobody writes into, or reads, would be waited for here."""
     return os.open(path, flags | getattr(os, "O_NONBLOCK", 0))
 
 
@@ -67,6 +68,9 @@ def read_bytes(path: str, most: int) -> bytes:
         try:
             size = os.fstat(file.fileno()).st_size
             data = file.read(most + 1) if size <= most else b""
+            if data is None:
+                # one of the system's, as /proc/kmsg
+                raise NoFile(f"{path} can't be read: it has no content yet")
         except OSError as why:
             raise Refused(f"{path} can't be read: {why.strerror}") from None
     if max(size, len(data)) > most:
@@ -215,7 +219,8 @@ def write_whole(path: str, text: str) -> None:
     new = ""
     try:
         if is_device(path):
-            with open(path, "w", encoding="utf-8", newline="") as device:
+            with open(path, "w", encoding="utf-8", newline="", opener=without_waiting) as device:
+                os.set_blocking(device.fileno(), True)
                 device.write(text)
             return
         mode = stat.S_IMODE(os.stat(target).st_mode) if os.path.exists(target) else rights_of_new()
@@ -227,7 +232,8 @@ def write_whole(path: str, text: str) -> None:
         os.chmod(new, mode)
         os.replace(new, target)
     except OSError as why:
-        raise Refused(f"{path} can't be written: {why.strerror}") from None
+        told = "nobody reads this pipe" if why.errno == errno.ENXIO and is_device(path) else why.strerror
+        raise Refused(f"{path} can't be written: {told}") from None
     finally:
         if new and os.path.exists(new):
             os.unlink(new)

@@ -2,7 +2,8 @@
 from __future__ import annotations
 
 from itertools import islice
-from typing import Dict, List, NamedTuple, Optional, Sequence
+from time import monotonic
+from typing import Dict, Iterator, List, NamedTuple, Optional, Sequence
 
 from saxtegun.commands import cut, plural
 from saxtegun.levelsets import entries_of_levels
@@ -13,6 +14,9 @@ from saxtegun.sessions import Entry, Sessions
 # So many sessions are played at once, and for so many levels a recording is tried.
 MOST_AT_ONCE = 5_000
 MOST_LEVELS = 1_000
+# So many at first, then twice as many where that took less than so many seconds, and in all so many seconds.
+FIRST_AT_ONCE, QUICK = 64, 1.0
+WITHIN = 600.0
 # So many indices are told.
 MOST_TOLD = 10
 
@@ -22,6 +26,10 @@ class Places(NamedTuple):
 
     tried: List[int]
     left: int
+
+    def first(self, count: int) -> Places:
+        """The places, of which so many were tried until the time was over."""
+        return Places(self.tried[:count], self.left + len(self.tried) - count)
 
 
 class Found(NamedTuple):
@@ -84,8 +92,19 @@ def places_of(entry: Entry) -> Places:
     return Places(others[:MOST_LEVELS], max(0, len(others) - MOST_LEVELS))
 
 
-def reindexed(entries: Sequence[Entry], of: Sessions, engine: Engine) -> List[Found]:
-    """For recordings that don't pass the indices with which they do; no other has a line."""
+def batches_of(tried: Iterator[Entry]) -> Iterator[List[Entry]]:
+    """Entries in batches, of which the next is larger where one was quick: between two it is seen whether there is time left."""
+    size = FIRST_AT_ONCE
+    for batch in iter(lambda: list(islice(tried, size)), []):
+        begin = monotonic()
+        yield batch
+        size = min(2 * size, MOST_AT_ONCE) if monotonic() - begin < QUICK else max(size // 2, FIRST_AT_ONCE)
+
+
+def reindexed(entries: Sequence[Entry], of: Sessions, engine: Engine, seconds: float = WITHIN) -> List[Found]:
+    """For recordings that don't pass the indices with which they do; no other has a line. Behind so many seconds no more levels are tried, since recordings times
+    levels may be very many."""
+    end = monotonic() + seconds
     if not entries:
         return []
     # frames aren't kept: of a recording that is tried in many levels they would be many
@@ -95,9 +114,14 @@ def reindexed(entries: Sequence[Entry], of: Sessions, engine: Engine) -> List[Fo
     places = {it.number: Places([], 0) if it.number in late else places_of(it) for it in failed}
     closes: Dict[int, Dict[str, List[int]]] = {it.number: {"passed": [], UNANSWERED: []} for it in failed}
     tried = (it._replace(index=index) for it in failed for index in places[it.number].tried)
-    for batch in iter(lambda: list(islice(tried, MOST_AT_ONCE)), []):
+    count = {it.number: 0 for it in failed}
+    for batch in batches_of(tried):
         for run, it in zip(runs_played(batch, of, engine), batch):
             closes[it.number].setdefault(run.close, []).append(it.index)
+            count[it.number] += 1
+        if monotonic() > end:
+            break
+    places = {number: it.first(count[number]) for number, it in places.items()}
     return [found_of(it, closes[it.number], places[it.number], late.get(it.number, "")) for it in failed]
 
 

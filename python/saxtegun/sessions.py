@@ -228,12 +228,14 @@ def unfitting(entries: Sequence[Entry], patterns: Sequence[str]) -> List[str]:
 
 
 def chosen(sessions: Sessions, patterns: Optional[Sequence[str]]) -> List[Entry]:
-    """The entries whose names fit one of these patterns, of which each must fit something; all entries where none are given."""
+    """The entries whose names fit one of these patterns, of which each must fit something; all entries where none are given. A pattern that is a name stands
+    for that name alone."""
     if patterns is None:
         return sessions.entries
     for pattern in unfitting(sessions.entries, patterns):
         raise Refused(f"{sessions.path} has no session named {cut(pattern)!r}")
-    return [entry for entry in sessions.entries if any(fits(entry.name, it) for it in patterns)]
+    names = {it.name for it in sessions.entries}
+    return [entry for entry in sessions.entries if any(entry.name == it if it in names else fits(entry.name, it) for it in patterns)]
 
 
 def check_name(name: str) -> None:

@@ -53,12 +53,19 @@ def depth_of(environment: Mapping[str, str]) -> Optional[Depth]:
     return Depth.NUMBERED if "256color" in kind else Depth.FIRST
 
 
+# How large a terminal is taken to be that doesn't know: columns and rows.
+UNTOLD = (80, 24)
+
+
 def screen_now() -> Optional[Screen]:
     """The terminal of standard output, as large as it is at this moment; None where that is no terminal, or one that knows nothing but letters."""
     if not sys.stdout.isatty() or os.environ.get("TERM", "") in ("", "dumb"):
         return None
-    size = os.get_terminal_size(sys.stdout.fileno())
-    return Screen(size.columns, size.lines, depth_of(os.environ))
+    columns, rows = os.get_terminal_size(sys.stdout.fileno())
+    if 0 in (columns, rows):
+        # nobody has told it, as in a container
+        columns, rows = UNTOLD
+    return Screen(columns, rows, depth_of(os.environ))
 
 
 def rgb(colour: str) -> Rgb:

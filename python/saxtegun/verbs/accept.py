@@ -13,8 +13,8 @@ Look first at what you accept, by `saxtegun report` or `saxtegun explain`. Or
 let --review show one after the other, with both levels, and ask.
 
 With --reindex no level is accepted: a recording that doesn't pass is tried in
-the other levels, up to 1,000 of them, as when levels were inserted or moved. If
-it was tried in all and passes in one alone, its index is set; standard error
+the other levels, up to 1,000 of them, as when levels were inserted or moved;
+all recordings together for 600 s, or as long as --within says. If it was tried in all and passes in one alone, its index is set; standard error
 says which, and how many levels were not tried. No other is touched.
 
 Nothing is changed if a session was played in another order than it was recorded
@@ -31,12 +31,12 @@ import sys
 from argparse import ArgumentParser, Namespace
 from typing import Dict, List, Mapping, Optional, Sequence, Tuple, Union
 
-from saxtegun.commands import Refused, add_game, add_playing, add_ticks, plural, printable, say
+from saxtegun.commands import Refused, add_game, add_playing, add_ticks, plural, printable, say, seconds_in
 from saxtegun.explaining import UNREADABLE, Ending, heading, source_told, told
 from saxtegun.files import guard_output, guard_places, write_again
 from saxtegun.lines import UNANSWERED, Run
 from saxtegun.playing import engine_of, lines_or_played
-from saxtegun.reindexing import reindexed
+from saxtegun.reindexing import WITHIN, reindexed
 from saxtegun.sessions import Entry, Sessions, changed, chosen, guard_size, read_sessions
 from saxtegun.texts import over, read_game, say_others
 
@@ -51,6 +51,7 @@ def add_words(words: ArgumentParser) -> None:
     add_game(words)
     words.add_argument("--review", action="store_true")
     words.add_argument("--reindex", action="store_true", help="set the index of recordings whose level has another place now")
+    words.add_argument("--within", metavar="SECONDS", type=seconds_in, default=WITHIN, help=f"with --reindex, try no more levels behind so many seconds ({WITHIN:g})")
     words.add_argument("--in-place", action="store_true")
     add_playing(words)
     add_ticks(words)
@@ -105,7 +106,7 @@ def write(sessions: Sessions, changes: Mapping[int, Tuple[str, Union[str, int]]]
 
 def reindex(sessions: Sessions, wanted: Sequence[Entry], given: Namespace) -> int:
     """Sets the indices with which recordings pass again."""
-    found = reindexed(wanted, sessions, engine_of(given))
+    found = reindexed(wanted, sessions, engine_of(given), given.within)
     changes = {it.entry.number: ("index", it.new) for it in found if it.new is not None}
     write(sessions, changes, given)
     for it in found:
