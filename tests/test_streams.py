@@ -53,10 +53,11 @@ class OnStreams(OnSessions):
         names = [it[0] for it in json.loads(EXAMPLE.read_text(encoding="utf-8"))]
         (parts / "parts.txt").write_text(json.dumps({"first": 0, "names": names}) + "\n" + json.dumps({"sessions": len(names), "solved": 0}) + "\n")
         (parts / "00000000.lines").write_bytes(self.lines.read_bytes())
+        (parts / "00000000.json").write_bytes(EXAMPLE.read_bytes())
         played = ["--program", self.program]
         self.calls = [
             ["explain", EXAMPLE, self.lines], ["report", EXAMPLE, self.lines], ["junit", EXAMPLE, self.lines], ["accept", EXAMPLE, self.lines],
-            ["testdata", EXAMPLE], ["source", self.lines, EXAMPLE], ["compare", self.lines, self.lines], ["join", parts], ["test", EXAMPLE, *played],
+            ["testdata", EXAMPLE], ["source", "--all", self.lines, EXAMPLE], ["compare", self.lines, self.lines], ["join", parts], ["test", EXAMPLE, *played],
             ["lines", EXAMPLE, *played], ["--help"], ["test", "--help"], ["why", EXAMPLE, "--session", "both*", "--input", "0"],
             ["why", EXAMPLE, "--session", "both*", "--input", "0", "--json"],
         ]
