@@ -73,7 +73,7 @@ fn sheet_from<const N: usize>(
 }
 
 /// Fills the background layer in each cell that has nothing on it. Such a cell gets what the first cell with something there has, or else
-/// the background's first object.
+/// the background's first object. Rule `load.background`.
 fn lay_background<const N: usize>(sheet: &mut Sheet<N>, layer: usize, object: u16)
     requires layer_in { layer < sheet.old.grid.depth }
     requires on_layer { (object < length sheet.old.grid.layers) × (slice_index sheet.old.grid.layers object ≡ layer) }

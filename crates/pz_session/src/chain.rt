@@ -16,7 +16,7 @@ pub fn ticks_are_limited()
     ensures { MOST_TICKS ≡ 500 }
 {}
 
-/// How many ticks may follow an input's first link.
+/// How many ticks may follow an input's first link. Rule `play.again-limit`.
 pub fn ticks_after(input: Input) -> u64
     ensures { result ≡ ticks_after input }
 {
