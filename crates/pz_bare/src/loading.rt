@@ -18,6 +18,7 @@ use std::alloc::{AllocError, Global};
 
 impl BareLevel {
     /// Loads the entry of LEVELS of this number, which must be a level. Entries are numbered from 0. Err: memory was refused.
+    /// Rules `load.glyphs`, `load.background`.
     pub fn load(alloc: Global, game: &Game, index: usize) -> Result<BareLevel, AllocError>
         requires { is_playable (entry_at game.now index) ≡ true }
         ensures loaded { IfOk result (λ bare. bare.grid ≡ loaded game.now index) }

@@ -33,7 +33,7 @@ pub enum OptionsFault {
     BadLine,
 }
 
-/// The most threads that a command line may ask for.
+/// The most threads that a command line may ask for. Rule `program.workers`.
 pub const MOST_WORKERS: usize = 64;
 
 /// Promises the limit as a number, so that changing the constant alone breaks a proof.

@@ -11,7 +11,7 @@ use pz_record::limits::MOST_ENTRIES;
 use serde_json::Value;
 use std::alloc::Global;
 
-/// The most bytes that a file has.
+/// The most bytes that a file has. Rule `file.list`.
 pub const MOST_BYTES: usize = 16_777_216;
 
 /// Promises the limit as a number, so that changing the constant alone breaks a proof.

@@ -242,6 +242,7 @@ fn nothing_known(alloc: Global, count: usize) -> Result<Vec<Option<Denotation>>,
 }
 
 /// What each name denotes, or `None` for a name that leads to itself or to such a name. No line may name something unknown.
+/// Rules `legend.synonyms`, `legend.members`.
 pub fn denotations(
     alloc: Global,
     meanings: &[Meaning],
