@@ -1,4 +1,5 @@
 """The rules of the language by their ids, such as `play.again-limit`, and the places where each stands."""
+import json
 import re
 from pathlib import Path
 from typing import Dict, Iterator, List, NamedTuple, Tuple
@@ -78,11 +79,13 @@ def functions(top: Path) -> Iterator[Tuple[str, Place]]:
 
 
 def cases(top: Path) -> Iterator[Tuple[str, Place]]:
-    """Each id of the file `rules` of a case, whose name is what it shows."""
-    for file in sorted(top.glob("conformance/*/*/rules")):
-        says = re.sub(r" (t|s)(?= |$)", r"'\1", file.parent.name.replace("-", " "))
-        for number, it in enumerate(file.read_text(encoding="utf-8").splitlines(), 1):
-            yield it, Place(str(file.parent.relative_to(top)), number, file.parent.name, says)
+    """Each id of the file `rules` of a case, or of `rules` in a case that is one file; its name is what it shows."""
+    folders = [(file.parent, file.read_text(encoding="utf-8").splitlines()) for file in sorted(top.glob("conformance/*/*/rules"))]
+    files = [(file, json.loads(file.read_text(encoding="utf-8")).get("rules", [])) for file in sorted(top.glob("conformance/*/*.json"))]
+    for case, names in [*folders, *files]:
+        says = re.sub(r" (t|s)(?= |$)", r"'\1", case.stem.replace("-", " "))
+        for number, it in enumerate(names, 1):
+            yield it, Place(str(case.relative_to(top)), number, case.stem, says)
 
 
 def bodies(top: Path) -> Iterator[Tuple[str, Place]]:

@@ -67,6 +67,12 @@ class OfRules(OnOneRule):
                 self.write("dev/without.txt", "")
                 self.write(AT[kind], RULE[AT[kind]])
 
+    def test_a_case_of_one_file_has_ids_too(self):
+        self.write(AT["case"], "")
+        self.write("conformance/stages/a-number-has-a-stage.json", '{"rules": ["number.same"], "input": 1}\n')
+        self.write("conformance/descriptions/a-number-has-none.json", "{}\n")
+        self.assertEqual(self.told(), [])
+
     def test_an_id_that_no_page_has_is_told_wherever_it_stands(self):
         for kind, line in (("definition", 6), ("function", 3), ("case", 2), ("body", 1)):
             with self.subTest(kind):
