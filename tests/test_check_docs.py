@@ -152,6 +152,12 @@ class OfTheBook(OnOneRule):
             ["| number.same | `crates/pz_one/specs/Lib.antt` `same` | `crates/pz_one/src/same.rt` `same` | `conformance/cases/a-number-isn-t-another` | none: nobody wrote one |"],
         )
 
+    def test_words_choose_by_what_they_begin_and_by_the_id_first(self):
+        self.write("docs/sessions.md", "# Files\n\nThe same numbers. <sub>file.numbers</sub>\n\nAny number stays. <sub>file.same</sub>\n")
+        for words, wanted in ((("same",), ["number.same", "file.same", "file.numbers"]), (("FILE", "number"), ["file.numbers", "file.same"]), (("umbers",), [])):
+            with self.subTest(words):
+                self.assertEqual([it[4:] for it in run(self.book, *words).out.splitlines() if it.startswith("### ")], wanted)
+
     def test_words_that_no_rule_has(self):
         answer = run(self.book, "number", "nobody")
         self.assertEqual((answer.status, answer.out, answer.errors), (1, "", "rule-book: no rule has number nobody\n"))

@@ -14,6 +14,6 @@ abbrev pub messages_for : {T : Type 0} → List (List T) → List ℕ → List (
 messages_for sessions [] = []
 messages_for sessions (number ∷ later) = messages_of number (pieces_at sessions number) ++ messages_for sessions later
 
--- program.threads: all that a worker sends if it claimed these numbers and ends Finished
+-- all that a worker sends if it claimed these numbers and ends Finished
 abbrev pub sent_for : {T : Type 0} → List (List T) → List ℕ → List (Message T)
 sent_for sessions numbers = messages_for sessions numbers ++ messages.Last Finished ∷ []

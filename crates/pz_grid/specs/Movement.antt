@@ -39,7 +39,7 @@ pub record Spot : Type 0 where
 abbrev pub spot : ℕ → ℕ → ℕ → Spot
 spot x y layer = record { x = x; y = y; layer = layer }
 
--- where a piece with this heading goes, if it can
+-- move.object: where a piece with this heading goes, if it can
 abbrev pub heading_goal : Grid → Spot → Option Dir → Option (ℕ × ℕ)
 heading_goal grid spot None = None
 heading_goal grid spot (Some dir) = free grid spot.layer (neighbour grid dir spot.x spot.y)
