@@ -31,7 +31,8 @@ Rules = Dict[str, Dict[str, List[Place]]]
 
 def blocks_of(lines: List[str]) -> Iterator[Tuple[str, int, List[str]]]:
     """The paragraphs and entries of a page: under which heading, at which line, and their lines."""
-    heading, begun, held = "", 0, []
+    heading, begun = "", 0
+    held: List[str] = []
     for number, line in enumerate([*lines, ""], 1):
         if held and (not line.strip() or line.startswith("#") or re.match(r"\s*(?:-|\d+\.) ", line)):
             yield heading, begun, held
@@ -92,8 +93,9 @@ def bodies(top: Path) -> Iterator[Tuple[str, Place]]:
     for file in sorted([*top.glob("attack/*/*.edit"), *top.glob("crates/*/must-fail/*.edit")]):
         first = file.read_text(encoding="utf-8").partition("\n")[0]
         found = BODY.search(first)
-        for it in found[1].split(", ") if found else ():
-            yield it, Place(str(file.relative_to(top)), 1, file.stem, first[: found.start()])
+        if found:
+            for it in found[1].split(", "):
+                yield it, Place(str(file.relative_to(top)), 1, file.stem, first[: found.start()])
 
 
 def read_rules(top: Path) -> Rules:
@@ -127,12 +129,12 @@ def faults_of(top: Path) -> Iterator[str]:
     """A line for each rule that lacks a place, or stands where it must not."""
     rules, without = read_rules(top), read_without(top)
     for name, places in rules.items():
-        said = places["sentence"]
-        if not said:
+        sentence = places["sentence"]
+        if not sentence:
             yield from (f"{it.file}:{it.line}: no sentence of {' or '.join(PAGES)} has the rule {name}" for kind in PLACES for it in places[kind])
             continue
-        yield from (f"{it.file}:{it.line}: the rule {name} stands there a second time" for it in said[1:])
-        yield from (f"{said[0].file}:{said[0].line}: the rule {name} has no {kind}" for kind in PLACES if not places[kind] and not why_not(without, name, kind))
+        yield from (f"{it.file}:{it.line}: the rule {name} stands there a second time" for it in sentence[1:])
+        yield from (f"{sentence[0].file}:{sentence[0].line}: the rule {name} has no {kind}" for kind in PLACES if not places[kind] and not why_not(without, name, kind))
     for said, kind, why in without:
         about = [places for name, places in rules.items() if is_of(name, said)]
         if kind not in PLACES or not why or not about:
