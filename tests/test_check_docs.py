@@ -1,7 +1,8 @@
-"""What `dev/check-docs` finds in the pages of a small repository."""
+"""What `dev/check-docs` finds in the pages of a small repository, and what `dev/rule-book` writes of its rules."""
+import shutil
 import unittest
 
-from tool import OnSmallCrates, run
+from tool import TOP, OnSmallCrates, run
 
 PAGE = """# A page
 
@@ -22,6 +23,147 @@ There is one: `pz_one`.
 
 See [the crates](#the-crates), [the front](../README.md#front) and `crates/pz_one`.
 """
+
+# A rule with all its places.
+RULE = {
+    "docs/language.md": "# The language\n\n## Numbers\n\n- A number is itself.\n  It stays so. <sub>number.same</sub> Others may be there.\n",
+    "crates/pz_one/specs/Lib.antt": "-- What a number is.\nuse Rattle\n\n-- number.same: the number\n-- itself\nabbrev pub same : ℕ → ℕ\nsame n = n\n\nabbrev pub other : ℕ\n",
+    "crates/pz_one/src/same.rt": "/// The number itself. Rule `number.same`.\n#[inline]\npub fn same(number: u32) -> u32\n",
+    "conformance/cases/a-number-isn-t-another/rules": "number.same\n",
+    "attack/pz_one/answers_null.edit": "Answers 0. [number.same]\nfile: src/same.rt\nold: same\nnew: null\n",
+}
+AT = dict(zip(("sentence", "definition", "function", "case", "body"), RULE))
+
+
+class OnOneRule(OnSmallCrates):
+    def setUp(self):
+        super().setUp()
+        self.found("check-docs", "# A tower\n\n# a crate of one function\npz_one:\n")
+        self.write("README.md", "# Front\n")
+        self.write("conformance/README.md", "# Cases\n")
+        for path, text in RULE.items():
+            self.write(path, text)
+
+    def told(self):
+        """What is told of the rules."""
+        answer = run(self.tool)
+        self.assertEqual(answer.errors, "")
+        lines = answer.out.splitlines()[:-1]
+        self.assertEqual(answer.status, bool(lines))
+        return lines
+
+
+class OfRules(OnOneRule):
+    def test_a_rule_with_all_its_places(self):
+        self.assertEqual(self.told(), [])
+
+    def test_each_place_that_a_rule_lacks_is_told(self):
+        for kind in ("definition", "function", "case", "body"):
+            with self.subTest(kind):
+                self.write(AT[kind], RULE[AT[kind]].replace("number.same", "").lstrip("\n"))
+                self.assertEqual(self.told(), [f"docs/language.md:5: the rule number.same has no {kind}"])
+                self.write("dev/without.txt", f"# Reasons\nnumber.* {kind}: it has none\n")
+                self.assertEqual(self.told(), [])
+                self.write("dev/without.txt", "")
+                self.write(AT[kind], RULE[AT[kind]])
+
+    def test_a_case_of_one_file_has_ids_too(self):
+        self.write(AT["case"], "")
+        self.write("conformance/stages/a-number-has-a-stage.json", '{"rules": ["number.same"], "input": 1}\n')
+        self.write("conformance/descriptions/a-number-has-none.json", "{}\n")
+        self.assertEqual(self.told(), [])
+
+    def test_an_id_that_no_page_has_is_told_wherever_it_stands(self):
+        for kind, line in (("definition", 6), ("function", 3), ("case", 2), ("body", 1)):
+            with self.subTest(kind):
+                text = RULE[AT[kind]]
+                joint = {"definition": ", ", "function": "`, `", "case": "\n", "body": ", "}[kind]
+                self.write(AT[kind], text.replace("number.same", f"number.same{joint}number.other"))
+                file = AT[kind].removesuffix("/rules")
+                self.assertEqual(self.told(), [f"{file}:{line}: no sentence of docs/language.md or docs/sessions.md has the rule number.other"])
+                self.write(AT[kind], text)
+
+    def test_an_id_that_stands_twice_in_the_pages_is_told(self):
+        for page, line in (("docs/language.md", 8), ("docs/sessions.md", 3)):
+            with self.subTest(page):
+                before = RULE.get(page, "# Sessions\n")
+                self.write(page, before + "\nThe same again. <sub>number.same</sub>\n")
+                self.assertEqual(self.told(), [f"{page}:{line}: the rule number.same stands there a second time"])
+                self.write(page, before)
+
+    def test_a_reason_for_what_is_there_or_is_no_place_is_told(self):
+        for line, told in (
+            ("number.same body: it has none", "number.same has a body"),
+            ("number.other body: it has none", "number.other body is no rule and place with a reason"),
+            ("number.same tests: it has none", "number.same tests is no rule and place with a reason"),
+            ("number.same body:", "number.same body: is no rule and place with a reason"),
+            ("number.same", "number.same  is no rule and place with a reason"),
+        ):
+            with self.subTest(line):
+                self.write("dev/without.txt", line + "\n")
+                self.assertEqual(self.told(), [f"dev/without.txt: {told}"])
+
+    def test_an_entry_of_the_map_leads_to_an_id_but_where_no_answer_shows_it(self):
+        for heading, name, lines in (
+            ("Rules", "same", []),
+            ("Rules", "other", ["docs/architecture.md:5: nothing that is named there has the id of a rule"]),
+            ("What no answer shows", "other", []),
+            ("Threads", "other", []),
+        ):
+            with self.subTest(f"{heading}: {name}"):
+                self.write("crates/pz_one/src/lib.rt", "pub fn same() {}\npub fn other() {}\n")
+                self.write("docs/architecture.md", f"# A map\n\n### {heading}\n\n- *a rule*: `pz_one/src/lib.rt`\n  `{name}`\n")
+                self.assertEqual(self.told(), lines)
+
+    def test_ids_are_no_words_of_the_pages(self):
+        self.write("docs/other.md", "many words\n" * 9_985)
+        self.assertEqual(self.told(), [])
+        self.write("docs/other.md", "many words\n" * 9_995)
+        self.assertEqual(self.told(), ["the pages have 20,009 words, more than 20,000"])
+
+
+class OfTheBook(OnOneRule):
+    def setUp(self):
+        super().setUp()
+        shutil.copy(TOP / "dev/rule-book", self.tool.parent)
+        self.book = self.tool.parent / "rule-book"
+
+    def test_the_book_has_sentence_definition_function_case_and_body(self):
+        self.assertEqual(
+            run(self.book, "Itself").out.split("\n\n"),
+            [
+                "# The rule book",
+                "## Numbers (docs/language.md)",
+                "### number.same",
+                "A number is itself. It stays so.",
+                "Definition `same`, crates/pz_one/specs/Lib.antt:6",
+                "    -- the number\n    -- itself\n    abbrev pub same : ℕ → ℕ\n    same n = n",
+                "Function `same`, crates/pz_one/src/same.rt:3",
+                "Case: A number isn't another. conformance/cases/a-number-isn-t-another",
+                "Wrong body: Answers 0. attack/pz_one/answers_null.edit\n",
+            ],
+        )
+
+    def test_the_table_has_a_line_for_each_rule_and_says_why_a_place_is_not_there(self):
+        self.write(AT["body"], "Answers 0.\n")
+        self.write("dev/without.txt", "number.same body: nobody wrote one\n")
+        self.assertEqual(
+            run(self.book, "--table").out.splitlines()[2:],
+            ["| number.same | `crates/pz_one/specs/Lib.antt` `same` | `crates/pz_one/src/same.rt` `same` | `conformance/cases/a-number-isn-t-another` | none: nobody wrote one |"],
+        )
+
+    def test_words_choose_by_what_they_begin_and_by_the_id_first(self):
+        self.write("docs/sessions.md", "# Files\n\nThe same numbers. <sub>file.numbers</sub>\n\nAny number stays. <sub>file.same</sub>\n")
+        for words, wanted in ((("same",), ["number.same", "file.same", "file.numbers"]), (("FILE", "number"), ["file.numbers", "file.same"]), (("umbers",), [])):
+            with self.subTest(words):
+                self.assertEqual([it[4:] for it in run(self.book, *words).out.splitlines() if it.startswith("### ")], wanted)
+
+    def test_words_that_no_rule_has(self):
+        answer = run(self.book, "number", "nobody")
+        self.assertEqual((answer.status, answer.out, answer.errors), (1, "", "rule-book: no rule has number nobody\n"))
+
+    def test_an_option_that_is_none(self):
+        self.assertEqual(run(self.book, "--all").status, 2)
 
 
 class OfDocuments(OnSmallCrates):

@@ -32,6 +32,9 @@ class Try(InARoom):
         self.assertEqual((status, call, names), (5, "pz_replayer try --seconds 120 --cases", sorted(PUSHES)))
         self.assertRegex(said, rf"^dev/try: {len(PUSHES)} of [0-9]+ cases, unproved\n$")
 
+    def test_a_rule_has_the_cases_that_name_it(self):
+        self.assertEqual(self.tried("play.over")[2], ["all-inputs-show-over-after-the-end"])
+
     def test_a_crate_has_the_cases_of_its_tower(self):
         names = self.tried("pz_turn")[2]
         self.assertIn("a-loop-of-as-many-passes-as-are-allowed", names)
@@ -43,7 +46,7 @@ class Try(InARoom):
 
     def test_what_is_neither_is_reported(self):
         status, call, names, said = self.tried("pushes")
-        self.assertEqual((status, call, names, said), (2, "", [], "dev/try: there is no crate and no case named 'pushes'\n"))
+        self.assertEqual((status, call, names, said), (2, "", [], "dev/try: there is no crate, no rule and no case named 'pushes'\n"))
 
 
 if __name__ == "__main__":

@@ -27,7 +27,7 @@ first_in_column grid layer x = first_of (map (λ y. place_at grid x y layer) (ra
 abbrev pub first_on : Grid → ℕ → Option Piece
 first_on grid layer = first_of (map (first_in_column grid layer) (range_with_len 0 grid.width))
 
--- the level with a background in each cell; `object` is the background's first, and `layer` is its layer
+-- load.background: the level with a background in each cell; `object` is the background's first, and `layer` is its layer
 abbrev pub with_background : ℕ → ℕ → Grid → Grid
 with_background layer object grid = filled layer (unwrap_or (first_on grid layer) (still_piece object)) grid
 

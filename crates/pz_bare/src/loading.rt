@@ -18,6 +18,7 @@ use std::alloc::{AllocError, Global};
 
 impl BareLevel {
     /// Loads the entry of LEVELS of this number, which must be a level. Entries are numbered from 0. Err: memory was refused.
+    /// Rules `load.glyphs`, `load.background`.
     pub fn load(alloc: Global, game: &Game, index: usize) -> Result<BareLevel, AllocError>
         requires { is_playable (entry_at game.now index) ≡ true }
         ensures loaded { IfOk result (λ bare. bare.grid ≡ loaded game.now index) }
@@ -73,7 +74,7 @@ fn sheet_from<const N: usize>(
 }
 
 /// Fills the background layer in each cell that has nothing on it. Such a cell gets what the first cell with something there has, or else
-/// the background's first object.
+/// the background's first object. Rule `load.background`.
 fn lay_background<const N: usize>(sheet: &mut Sheet<N>, layer: usize, object: u16)
     requires layer_in { layer < sheet.old.grid.depth }
     requires on_layer { (object < length sheet.old.grid.layers) × (slice_index sheet.old.grid.layers object ≡ layer) }

@@ -2,7 +2,7 @@
 use Rattle.std.specs.Prelude.{ℕ, List, map, encode_utf8_all}
 use Rattle.std.specs.Char.{to_ascii_lowercase}
 
--- ASCII letters in lower case, the one folding there is
+-- text.folding: ASCII letters in lower case, the one folding there is
 abbrev pub folded : List ℕ → List ℕ
 folded cs = map to_ascii_lowercase cs
 

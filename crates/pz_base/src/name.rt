@@ -28,7 +28,7 @@ impl Name {
         self.text.as_str()
     }
 
-    /// The name that a word of the source spells, with its ASCII letters in lower case.
+    /// The name that a word of the source spells, with its ASCII letters in lower case. Rule `text.folding`.
     pub fn of_word(alloc: Global, word: &[char]) -> Result<Name, AllocError>
         ensures { IfOk result (λ name. name ≡ name_of word.now) }
     {

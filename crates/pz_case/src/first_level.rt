@@ -14,7 +14,7 @@ fn passed_over(levels: &[LevelEntry]) -> Option<usize>
     levels.iter().position(|entry| entry.playable())
 }
 
-/// The first level among the entries of LEVELS from a number on.
+/// The first level among the entries of LEVELS from a number on. Rule `play.start`.
 #[tactic(auto, unfolding(crate::specs::FirstLevel::level_from))]
 pub fn level_from(game: &Game, index: u64) -> Option<usize>
     ensures first { result ≡ level_from game.now index }

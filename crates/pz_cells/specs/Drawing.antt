@@ -9,7 +9,7 @@ use Rattle.pz_cells.specs.Cell.{still_piece, empty_cell}
 abbrev pub with_object : List ℕ → List (Option Piece) → ℕ → List (Option Piece)
 with_object layers cell object = slice_set cell (slice_index layers object) (Some (still_piece object))
 
--- the cell that the glyph of this number draws
+-- load.glyphs: the cell that the glyph of this number draws
 abbrev pub glyph_cell : GameParts → ℕ → List (Option Piece)
 glyph_cell game number = fold (with_object game.layers) (empty_cell game.depth) (glyph_objects game number)
 

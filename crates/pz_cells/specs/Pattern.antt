@@ -19,6 +19,7 @@ word_holds Still (Some None) = true
 word_holds (Toward dir) (Some (Some heading)) = same_dir heading dir
 word_holds _ _ = false
 
+-- match.fit
 abbrev pub item_holds : List (Option Piece) → Item → Bool
 item_holds cell item = word_holds item.word (standing cell item.object)
 

@@ -22,7 +22,7 @@ new_heading Still told here = None
 new_heading (Toward dir) told here = Some dir
 new_heading _ told here = if told then None else heading_of here
 
--- what stays on a layer where nothing is placed
+-- match.removed: what stays on a layer where nothing is placed
 abbrev pub kept : List Item → List Item → Option Piece → Option Piece
 kept left right None = None
 kept left right (Some piece) = if names_object piece.object left || forbids_object piece.object right then None else Some piece
@@ -31,7 +31,7 @@ abbrev pub replaced : Option Item → Bool → List Item → List Item → Optio
 replaced None told left right here = kept left right here
 replaced (Some item) told left right here = Some (record { object = item.object; heading = new_heading item.word told here })
 
--- what stands on a layer after the rewriting
+-- match.placed: what stands on a layer after the rewriting
 abbrev pub rewritten_place : List Item → List Item → ℕ → Option Piece → Option Piece
 rewritten_place left right layer here = replaced (placed_on layer right) (tells_of layer left) left right here
 

@@ -34,6 +34,7 @@ pub fn glyph_cells<const N: usize>(
 }
 
 /// The cell that the glyph of this number draws: its objects in order, each still on its layer. A later one replaces one of its layer.
+/// Rule `load.glyphs`.
 fn glyph_cell<const N: usize>(game: &Game, layers: &Layers<N>, number: usize) -> Cell<N>
     requires of_game { layers.now ≡ layering_of game.now }
     requires number { number < length game.now.values }

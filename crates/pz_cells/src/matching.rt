@@ -22,7 +22,7 @@ fn meets(set: &[u128], wanted: &NumberSet, unwanted: &NumberSet) -> bool
 }
 
 impl<const N: usize> Cell<N> {
-    /// Whether a rule's cell holds here.
+    /// Whether a rule's cell holds here. Rule `match.fit`.
     pub fn holds(&self, layers: &Layers<N>, pattern: &Pattern) -> bool
         requires of_game { AreOf layers.now.layers pattern.now }
         requires sound { IsSound layers.now self.now }

@@ -41,6 +41,7 @@ fn end_leaving<const N: usize>(
 
 impl<const N: usize> Cell<N> {
     /// Rewrites the cell from a left cell of a rule to its right cell, and says whether the cell changed.
+    /// Rules `match.placed`, `match.removed`.
     pub fn rewrite(&mut self, layers: &Layers<N>, left: &Pattern, right: &Pattern) -> bool
         requires left_of { AreOf layers.now.layers left.now }
         requires right_of { AreOf layers.now.layers right.now }

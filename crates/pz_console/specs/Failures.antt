@@ -14,7 +14,7 @@ file_line (fault.BadEntry n) = codes "bad-entry " ++ decimal n ++ codes "\n"
 file_line (fault.BadLevel n) = codes "bad-level " ++ decimal n ++ codes "\n"
 file_line fault.TooMany = codes "too-many\n"
 
--- the line that says why there is none
+-- program.failures: the line that says why there is none
 abbrev pub failure_line : Failure → List ℕ
 failure_line failure.Memory = codes "memory\n"
 failure_line failure.BadLine = codes "bad command line\n"

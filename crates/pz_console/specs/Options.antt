@@ -10,7 +10,7 @@ use Rattle.pz_record.specs.declared.order.Order.TheVariants.{Rows, Columns}
 use Rattle.pz_console.specs.declared.options.TheConstants.{MOST_WORKERS}
 use Rattle.pz_console.specs.declared.options.Chosen.{Chosen}
 
--- the number of threads: 1 to as many as may be asked for, in decimal digits, and 2 by default
+-- program.workers: the number of threads: 1 to as many as may be asked for, in decimal digits, and 2 by default
 abbrev pub workers_of : Option Text → Option ℕ
 workers_of None = Some 2
 workers_of (Some text) = if is_unsigned_in 1 MOST_WORKERS text then Some (digits_value 10 (without_leading_plus text)) else None
@@ -43,6 +43,6 @@ abbrev pub without_fault : Kinds → Option Chosen → Option Chosen
 without_fault [] choice = choice
 without_fault (kind ∷ kinds) choice = None
 
--- what the words choose; nothing: they are refused
+-- program.options: what the words choose; nothing: they are refused
 unfoldable pub options_of : List Text → Option Chosen
 options_of words = without_fault (fault_of command words) (choice_in (matches_of command words))

@@ -98,7 +98,7 @@ fn report<E: Write>(failure: Failure, errors: &mut Output<E>) -> Result<(), Writ
     }
 }
 
-/// Ends with the line of a failure: the status is 2.
+/// Ends with the line of a failure: the status is 2. Rule `program.failures`.
 pub fn fail_with<E: Write>(failure: Failure, errors: &mut Output<E>) -> u8
     requires { errors.old.failure ≡ None }
     ensures status { result ≡ 2 }

@@ -33,7 +33,7 @@ pub enum OptionsFault {
     BadLine,
 }
 
-/// The most threads that a command line may ask for.
+/// The most threads that a command line may ask for. Rule `program.workers`.
 pub const MOST_WORKERS: usize = 64;
 
 /// Promises the limit as a number, so that changing the constant alone breaks a proof.
@@ -78,7 +78,7 @@ fn number(text: &str) -> Option<usize>
     Some(number)
 }
 
-/// The value of `--workers`: 1 to `MOST_WORKERS`, and 2 without the option.
+/// The value of `--workers`: 1 to `MOST_WORKERS`, and 2 without the option. Rule `program.workers`.
 fn workers(text: Option<&str>) -> Option<usize>
     ensures value { result ≡ workers_of (option_map (λ t. t.now) text.entry) }
     ensures some { IfSome result (λ n. 1 ≤ n) }
@@ -137,7 +137,7 @@ fn choose(alloc: Global, matches: &ArgMatches) -> Result<Chosen, OptionsFault>
 }
 
 /// What the words of a command line choose: `[--workers N] [--order rows|columns] [FILE]`, the program's name before them. A line
-/// that `clap` doesn't take is refused, and so is a call for help.
+/// that `clap` doesn't take is refused, and so is a call for help. Rule `program.options`.
 pub fn read_options<'a>(alloc: Global, words: &'a [String]) -> Result<Chosen, OptionsFault>
     ensures chosen { IfOk result (λ chosen. options_of (map string_bytes words.entry.now) ≡ Some chosen) }
     ensures refused { IfErr result (λ fault. fault ≢ OptionsFault.Memory → options_of (map string_bytes words.entry.now) ≡ None) }

@@ -99,7 +99,7 @@ where
 /// What every session of a job shows, by session number. At most so many workers play the sessions, each in a thread of its own and over a
 /// lane that holds `capacity` messages; the calling thread records. No worker is started without a session for it. Err: `Workers`, if
 /// their number is not from 1 to 64, which is tested first; else `Memory`, if a growth or the start of a thread was refused;
-/// `GateClosed`, if the gate answered false; or `LaneLost`. Of several the one named first is answered.
+/// `GateClosed`, if the gate answered false; or `LaneLost`. Of several the one named first is answered. Rule `program.threads`.
 pub fn replay_with<'a, P: Playable + Sync, R: Threads + Wait + Sync, G: Gate + Sync>(
     rt: &'a R,
     alloc: Global,

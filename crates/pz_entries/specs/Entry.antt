@@ -10,13 +10,13 @@ use Rattle.pz_entries.specs.Json.{◌>>=◌}
 use Rattle.pz_entries.specs.Input.{inputs_of}
 use Rattle.pz_entries.specs.Reading.{reading}
 
--- a whole number of 64 bits, or null for 0
+-- file.numbers: a whole number of 64 bits, or null for 0
 abbrev pub whole_or_null : Data → Option ℕ
 whole_or_null null = Some 0
 whole_or_null (number (unsigned n)) = Some n
 whole_or_null _ = None
 
--- an index that is absent is 0
+-- file.index: an index that is absent is 0
 abbrev pub index_of : Option Data → Option ℕ
 index_of None = Some 0
 index_of (Some d) = whole_or_null d
@@ -41,6 +41,6 @@ abbrev pub or_fault : {A : Type 0} → FileFault → Option A → Result A FileF
 or_fault e None = Err e
 or_fault e (Some x) = Ok x
 
--- the entry of a number, its level read last
+-- file.entries: the entry of a number, its level read last
 unfoldable pub entry_of : ℕ → Data → Result Entry FileFault
 entry_of n d = or_fault (BadEntry n) (written_of d) >=> (λ w. or_fault (BadLevel n) (reading w.level) >=> (λ recorded. Ok (record { name = w.name; source = w.source; inputs = w.inputs; recorded = recorded; index = w.index })))

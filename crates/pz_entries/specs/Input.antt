@@ -16,7 +16,7 @@ press n = slice_get (Press Up ∷ Press Left ∷ Press Down ∷ Press Right ∷ 
 abbrev pub word : List ℕ → Option Input
 word t = if bytes_eq t (codes "undo") then Some Undo else (if bytes_eq t (codes "restart") then Some Restart else (if bytes_eq t (codes "tick") then Some Tick else None))
 
--- a number with a sign, a fraction or an exponent, or past 64 bits, is no unsigned one
+-- file.inputs: a number with a sign, a fraction or an exponent, or past 64 bits, is no unsigned one
 abbrev pub input_of : Data → Option Input
 input_of (number (unsigned n)) = press n
 input_of (string t) = word t

@@ -67,7 +67,7 @@ all_ended (part ∷ next ∷ parts) = option_map (λ ps. part ∷ ps) (all_ended
 abbrev pub reading_with : List (List (List ℕ)) → List ℕ → Option (List (List (List ℕ)))
 reading_with sets text = option_and_then (read_from sets) (all_ended (slice_split is_comma text))
 
--- the sets of the cells; nothing if the text is no level text
+-- texts.read: the sets of the cells; nothing if the text is no level text
 unfoldable pub reading : List ℕ → Option (List (List (List ℕ)))
 reading text = reading_with [] (filter no_line_end text)
 

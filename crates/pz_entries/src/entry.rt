@@ -47,7 +47,7 @@ fn text_at(alloc: Global, value: &Value, index: usize) -> Result<Option<Text>, A
     }
 }
 
-/// The index of the entry of LEVELS. If it is absent or null, it is 0.
+/// The index of the entry of LEVELS. If it is absent or null, it is 0. Rules `file.index`, `file.numbers`.
 fn read_index(value: Option<&Value>) -> Option<u64>
     ensures { result ≡ index_of (option_map (λ v. data_of v.now) value.entry) }
 {
@@ -57,7 +57,7 @@ fn read_index(value: Option<&Value>) -> Option<u64>
     }
 }
 
-/// What an entry says, its level as text; None: it is no entry.
+/// What an entry says, its level as text; None: it is no entry. Rule `file.entries`.
 fn read_written(alloc: Global, value: &Value) -> Result<Option<Written>, AllocError>
     ensures { IfOk result (λ written. written ≡ written_of (data_of value.now)) }
 {

@@ -11,7 +11,7 @@ use pz_record::limits::MOST_ENTRIES;
 use serde_json::Value;
 use std::alloc::Global;
 
-/// The most bytes that a file has.
+/// The most bytes that a file has. Rule `file.list`.
 pub const MOST_BYTES: usize = 16_777_216;
 
 /// Promises the limit as a number, so that changing the constant alone breaks a proof.
@@ -19,7 +19,7 @@ pub fn bytes_are_limited()
     ensures { MOST_BYTES ≡ 16_777_216 }
 {}
 
-/// The entries of the values, or the first fault.
+/// The entries of the values, or the first fault. Rule `file.refusals`.
 fn read_entries(alloc: Global, list: &[Value]) -> Result<Vec<Entry>, FileFault>
     ensures read { IfOk result (λ entries. entries_from 0 (map data_of list.now) ≡ Ok entries.items) }
     ensures refused { IfErr result (λ fault. fault ≢ Memory → entries_from 0 (map data_of list.now) ≡ Err fault) }
@@ -34,7 +34,7 @@ fn read_entries(alloc: Global, list: &[Value]) -> Result<Vec<Entry>, FileFault>
 }
 
 /// The entries of a file, or its first fault: the file is too long, is no JSON list, or has too many entries; then, entry by
-/// entry, the entry is bad, or its level text is. `Memory` may come in place of any but the first.
+/// entry, the entry is bad, or its level text is. `Memory` may come in place of any but the first. Rule `file.list`.
 pub fn read_sessions(alloc: Global, text: &str) -> Result<Vec<Entry>, FileFault>
     ensures read { IfOk result (λ entries. entries_of text.now ≡ Ok entries.items) }
     ensures refused { IfErr result (λ fault. fault ≢ Memory → entries_of text.now ≡ Err fault) }

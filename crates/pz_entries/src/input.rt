@@ -10,6 +10,7 @@ use pz_record::input::{Input, Inputs, MOST_INPUTS};
 use serde_json::Value;
 use std::alloc::{AllocError, Global};
 
+/// Rule `file.inputs`.
 fn read_input(value: &Value) -> Option<Input>
     ensures { result ≡ input_of (data_of value.now) }
 {

@@ -54,7 +54,7 @@ fn add_cell(cells: &mut Vec<u32>, place: usize) -> Result<(), AllocError>
     Ok(())
 }
 
-/// The names of the cells that a level text gives; None: it is no level text.
+/// The names of the cells that a level text gives; None: it is no level text. Rule `texts.read`.
 pub fn read_level_text(alloc: Global, text: &str) -> Result<Option<Recorded>, AllocError>
     ensures { IfOk result (λ recorded. recorded ≡ reading text.now) }
 {

@@ -2,22 +2,22 @@
 
 ghost use Rattle.std.specs.Prelude.{◌≡◌};
 
-/// The most objects that a source may have.
+/// The most objects that a source may have. Rule `limits.objects`.
 pub const MAX_OBJECTS: usize = 512;
 
-/// The most layers that a source may have.
+/// The most layers that a source may have. Rule `limits.layers`.
 pub const MAX_LAYERS: usize = 100;
 
-/// The most columns and rows that a level may have.
+/// The most columns and rows that a level may have. Rule `limits.sides`.
 pub const MAX_SIDE: usize = 255;
 
-/// The most cells that a level may have.
+/// The most cells that a level may have. Rule `limits.cells`.
 pub const MAX_CELLS: usize = 16_384;
 
-/// The most cells that a row of a rule may have.
+/// The most cells that a row of a rule may have. Rule `limits.row-cells`.
 pub const MAX_ROW_CELLS: usize = 64;
 
-/// The most rows that a side of a rule may have.
+/// The most rows that a side of a rule may have. Rule `limits.rows`.
 pub const MAX_ROWS: usize = 8;
 
 /// Promises the limits as numbers, so that changing a constant alone breaks a proof.

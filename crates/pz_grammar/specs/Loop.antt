@@ -6,7 +6,7 @@ use Rattle.pz_game.specs.declared.rule_line.RuleLine.{RuleLine}
 use Rattle.pz_grammar.specs.declared.loops.LoopWord.{LoopWord}
 use Rattle.pz_grammar.specs.declared.loops.LoopWord.TheVariants.{Start, End}
 
--- a loop line is exactly one loop word
+-- rules.loop-lines: a loop line is exactly one loop word
 unfoldable pub loop_word : List (List ℕ) → Option LoopWord
 loop_word (word ∷ []) =
     if bytes_eq word (codes "startloop") then Some Start else (if bytes_eq word (codes "endloop") then Some End else None)

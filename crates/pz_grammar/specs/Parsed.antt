@@ -27,6 +27,7 @@ abbrev pub phrase_before : Phrase → Cell → List Cell → Seen → Option Wit
 phrase_before phrase cell.Gap cells seen = None
 phrase_before phrase (cell.Items phrases) cells seen = Some (record { cell = cell.Items (phrase ∷ phrases); cells = cells; seen = seen })
 
+-- rules.cells
 abbrev pub with_phrase : Phrase → Option Within → Option Within
 with_phrase phrase None = None
 with_phrase phrase (Some w) = phrase_before phrase w.cell w.cells w.seen
@@ -83,7 +84,7 @@ abbrev pub command_of : Token → Option Command
 command_of (token.Command command) = Some command
 command_of _ = None
 
--- only commands
+-- rules.commands: only commands
 unfoldable pub commands_of : List Token → Option (List Command)
 commands_of tokens = all_some (map command_of tokens)
 
@@ -95,6 +96,7 @@ abbrev pub after_joined : List Token → List Token
 after_joined (token.Plus ∷ ts) = ts
 after_joined ts = ts
 
+-- rules.prefixes
 unfoldable pub prefixes_of : List Token → List Token
 prefixes_of [] = []
 prefixes_of (t ∷ ts) = if is_prefix t then t ∷ prefixes_of ts else []
@@ -128,7 +130,7 @@ abbrev pub with_left : Bool → List Token → Option Seen → Option Rule
 with_left is_joined prefixes None = None
 with_left is_joined prefixes (Some s) = with_rows is_joined prefixes s.rows s.rest
 
--- the rule of a line, if it has one
+-- rules.form: the rule of a line, if it has one
 unfoldable pub parsed : List Token → Option Rule
 parsed tokens =
     let ts = after_joined tokens in

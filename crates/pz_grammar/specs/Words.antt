@@ -68,7 +68,7 @@ mark_of word =
     (if bytes_eq word (codes "endloop") then Some token.EndLoop else
     None))))))))
 
--- the rule word that a text spells
+-- rules.words: the rule word that a text spells
 unfoldable pub rule_word : List ℕ → Option Token
 rule_word word = option_or (mark_of word) (option_or (option_map token.Lead (lead_of word)) (option_map token.Command (command_of_word word)))
 

@@ -35,7 +35,7 @@ fn is_prefix(token: &Token) -> bool
     }
 }
 
-/// The prefixes that tokens begin with, and what follows them.
+/// The prefixes that tokens begin with, and what follows them. Rule `rules.prefixes`.
 fn read_prefixes<'a>(
     alloc: Global,
     tokens: &'a [Token],
@@ -64,7 +64,7 @@ fn command_of(token: &Token) -> Option<Command>
     }
 }
 
-/// The tokens as commands, if all of them are commands.
+/// The tokens as commands, if all of them are commands. Rule `rules.commands`.
 fn commands_of(alloc: Global, tokens: &[Token]) -> Result<Option<Listed<Command>>, AllocError>
     ensures { IfOk result (λ commands. commands ≡ commands_of tokens.now) }
 {
@@ -127,7 +127,7 @@ fn read_rule(alloc: Global, tokens: &[Token]) -> Result<Option<Rule>, AllocError
     }))
 }
 
-/// The rule that these tokens write, if they write one.
+/// The rule that these tokens write, if they write one. Rule `rules.form`.
 #[tactic(auto, using(crate::proofs::Complete::exact))]
 pub fn parse(alloc: Global, tokens: &[Token]) -> Result<Option<Rule>, AllocError>
     ensures value { IfOk result (λ rule. rule ≡ parsed tokens.now) }

@@ -14,7 +14,7 @@ pub enum LoopWord {
     End,
 }
 
-/// The loop word of a line with no other word, if it is one.
+/// The loop word of a line with no other word, if it is one. Rule `rules.loop-lines`.
 pub fn loop_word(words: &[Name]) -> Option<LoopWord>
     ensures { result ≡ loop_word words.now }
 {

@@ -27,6 +27,7 @@ enum Step<'a> {
     Refused,
 }
 
+/// Rule `rules.cells`.
 #[tactic(auto, using(crate::proofs::Stepping::stepping))]
 fn phrase_added<'a>(row: OpenRow, phrase: Phrase, rest: &'a [Token]) -> Result<Step<'a>, AllocError>
     ensures step { IfOk result (StepIs (before row.cells row.cell (with_phrase phrase (inside rest.now)))) }

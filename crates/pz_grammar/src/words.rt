@@ -76,7 +76,7 @@ fn mark_of(word: &str) -> Option<Token>
     }
 }
 
-/// The rule word that a text spells, if it spells one.
+/// The rule word that a text spells, if it spells one. Rule `rules.words`.
 fn rule_word(word: &str) -> Option<Token>
     ensures { result ≡ rule_word word.now }
 {

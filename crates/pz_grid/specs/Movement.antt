@@ -13,7 +13,7 @@ use Rattle.pz_sets.specs.declared.set.TheConstants.{CAPACITY}
 use Rattle.pz_sheet.specs.Grid.{IsOnMap, Grid, place_at, with_place}
 use Rattle.pz_sheet.specs.Movement.{stilled}
 
--- the next position in a direction, if it is on the map
+-- move.action: the next position in a direction, if it is on the map
 abbrev pub neighbour : Grid → Dir → ℕ → ℕ → Option (ℕ × ℕ)
 neighbour grid Up x y = if nat_lt 0 y then Some (x, y - 1) else None
 neighbour grid Down x y = if nat_lt (y + 1) grid.height then Some (x, y + 1) else None
@@ -39,7 +39,7 @@ pub record Spot : Type 0 where
 abbrev pub spot : ℕ → ℕ → ℕ → Spot
 spot x y layer = record { x = x; y = y; layer = layer }
 
--- where a piece with this heading goes, if it can
+-- move.object: where a piece with this heading goes, if it can
 abbrev pub heading_goal : Grid → Spot → Option Dir → Option (ℕ × ℕ)
 heading_goal grid spot None = None
 heading_goal grid spot (Some dir) = free grid spot.layer (neighbour grid dir spot.x spot.y)
@@ -52,7 +52,7 @@ pub record Pass : Type 0 where
 abbrev pub in_pass : Grid → Bool → Pass
 in_pass grid moved = record { grid = grid; moved = moved }
 
--- a piece moves from a spot to its goal, and is still there
+-- move.object: a piece moves from a spot to its goal, and is still there
 abbrev pub moved_to : Pass → Spot → Piece → Option (ℕ × ℕ) → Pass
 moved_to pass spot piece None = pass
 moved_to pass spot piece (Some (x, y)) =
@@ -98,6 +98,7 @@ spots_in depth height x = flat_map (spots_at depth x) (range_with_len 0 height)
 abbrev pub spots : Grid → List Spot
 spots grid = flat_map (spots_in grid.depth grid.height) (range_with_len 0 grid.width)
 
+-- move.order
 abbrev pub pass_of : Grid → Pass
 pass_of grid = fold move_at (in_pass grid false) (spots grid)
 
@@ -118,6 +119,7 @@ abbrev pub settle : ℕ → Grid → Grid
 settle zero grid = grid
 settle (suc n) grid = if (pass_of grid).moved then settle n (pass_of grid).grid else grid
 
--- the movement: each pass with a move stills a piece, so there are at most as many of them as pieces that head somewhere
+-- move.passes: the movement: each pass with a move stills a piece, so there are at most as many of them as pieces that head
+-- somewhere
 abbrev pub resolved : Grid → Grid
 resolved grid = stilled (settle (moving grid) grid)

@@ -29,7 +29,7 @@ position_of grid dir gap_at place index = along grid dir place.x place.y (distan
 abbrev pub cell_holds : Grid → RuleRow → Dir → Place → ℕ × List Item → Bool
 cell_holds grid row dir place (index, pattern) = holds_at grid pattern (position_of grid dir row.gap_at place index)
 
--- all cells of a row are on the map and hold
+-- match.gaps: all cells of a row are on the map and hold
 abbrev pub row_holds : Grid → RuleRow → Dir → Place → Bool
 row_holds grid row dir place = list_all (cell_holds grid row dir place) (enumerate_from 0 row.cells)
 
@@ -75,7 +75,7 @@ holds_behind grid dir x y behind at gap = holds_at grid behind (along grid dir x
 abbrev pub gap_count : Grid → RuleRow → Dir → ℕ
 gap_count grid row dir = if is_some row.gap_at then line_length grid dir else 1
 
--- all pairs of a start cell and a gap, in the order of the scan: of one start cell, of one line, of the level
+-- match.gaps: all pairs of a start cell and a gap, in the order of the scan: of one start cell, of one line, of the level
 abbrev pub pairs_at : Grid → RuleRow → Dir → ℕ → ℕ → List Place
 pairs_at grid row dir line start = map (place_in dir line start) (range_with_len 0 (gap_count grid row dir))
 
@@ -85,11 +85,11 @@ pairs_in grid row dir line = flat_map (pairs_at grid row dir line) (range_with_l
 abbrev pub pairs : Grid → RuleRow → Dir → List Place
 pairs grid row dir = flat_map (pairs_in grid row dir) (range_with_len 0 (line_count grid dir))
 
--- the places of a row
+-- match.places: the places of a row
 abbrev pub places : Grid → RuleRow → Dir → List Place
 places grid row dir = filter (row_holds grid row dir) (pairs grid row dir)
 
--- the places of a row, unless there are more than the limit
+-- match.limit: the places of a row, unless there are more than the limit
 unfoldable pub searched : Grid → RuleRow → Dir → Result (List Place) GridFault
 searched grid row dir = if nat_lt MATCH_LIMIT (length (places grid row dir)) then Err MatchLimit else Ok (places grid row dir)
 
@@ -97,7 +97,7 @@ searched grid row dir = if nat_lt MATCH_LIMIT (length (places grid row dir)) the
 abbrev pub still_holds : Grid → Dir → RuleRow × Place → Bool
 still_holds grid dir (row, place) = (is_some row.gap_at || nat_eq place.gap 0) && row_holds grid row dir place
 
--- there is a place for each row of an instance, and each row holds at its place
+-- match.tested-again: there is a place for each row of an instance, and each row holds at its place
 abbrev pub still_matches : Grid → Instance → List Place → Bool
 still_matches grid instance places =
     nat_eq (length places) (length instance.left) && list_all (still_holds grid instance.scan) (zip instance.left places)

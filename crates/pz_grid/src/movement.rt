@@ -16,6 +16,7 @@ use pz_game::game::Game;
 use pz_sheet::Sheet;
 
 /// Plays the movement of a step: its passes repeat until one moves nothing, then all pieces are stilled. No piece moves more than one cell.
+/// Rule `move.passes`.
 pub fn resolve(game: &Game, level: &mut Level)
     requires { IsOfGame game.now level.old.grid }
     ensures resolved { level.new.grid ≡ resolved level.old.grid }
@@ -44,7 +45,7 @@ impl Passed {
     }
 }
 
-/// The next position in a direction, if it is on the map. The action leads nowhere.
+/// The next position in a direction, if it is on the map. The action leads nowhere. Rule `move.action`.
 fn neighbour<const N: usize>(sheet: &Sheet<N>, dir: Dir, x: u32, y: u32) -> Option<(u32, u32)>
     requires on_map { IsOnMap sheet.now.grid x y }
     ensures next { result ≡ neighbour sheet.now.grid dir x y }
@@ -137,7 +138,7 @@ impl Level {
         self.bare.still_all();
     }
 
-    /// Moves a piece to where it goes.
+    /// Moves a piece to where it goes. Rule `move.object`.
     fn carry(&mut self, x: u32, y: u32, mover: Mover, next: (u32, u32))
         requires on_map { IsOnMap self.old.grid x y }
         requires leaves { Leaves self.old.grid x y mover next }
@@ -195,7 +196,7 @@ impl Level {
         passed
     }
 
-    /// Makes one pass, column by column. Columns for which no heading is noted are left out.
+    /// Makes one pass, column by column. Columns for which no heading is noted are left out. Rule `move.order`.
     fn pass(&mut self) -> Passed
         ensures pass { in_pass self.new.grid result.moved ≡ pass_of self.old.grid }
         ensures left { result.left ≡ false → AreColumnsStill self.new.grid 0 self.new.grid.width }

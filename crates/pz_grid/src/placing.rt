@@ -21,7 +21,7 @@ use pz_sheet::runs::RunSearch;
 use std::alloc::Global;
 use std::marker::Model;
 
-/// The most places that a row may have.
+/// The most places that a row may have. Rule `limits.places`.
 pub const MATCH_LIMIT: usize = 1_048_576;
 
 /// For how many places memory is asked at the first.
@@ -330,7 +330,7 @@ fn next_gap<const N: usize>(
 }
 
 /// Adds the places of a row with a gap that start in a cell. From there the cells before the gap hold. The gap stands before the cell of
-/// the number `at`. Further cells are tested only for gaps for which that cell holds.
+/// the number `at`. Further cells are tested only for gaps for which that cell holds. Rule `match.gaps`.
 fn add_places_with_gaps<const N: usize>(
     sheet: &Sheet<N>,
     row: &Row,
@@ -492,7 +492,7 @@ impl Level {
 
 /// The places of a row in a level, in the order of the scan. Left and right scan row by row from the top, each from the left. Up and down
 /// scan column by column from the left, each from the top. At one start gaps ascend. `MatchLimit`: there are more than `MATCH_LIMIT`.
-/// `Memory`: memory was refused.
+/// `Memory`: memory was refused. Rule `match.places`.
 pub fn places(alloc: Global, level: &Level, row: &Row, dir: Dir) -> Result<Vec<Place>, GridFault>
     requires of_game { IsRowOf level.now.grid.layers row.now }
     ensures found { IfOk result (λ found. searched level.now.grid row.now dir ≡ Ok found.items) }

@@ -10,7 +10,7 @@ use crate::Level;
 use pz_game::direction::Dir;
 use pz_game::game::Game;
 
-/// Gives the direction to each object of the level that is a `Player`.
+/// Gives the direction to each object of the level that is a `Player`. Rule `step.press`.
 pub fn push_players(game: &Game, level: &mut Level, dir: Dir)
     requires { IsOfGame game.now level.old.grid }
     ensures pushed { level.new.grid ≡ pushed (players_of game.now) dir level.old.grid }

@@ -99,7 +99,7 @@ impl Level {
     }
 
     /// Rewrites the cells of an instance at the places of its rows, row by row and cell by cell. True: this or an earlier rewriting changed
-    /// a cell. It doesn't test whether the rows hold, and skips cells off the map.
+    /// a cell. It doesn't test whether the rows hold, and skips cells off the map. Rule `match.rewriting`.
     pub fn rewrite_all(
         &mut self,
         instance: &Instance,

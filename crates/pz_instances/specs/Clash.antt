@@ -6,5 +6,6 @@ use Rattle.pz_instances.specs.declared.exclusion.Role.TheVariants.{Placed}
 use Rattle.pz_program.specs.declared.instance.Instance.{Instance}
 use Rattle.pz_instances.specs.Exclusion.{has_impossible}
 
+-- checks.right-clash
 unfoldable pub has_clash : Instance → Bool
 has_clash instance = list_any (has_impossible Placed) instance.right

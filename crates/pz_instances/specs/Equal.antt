@@ -35,5 +35,6 @@ same_cell a b = within_cell a b && within_cell b a
 unfoldable pub same_row : RuleRow → RuleRow → Bool
 same_row a b = pointwise same_cell a.cells b.cells
 
+-- expand.equal
 unfoldable pub same_instance : Instance → Instance → Bool
 same_instance a b = same_dir a.scan b.scan && (pointwise same_row a.left b.left && pointwise same_row a.right b.right)

@@ -25,7 +25,8 @@ at_odds Asked a b =
     else not (is_present a || is_present b || same_meaning a b)
 at_odds Placed a b = not (is_absent a || is_absent b) && not (same_meaning a b)
 
--- no cell can be as both items say: they contradict each other on one object, or they are two objects of one layer
+-- expand.dropped: no cell can be as both items say: they contradict each other on one object, or they are two objects of one
+-- layer
 unfoldable pub excludes : Role → Item → Item → Bool
 excludes role a b =
     if a.object == b.object then at_odds role a.word b.word

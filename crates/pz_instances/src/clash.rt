@@ -7,7 +7,7 @@ ghost use Rattle.pz_instances.specs.Clash.{has_clash};
 use crate::exclusion::{Role, have_impossible};
 use pz_program::instance::Instance;
 
-/// Whether the right of an instance has a cell that can't be placed.
+/// Whether the right of an instance has a cell that can't be placed. Rule `checks.right-clash`.
 #[tactic(auto, unfolding(crate::specs::Clash::has_clash))]
 fn has_clash(instance: &Instance) -> bool
     ensures { result ≡ has_clash instance.now }

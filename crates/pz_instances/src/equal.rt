@@ -72,7 +72,7 @@ fn same_rows(a: &[Row], b: &[Row]) -> bool
     a.len() == b.len() && rows_agree(a, b)
 }
 
-/// Whether two instances of one rule are equal.
+/// Whether two instances of one rule are equal. Rule `expand.equal`.
 pub fn same_instance(a: &Instance, b: &Instance) -> bool
     ensures { result ≡ same_instance a.now b.now }
 {

@@ -43,7 +43,7 @@ fn at_odds(role: Role, a: Word, b: Word) -> bool
     }
 }
 
-/// Whether no cell can be as both items say.
+/// Whether no cell can be as both items say. Rule `expand.dropped`.
 fn excludes(role: Role, a: &Item, b: &Item) -> bool
     ensures { result ≡ excludes role a.now b.now }
 {

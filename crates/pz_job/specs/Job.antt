@@ -23,7 +23,8 @@ abbrev pub plan_at : GameParts → Program → List Input → List (List (List �
 plan_at game program inputs recorded order first =
     record { game = game; program = program; first = first; inputs = inputs; recorded = recorded; order = order }
 
--- a session is refused by the fault of its source, else by the fault of its rules, else if no level is left from its index on
+-- play.refused: a session is refused by the fault of its source, else by the fault of its rules, else if no level is left from
+-- its index on
 unfoldable pub plan_of : List ℕ → List Input → List (List (List ℕ)) → ℕ → Order → Result PlanState Refusal
 plan_of source inputs recorded index order =
     or_refused (source_of source) (λ game.

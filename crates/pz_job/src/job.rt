@@ -21,7 +21,7 @@ use pz_record::recorded::Recorded;
 use std::alloc::{AllocError, Global};
 use std::thread::Threads;
 
-/// What is needed to play a session whose source gave this answer, or why it is refused.
+/// What is needed to play a session whose source gave this answer, or why it is refused. Rule `play.refused`.
 fn make_plan(
     answer: Answer,
     inputs: Inputs,

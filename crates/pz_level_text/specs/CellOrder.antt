@@ -14,7 +14,7 @@ abbrev pub row_of : Order → Grid → ℕ → ℕ
 row_of Rows grid k = k / grid.width
 row_of Columns grid k = k % grid.height
 
--- the column and the row of the cell of this number
+-- texts.order: the column and the row of the cell of this number
 abbrev pub position_of : Order → Grid → ℕ → ℕ × ℕ
 position_of order grid k = (column_of order grid k, row_of order grid k)
 

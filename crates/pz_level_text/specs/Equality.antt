@@ -12,6 +12,6 @@ same_sets [] [] = true
 same_sets (x ∷ xs) (y ∷ ys) = same_set x y && same_sets xs ys
 same_sets xs ys = false
 
--- the level has as many cells as were recorded, and each, in this order, has exactly the recorded names
+-- texts.equal: the level has as many cells as were recorded, and each, in this order, has exactly the recorded names
 unfoldable pub equals_recorded : GameParts → Order → Grid → List (List (List ℕ)) → Bool
 equals_recorded game order grid recorded = same_sets (sets_in game order grid) recorded

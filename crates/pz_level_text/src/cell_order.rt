@@ -6,7 +6,7 @@ ghost use Rattle.pz_level_text.specs.CellOrder.{column_of, row_of, number_of};
 use pz_bare::BareLevel;
 use pz_record::order::Order;
 
-/// The column and the row of the cell of this number.
+/// The column and the row of the cell of this number. Rule `texts.order`.
 pub(crate) fn position(order: Order, level: &BareLevel, number: u32) -> (u32, u32)
     requires { number < level.now.grid.width * level.now.grid.height }
     ensures column { result.0 ≡ column_of order level.now.grid number }

@@ -11,7 +11,7 @@ use pz_record::order::Order;
 use pz_record::recorded::Recorded;
 
 /// Whether the level has as many cells as were recorded, and each, in this order, exactly the recorded names. Neither the width nor
-/// headings are compared.
+/// headings are compared. Rule `texts.equal`.
 pub fn equals(game: &Game, level: &BareLevel, recorded: &Recorded, order: Order) -> bool
     ensures { result ≡ equals_recorded game.now order level.now.grid recorded.now }
 {

@@ -158,7 +158,7 @@ impl<'a> TextWriter<'a> {
     /// The text of a level, as a JSON string. The cells come in the writer's order, each with a comma after it. The first cell with a set
     /// of names has the names, sorted by their bytes and separated by spaces, then a colon and the next number from 0. A further cell with
     /// the same names has only that number. A line break comes after as many cells as the level is wide, in either order. Err: memory was
-    /// refused.
+    /// refused. Rule `texts.sets`.
     pub fn write(&mut self, level: &BareLevel) -> Result<QuotedText, AllocError>
         ensures text { IfOk result (λ text. text ≡ text_of_level self.old.table.game self.old.order level.now.grid) }
         ensures cells { OnOk result (self.new.cells ≡ texts_in self.old.table.game self.old.order level.now.grid) }

@@ -17,6 +17,7 @@ frame_parts session number at kind level =
 unfoldable pub frame_line : ℕ → ℕ → FrameKind → ℕ → List ℕ → List ℕ
 frame_line session number kind at level_text = frame_parts session number at (kind_name kind) level_text
 
+-- program.causes
 abbrev pub with_cause : Option (List ℕ) → List ℕ
 with_cause None = []
 with_cause (Some cause) = codes "\"cause\":" ++ quoted cause ++ codes ","
@@ -59,6 +60,7 @@ abbrev pub numbered : (ℕ → Record → List ℕ) → ℕ → List Record → 
 numbered lines session [] = []
 numbered lines session (shown ∷ later) = lines session shown ++ numbered lines (suc session) later
 
+-- program.lines
 unfoldable pub text_of : List Record → List ℕ
 text_of recording = numbered lines_of 0 recording
 

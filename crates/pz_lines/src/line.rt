@@ -36,7 +36,7 @@ fn write_frame(
     Ok(lines)
 }
 
-/// Writes the cause of a close, if it has one.
+/// Writes the cause of a close, if it has one. Rule `program.causes`.
 fn put_cause(alloc: Global, lines: &mut Vec<u8>, verdict: Verdict) -> Result<(), AllocError>
     ensures { OnOk result (lines.new.items ≡ lines.old.items ++ with_cause (cause_name verdict)) }
 {
@@ -81,7 +81,7 @@ pub(crate) fn frame_count(items: &[Item]) -> u64
         .count() as u64
 }
 
-/// Writes the line of an item of a session, whose name and number of frames the close tells.
+/// Writes the line of an item of a session, whose name and number of frames the close tells. Rule `program.lines`.
 pub fn write_item(
     alloc: Global,
     lines: Vec<u8>,

@@ -14,7 +14,7 @@ unfoldable pub reaches : ℕ → List Meaning → ℕ → ℕ → Bool
 reaches zero meanings from to = false
 reaches (suc n) meanings from to = list_any (λ part. part == to || reaches n meanings part to) (parts_at meanings from)
 
--- a name that reaches itself
+-- checks.circles: a name that reaches itself
 abbrev pub is_on_cycle : List Meaning → ℕ → Bool
 is_on_cycle meanings number = reaches (length meanings) meanings number number
 

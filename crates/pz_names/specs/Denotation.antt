@@ -18,14 +18,15 @@ with_mentions mentions more = fold with_mention mentions more
 abbrev pub AreMarked : List Bool → List ℕ → Type 0
 AreMarked marks mentions = (k : ℕ) → k < length marks → unwrap_or (slice_get marks k) false ≡ list_any (λ other. other == k) mentions
 
--- the members of the parts in the order of first mention, if each part is known
+-- legend.members: the members of the parts in the order of first mention, if each part is known
 abbrev pub gathered : (ℕ → Option Denotation) → List ℕ → List ℕ → Option (List ℕ)
 gathered known mentions [] = Some mentions
 gathered known mentions (part ∷ parts) = option_and_then (λ d. gathered known (with_mentions mentions d.members) parts) (known part)
 
--- What the line of the name of this number makes it denote; `known` has what the names on its right denote. An object has
--- itself as its only member. A synonym has the kind, the members and the number of the name that it stands for. A property or
--- an aggregate has the members of its parts, and its own number. All names of one object have the number of the first of them.
+-- legend.synonyms: What the line of the name of this number makes it denote; `known` has what the names on its right denote. An
+-- object has itself as its only member. A synonym has the kind, the members and the number of the name that it stands for. A
+-- property or an aggregate has the members of its parts, and its own number. All names of one object have the number of the
+-- first of them.
 abbrev pub denotation_of : (ℕ → Option Denotation) → ℕ → Meaning → Option Denotation
 denotation_of known number (Itself place first) = Some (record { kind = Object; members = place ∷ []; number = first })
 denotation_of known number (Same other) = known other

@@ -27,5 +27,6 @@ is_mixed kind_of (Same name) = false
 is_mixed kind_of (AllOf parts) = list_any (λ part. is_of_kind Property (kind_of part)) parts
 is_mixed kind_of (AnyOf parts) = list_any (λ part. is_of_kind Aggregate (kind_of part)) parts
 
+-- checks.mixed
 abbrev pub mixes : (List ℕ → Option Kind) → List Definition → Definition → Option Code
 mixes kind_of before definition = if is_mixed kind_of definition.said then Some code.Mixed else None

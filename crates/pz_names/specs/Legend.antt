@@ -18,7 +18,7 @@ abbrev pub sides : List ℕ → Option (List ℕ × List ℕ)
 sides [] = None
 sides (c ∷ cs) = option_map (λ at. (take (at + 1) (c ∷ cs), drop (at + 1) cs)) (position (λ d. d == 61) cs)
 
--- the first, third, fifth name and so on, after those in `before`, if the joint stands between each two of them
+-- legend.joints: the first, third, fifth name and so on, after those in `before`, if the joint stands between each two of them
 abbrev pub joined : List ℕ → List (List ℕ) → List (List ℕ) → Option (List (List ℕ))
 joined joint before [] = None
 joined joint before (part ∷ []) = Some (before ++ part ∷ [])
@@ -39,7 +39,7 @@ defined_by number [] right = None
 defined_by number (name ∷ []) right = option_map (λ said. record { number = number; name = name; said = said }) (said_by right)
 defined_by number (name ∷ other ∷ more) right = None
 
--- the definition on a line, if the line has the form of one
+-- legend.lines: the definition on a line, if the line has the form of one
 abbrev pub definition_of : Line → Option Definition
 definition_of line = option_and_then (λ both. defined_by line.number (names_of both.0) (names_of both.1)) (sides line.text)
 
@@ -73,7 +73,7 @@ misnames_by there (Some definition) =
     if is_name_of there definition.name then Some code.Duplicate
     else (if is_full there then Some code.TooLarge else None)
 
--- the same of any line: blank lines are skipped, and the names come from OBJECTS and from the lines above
+-- checks.legend: the same of any line: blank lines are skipped, and the names come from OBJECTS and from the lines above
 abbrev pub misnames : List (List ℕ) → List Line → Line → Option Code
 misnames objects before line = if is_blank line then None else misnames_by (objects ++ defined before) (definition_of line)
 

@@ -31,7 +31,7 @@ is_pixel c = c == 46 || is_ascii_digit c
 abbrev pub is_sprite_row : Line → Bool
 is_sprite_row line = not (is_blank line) && list_all is_pixel line.text
 
--- the sprite rows at the front, at most `most` of them
+-- objects.sprites: the sprite rows at the front, at most `most` of them
 abbrev pub sprite_rows : ℕ → List Line → List Line
 sprite_rows most [] = []
 sprite_rows most (line ∷ lines) = if is_sprite_row line && nat_lt 0 most then line ∷ sprite_rows (most - 1) lines else []
@@ -49,11 +49,12 @@ abbrev pub is_whole : List Line → Bool
 is_whole [] = false
 is_whole (colours ∷ lines) = not (is_blank colours) && is_sprite (sprite_rows 5 lines)
 
--- what is left of the lines after a name line, without its colours and its sprite rows
+-- text.blank-lines: what is left of the lines after a name line, without its colours and its sprite rows
 abbrev pub behind_paragraph : List Line → List Line
 behind_paragraph [] = []
 behind_paragraph (colours ∷ lines) = if is_blank colours then colours ∷ lines else drop (length (sprite_rows 5 lines)) lines
 
+-- objects.names
 abbrev pub paragraph_of : Line → List Line → Paragraph
 paragraph_of line lines = record { line = record { number = line.number; names = names_of line.text }; is_whole = is_whole lines }
 
@@ -79,8 +80,8 @@ abbrev pub has_repeat : List (List ℕ) → List (List ℕ) → Bool
 has_repeat above [] = false
 has_repeat above (name ∷ names) = is_name_of above name || has_repeat (above ++ name ∷ []) names
 
--- what is wrong with a paragraph: its form, a name that is there already, or too many objects or names; `count` paragraphs
--- stand above it, and `above` are their names
+-- checks.objects: what is wrong with a paragraph: its form, a name that is there already, or too many objects or names; `count`
+-- paragraphs stand above it, and `above` are their names
 abbrev pub misnamed : List (List ℕ) → ℕ → Paragraph → Option Code
 misnamed above count paragraph =
     if not paragraph.is_whole then Some code.BadObject

@@ -75,7 +75,7 @@ fn lies_on_cycle(
     is_on_cycle(alloc, meanings, number)
 }
 
-/// `BadLegend` at the first line whose name reaches itself. `first` is the number of the first line's name.
+/// `BadLegend` at the first line whose name reaches itself. `first` is the number of the first line's name. Rule `checks.circles`.
 pub fn circle(
     alloc: Global,
     first: usize,

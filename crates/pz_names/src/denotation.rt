@@ -95,7 +95,7 @@ fn gather(
     Ok(true)
 }
 
-/// The members of all parts, in order of first mention, if each part is known.
+/// The members of all parts, in order of first mention, if each part is known. Rule `legend.members`.
 fn gathered(
     alloc: Global,
     parts: &[usize],
@@ -132,7 +132,7 @@ fn group(
     }))
 }
 
-/// What the line of the name of this number makes it denote, if the names on its right are known.
+/// What the line of the name of this number makes it denote, if the names on its right are known. Rule `legend.synonyms`.
 fn denote(
     alloc: Global,
     number: usize,
@@ -242,6 +242,7 @@ fn nothing_known(alloc: Global, count: usize) -> Result<Vec<Option<Denotation>>,
 }
 
 /// What each name denotes, or `None` for a name that leads to itself or to such a name. No line may name something unknown.
+/// Rules `legend.synonyms`, `legend.members`.
 pub fn denotations(
     alloc: Global,
     meanings: &[Meaning],

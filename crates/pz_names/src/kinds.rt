@@ -56,7 +56,7 @@ impl Said {
     }
 }
 
-/// `Mixed` at the first line with an aggregate in a property, or a property in an aggregate.
+/// `Mixed` at the first line with an aggregate in a property, or a property in an aggregate. Rule `checks.mixed`.
 pub fn mixture(
     names: &NameSet,
     values: &[Denotation],

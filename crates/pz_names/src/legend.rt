@@ -72,7 +72,7 @@ pub fn sides<'a>(text: &'a [char]) -> Option<(&'a [char], &'a [char])>
     }
 }
 
-/// The first, third, fifth name and so on, if there is one and the joint stands between each two of them.
+/// The first, third, fifth name and so on, if there is one and the joint stands between each two of them. Rule `legend.joints`.
 fn joined(alloc: Global, names: &[Name], joint: &str) -> Result<Option<Listed<Name>>, AllocError>
     ensures { IfOk result (λ parts. parts ≡ joined joint.now [] names.now) }
 {
@@ -191,7 +191,7 @@ fn new_definition(
     Ok(definition)
 }
 
-/// Reads a line that may be blank, and adds its definition and its name.
+/// Reads a line that may be blank, and adds its definition and its name. Rule `checks.legend`.
 fn define(
     alloc: Global,
     names: &mut NameSet,
@@ -214,7 +214,7 @@ fn define(
 }
 
 /// Reads the definitions of LEGEND, and adds their names. Or the fault of the first line that is no definition (`BadLegend`), defines a
-/// name that is there already (`Duplicate`), or one name too many (`TooLarge`).
+/// name that is there already (`Duplicate`), or one name too many (`TooLarge`). Rule `legend.lines`.
 pub fn definitions(
     alloc: Global,
     names: &mut NameSet,

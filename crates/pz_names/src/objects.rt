@@ -16,7 +16,7 @@ use pz_text::line::Line;
 use pz_text::words::names_of;
 use std::alloc::{AllocError, Global};
 
-/// The most names that a source may have, all names of OBJECTS and LEGEND together.
+/// The most names that a source may have, all names of OBJECTS and LEGEND together. Rule `limits.names`.
 pub const MAX_NAMES: usize = 1024;
 
 /// Promises the limit as a number, so that changing the constant alone breaks a proof.
@@ -56,7 +56,7 @@ fn is_sprite_row(line: &Line) -> bool
     !is_blank(line) && are_pixels(line.text.items())
 }
 
-/// The sprite rows at the front, at most five of them.
+/// The sprite rows at the front, at most five of them. Rule `objects.sprites`.
 pub fn sprite_rows(lines: &[Line]) -> &[Line]
     ensures rows { result.now ≡ sprite_rows 5 lines.now }
     ensures within { length result.now ≤ length lines.now }
@@ -97,7 +97,7 @@ fn is_whole(lines: &[Line]) -> bool
     }
 }
 
-/// What is left of the lines after a name line, without its colours and its sprite rows.
+/// What is left of the lines after a name line, without its colours and its sprite rows. Rule `text.blank-lines`.
 fn behind_paragraph(lines: &[Line]) -> &[Line]
     ensures { result.now ≡ behind_paragraph lines.now }
 {
@@ -160,7 +160,7 @@ fn note_names(alloc: Global, above: &mut NameSet, names: &[Name]) -> Result<bool
 }
 
 /// What is wrong with a paragraph, if anything: `BadObject`, `Duplicate` or `TooLarge`. `count` paragraphs stand above it, with the names
-/// in `above`. If nothing is wrong, its names are added.
+/// in `above`. If nothing is wrong, its names are added. Rule `checks.objects`.
 fn misnamed(
     alloc: Global,
     above: &mut NameSet,
@@ -250,7 +250,7 @@ fn name_lines(alloc: Global, paragraphs: Vec<Paragraph>) -> Result<Vec<NameLine>
 
 /// The name line of each object, and all names of OBJECTS; or the first fault, at the name line of an object. It is `BadObject` (no colours
 /// directly after the name line, or sprite rows that aren't five of five), `Duplicate` or `TooLarge`. `Memory`, with line 0, may come in
-/// place of either.
+/// place of either. Rule `objects.names`.
 pub fn read_objects(alloc: Global, lines: &[Line]) -> Result<(Vec<NameLine>, NameSet), SourceFault>
     ensures read { IfOk result (λ r. objects_of lines.now ≡ Ok r.0.items) }
     ensures names { IfOk result (λ r. r.1 ≡ object_names r.0.items) }

@@ -24,7 +24,7 @@ has_more_gaps row = nat_lt 1 (count_by is_gap row)
 unfoldable pub is_long : List Cell → Bool
 is_long row = nat_lt MAX_ROW_CELLS (length row)
 
--- a side of more rows, or longer ones, than a side may have
+-- checks.too-large: a side of more rows, or longer ones, than a side may have
 unfoldable pub is_large : List (List Cell) → Bool
 is_large rows = nat_lt MAX_ROWS (length rows) || list_any is_long rows
 
@@ -87,11 +87,13 @@ shapes_agree left right = list_all (λ p. same_shape p.0 p.1) (zip left right)
 unfoldable pub is_other_shape : List (List Cell) → List (List Cell) → Bool
 is_other_shape left right = not (length right == 0) && not ((length left == length right) && shapes_agree left right)
 
+-- checks.shape
 unfoldable pub is_misshapen : Rule → Bool
 is_misshapen rule = list_any has_loose_gap rule.left || list_any has_loose_gap rule.right || is_other_shape rule.left rule.right
 
--- the first fault in what a rule says, in the order of the checks: more than one `...` in a row, more rows or longer ones than a
--- rule may have, a name that nothing has, `no` before an aggregate, sides of other shapes, a movement word in a late rule
+-- checks.late-movement: the first fault in what a rule says, in the order of the checks: more than one `...` in a row, more
+-- rows or longer ones than a rule may have, a name that nothing has, `no` before an aggregate, sides of other shapes, a
+-- movement word in a late rule
 unfoldable pub fault_of : List Denotation → Bool → Rule → Option RuleFault
 fault_of table is_late rule =
     if list_any has_more_gaps rule.left || list_any has_more_gaps rule.right then Some fault.OutsideProfile

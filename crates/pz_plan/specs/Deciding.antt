@@ -63,12 +63,13 @@ lone (k ∷ next ∷ more) = None
 unfoldable pub the_only : (Choice → Bool) → List Choice → Option ℕ
 the_only is choices = lone (numbers_of is (enumerate_from 0 choices))
 
--- the member of a property: of its only occurrence in the cell, else of its only one in the rule
+-- expand.right-property: the member of a property: of its only occurrence in the cell, else of its only one in the rule
 unfoldable pub member_choice : List Choice → Spot → ℕ → Option ℕ
 member_choice choices spot property =
     option_or (the_only (is_here spot (is_member property)) choices) (the_only (is_member property) choices)
 
--- the direction of a word: of its only occurrence on the same name in the cell, else of its only one in the cell, else of its only one in the rule
+-- expand.right-word: the direction of a word: of its only occurrence on the same name in the cell, else of its only one in the
+-- cell, else of its only one in the rule
 unfoldable pub direction_choice : List Choice → Spot → Class → Subject → Option ℕ
 direction_choice choices spot class on =
     option_or (the_only (is_here spot (is_direction_on class on)) choices)
@@ -111,6 +112,7 @@ decided_cells choices row n (cell ∷ cells) =
 unfoldable pub decided_row : List Choice → ℕ → PlanRow Mention → Option (PlanRow Term)
 decided_row choices n row = option_map (λ cells. record { cells = cells; gap_at = row.gap_at }) (decided_cells choices n 0 row.cells)
 
+-- expand.ambiguous
 unfoldable pub decided_rows : List Choice → ℕ → List (PlanRow Mention) → Option (List (PlanRow Term))
 decided_rows choices n [] = Some []
 decided_rows choices n (row ∷ rows) = joined (decided_row choices n row) (decided_rows choices (n + 1) rows)

@@ -46,7 +46,7 @@ choices_in_row row cells = flat_map (choices_of_cell row) (enumerate_from 0 cell
 abbrev pub choices_of_row : ℕ × PlanRow Mention → List Choice
 choices_of_row numbered = choices_in_row numbered.0 numbered.1.cells
 
--- what rows ask for
+-- expand.choices: what rows ask for
 unfoldable pub choices_in_rows : List (PlanRow Mention) → List Choice
 choices_in_rows rows = flat_map choices_of_row (enumerate_from 0 rows)
 

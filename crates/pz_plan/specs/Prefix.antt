@@ -39,6 +39,6 @@ abbrev pub or_all : List Dir → List Dir
 or_all [] = Up ∷ Down ∷ Left ∷ Right ∷ []
 or_all (direction ∷ directions) = direction ∷ directions
 
--- the directions of a rule
+-- rules.directions: the directions of a rule
 unfoldable pub directions_of : Rule → List Dir
 directions_of rule = or_all (mentioned_directions rule.prefixes)

@@ -30,20 +30,20 @@ is_property _ = false
 abbrev pub is_chosen : Option (Lead Class) → Denotation → Bool
 is_chosen word denotation = is_property denotation.kind && not (is_no word) && not (length denotation.members == 1)
 
--- what a name stands for, each with the word before the name
+-- expand.names: what a name stands for, each with the word before the name
 unfoldable pub mentions_of : Option (Lead Class) → Denotation → List Mention
 mentions_of word denotation =
     if is_chosen word denotation then record { lead = word; subject = subject.Property denotation.number } ∷ []
     else map (λ object. record { lead = word; subject = subject.Object object }) denotation.members
 
--- what a name denotes, if there is such a name
+-- legend.one-member: what a name denotes, if there is such a name
 unfoldable pub denoted : List Denotation → Option ℕ → Option Denotation
 denoted table name = option_and_then (slice_get table) name
 
 unfoldable pub mentions_at : List Denotation → Phrase → List Mention
 mentions_at table phrase = option_map_or (mentions_of phrase.lead) (denoted table phrase.name) []
 
--- the phrases of a cell, with each name replaced by what it stands for; what is said twice counts once
+-- expand.no-property: the phrases of a cell, with each name replaced by what it stands for; what is said twice counts once
 unfoldable pub spelled_out : Side → List Denotation → List Phrase → List Mention
 spelled_out side table phrases = firsts (says_the_same side) (flat_map (mentions_at table) phrases)
 

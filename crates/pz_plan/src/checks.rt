@@ -31,6 +31,7 @@ fn has_long(rows: &[Listed<Cell>]) -> bool
     rows.iter().any(|row| is_long(row.items()))
 }
 
+/// Rule `checks.too-large`.
 fn is_large(rows: &[Listed<Cell>]) -> bool
     ensures { result ≡ is_large rows.now }
 {
@@ -168,6 +169,7 @@ fn is_other_shape(left: &[Listed<Cell>], right: &[Listed<Cell>]) -> bool
     right.len() != 0 && !(left.len() == right.len() && shapes_agree(left, right))
 }
 
+/// Rule `checks.shape`.
 fn is_misshapen(rule: &Rule) -> bool
     ensures { result ≡ is_misshapen rule.now }
 {
@@ -176,7 +178,7 @@ fn is_misshapen(rule: &Rule) -> bool
         || is_other_shape(rule.left.items(), rule.right.items())
 }
 
-/// The first fault in what a rule says.
+/// The first fault in what a rule says. Rule `checks.late-movement`.
 pub fn fault_of(table: &[Denotation], is_late: bool, rule: &Rule) -> Option<RuleFault>
     ensures { result ≡ fault_of table.now is_late rule.now }
 {

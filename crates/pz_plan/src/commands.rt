@@ -21,7 +21,7 @@ fn flag_of(command: Command) -> Commands
     }
 }
 
-/// The commands of a list.
+/// The commands of a list. Rule `rules.commands`.
 #[tactic(auto, unfolding(crate::specs::Commands::commands_given))]
 pub fn commands_given(commands: &[Command]) -> Commands
     ensures { result ≡ commands_given commands.now }

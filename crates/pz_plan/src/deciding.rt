@@ -57,7 +57,7 @@ fn the_only(wanted: Wanted, within: Option<Spot>, choices: &[Choice]) -> Option<
     found
 }
 
-/// The choice that decides a property of the right.
+/// The choice that decides a property of the right. Rule `expand.right-property`.
 fn member_choice(choices: &[Choice], spot: Spot, property: usize) -> Option<usize>
     ensures { result ≡ member_choice choices.now spot property }
 {
@@ -65,7 +65,7 @@ fn member_choice(choices: &[Choice], spot: Spot, property: usize) -> Option<usiz
     the_only(wanted, Some(spot), choices).or(the_only(wanted, None, choices))
 }
 
-/// The choice that decides a word of the right.
+/// The choice that decides a word of the right. Rule `expand.right-word`.
 fn direction_choice(choices: &[Choice], spot: Spot, class: Class, on: Subject) -> Option<usize>
     ensures { result ≡ direction_choice choices.now spot class on }
 {
@@ -168,7 +168,7 @@ fn decided_row(
     }
 }
 
-/// The rows of terms of a right side, if nothing in it is ambiguous.
+/// The rows of terms of a right side, if nothing in it is ambiguous. Rule `expand.ambiguous`.
 pub fn decided_rows(
     alloc: Global,
     choices: &[Choice],

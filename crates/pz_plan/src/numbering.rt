@@ -112,7 +112,7 @@ fn number_cells(
     Ok(Listed::new(out))
 }
 
-/// The rows of terms of a left side, whose choices are added.
+/// The rows of terms of a left side, whose choices are added. Rule `expand.choices`.
 pub fn number_rows(
     alloc: Global,
     rows: &[PlanRow<Mention>],

@@ -82,7 +82,7 @@ fn mentioned_directions(alloc: Global, prefixes: &[Token]) -> Result<Vec<Dir>, A
     Ok(directions)
 }
 
-/// The directions of a rule: all four if its prefixes mention none.
+/// The directions of a rule: all four if its prefixes mention none. Rule `rules.directions`.
 pub fn directions_of(alloc: Global, rule: &Rule) -> Result<Listed<Dir>, AllocError>
     ensures { IfOk result (λ directions. directions ≡ directions_of rule.now) }
 {

@@ -140,7 +140,7 @@ fn denotation_at(table: &[Denotation], number: usize) -> Option<&Denotation>
     table.get(number)
 }
 
-/// What a name denotes, if there is such a name.
+/// What a name denotes, if there is such a name. Rule `legend.one-member`.
 pub fn denoted(table: &[Denotation], name: Option<usize>) -> Option<&Denotation>
     ensures { option_copied result ≡ denoted table.now name }
 {
@@ -164,7 +164,7 @@ fn add_phrase(
     }
 }
 
-/// What the phrases of a cell stand for.
+/// What the phrases of a cell stand for. Rule `expand.no-property`.
 #[tactic(auto, using(crate::proofs::Mentions::mentioning), unfolding(crate::specs::Spelling::spelled_out))]
 fn spelled_out(
     alloc: Global,
@@ -257,7 +257,7 @@ fn row_spelled_out(
     })
 }
 
-/// The rows with each name replaced by what it stands for.
+/// The rows with each name replaced by what it stands for. Rule `expand.names`.
 pub(crate) fn rows_spelled_out(
     alloc: Global,
     side: Side,

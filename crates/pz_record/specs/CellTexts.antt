@@ -38,6 +38,6 @@ cell_text width cells k = piece (known_of (take k cells)) (slice_index_or cells 
 abbrev pub text_to : ℕ → List (List ℕ) → ℕ → List ℕ
 text_to width cells n = flat_map (cell_text width cells) (range_with_len 0 n)
 
--- the text of cells that have these texts
+-- texts.sets: the text of cells that have these texts
 abbrev pub text_of_cells : ℕ → List (List ℕ) → List ℕ
 text_of_cells width cells = text_to width cells (length cells)

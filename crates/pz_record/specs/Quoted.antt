@@ -19,7 +19,7 @@ abbrev pub text_of_first : List Token → List ℕ
 text_of_first [] = []
 text_of_first (token ∷ tokens) = text_of_token token
 
--- the text that a JSON string stands for, as a reader of JSON gives it
+-- program.strings: the text that a JSON string stands for, as a reader of JSON gives it
 unfoldable pub text_said : List ℕ → List ℕ
 text_said json = text_of_first (tokens json)
 

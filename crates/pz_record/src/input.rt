@@ -5,7 +5,7 @@ ghost use Rattle.std.specs.Prelude.{◌≡◌, ◌≤◌, length};
 use pz_game::direction::Dir;
 use std::marker::Model;
 
-/// The most inputs that a session may have.
+/// The most inputs that a session may have. Rule `file.inputs`.
 pub const MOST_INPUTS: usize = 65_536;
 
 /// Promises the limit as a number, so that changing the constant alone breaks a proof.

@@ -2,7 +2,7 @@
 
 ghost use Rattle.std.specs.Prelude.{◌≡◌};
 
-/// The most entries that a sessions file may have.
+/// The most entries that a sessions file may have. Rule `file.list`.
 pub const MOST_ENTRIES: usize = 65_536;
 
 /// Promises the limit as a number, so that changing the constant alone breaks a proof.

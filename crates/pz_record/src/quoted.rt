@@ -71,7 +71,7 @@ impl QuotedText {
         }
     }
 
-    /// The text as a JSON string, as it is written.
+    /// The text as a JSON string, as it is written. Rule `program.strings`.
     pub fn as_json(&self) -> &[u8]
         ensures { result.now ≡ quoted self.now }
     {

@@ -23,5 +23,6 @@ size_of table choice =
       | Direction class on ↦ class_size class
     ]
 
+-- checks.too-many-rules
 unfoldable pub pair_count : List Denotation → Plan → ℕ
 pair_count table plan = length plan.directions * product_of (map (size_of table) plan.choices)

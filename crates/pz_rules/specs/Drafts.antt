@@ -32,7 +32,7 @@ placed draft group =
       | Some groups ↦ record { done = draft.done; repeated = Some (side_added groups group.is_late group.instances); group = None; pairs = draft.pairs }
     ]
 
--- no rule can join the last group any more
+-- rules.loop-places: no rule can join the last group any more
 unfoldable pub settled : Draft → Draft
 settled draft = elim draft.group [ None ↦ draft | Some group ↦ placed draft group ]
 
@@ -57,12 +57,12 @@ closed draft =
       | Some groups ↦ record { done = with_loop d.done groups; repeated = None; group = None; pairs = d.pairs }
     ]
 
--- a `+` rule without a rule right above it, or with `late` in a group that isn't late
+-- rules.loop-joins: a `+` rule without a rule right above it, or with `late` in a group that isn't late
 unfoldable pub is_misplaced : Draft → Rule → Bool
 is_misplaced draft rule =
     rule.is_joined && elim draft.group [ None ↦ true | Some group ↦ is_late_rule rule && not group.is_late ]
 
--- a `+` rule is late if its group is
+-- rules.late: a `+` rule is late if its group is
 unfoldable pub lateness : Draft → Rule → Bool
 lateness draft rule = if rule.is_joined then elim draft.group [ None ↦ is_late_rule rule | Some group ↦ group.is_late ] else is_late_rule rule
 
@@ -104,12 +104,12 @@ abbrev pub parsed_added : GameParts → Draft → ℕ → Option Rule → Result
 parsed_added game draft below None = Err fault.BadRule
 parsed_added game draft below (Some rule) = rule_added game draft below rule
 
--- a loop line. If it begins a loop, the next loop line below ends that; if it ends a loop, one was begun above
+-- rules.loop-pairs: a loop line. If it begins a loop, the next loop line below ends that; if it ends a loop, one was begun above
 unfoldable pub loop_added : Draft → List RuleLine → LoopWord → Result Draft RuleFault
 loop_added draft below loop_words.Start = if is_end (next_loop below) then Ok (opened draft) else Err fault.BadRule
 loop_added draft below loop_words.End = if is_some draft.repeated then Ok (closed draft) else Err fault.BadRule
 
--- the draft with one more line, which stands above others
+-- checks.rules: the draft with one more line, which stands above others
 unfoldable pub line_added : GameParts → Draft → List RuleLine → List (List ℕ) → Result Draft RuleFault
 line_added game draft below words =
     elim (loop_word words) [

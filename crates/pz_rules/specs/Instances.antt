@@ -80,7 +80,7 @@ rows_of layers direction picks rows = map (row_of layers direction picks) rows
 abbrev pub is_one_cell : PlanRow Term → Bool
 is_one_cell row = length row.cells == 1
 
--- a rule whose rows all have one cell is scanned upwards
+-- expand.scan: a rule whose rows all have one cell is scanned upwards
 unfoldable pub scan_of : Plan → Dir → Dir
 scan_of plan direction = if list_all is_one_cell plan.left then Up else direction
 
@@ -95,11 +95,11 @@ instance_of layers below plan direction picks =
       below = below;
     }
 
--- some level can be as the left of an instance says
+-- expand.dropped: some level can be as the left of an instance says
 unfoldable pub is_possible : Instance → Bool
 is_possible instance = not (list_any (has_impossible Asked) instance.left)
 
--- the lists of picks for one direction, the first choice varying slowest
+-- expand.pairs: the lists of picks for one direction, the first choice varying slowest
 unfoldable pub picks_of : List Denotation → Plan → Dir → List (List Pick)
 picks_of table plan direction = product (map (options_of table direction) plan.choices)
 
@@ -107,7 +107,7 @@ picks_of table plan direction = product (map (options_of table direction) plan.c
 unfoldable pub possible_of : List Denotation → List ℕ → ℕ → Plan → Dir → List Instance
 possible_of table layers below plan direction = filter is_possible (map (instance_of layers below plan direction) (picks_of table plan direction))
 
--- the instances of a rule: the possible ones, directions varying slowest, and of equal ones the first
+-- expand.pairs: the instances of a rule: the possible ones, directions varying slowest, and of equal ones the first
 unfoldable pub instances_of : List Denotation → List ℕ → ℕ → Plan → List Instance
 instances_of table layers below plan = firsts same_instance (flat_map (possible_of table layers below plan) plan.directions)
 

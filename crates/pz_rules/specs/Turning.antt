@@ -7,7 +7,7 @@ use Rattle.pz_grammar.specs.declared.token.Turn.TheVariants as turn
 use Rattle.pz_grammar.specs.declared.token.Class.{Class}
 use Rattle.pz_grammar.specs.declared.token.Class.TheVariants as class
 
--- the direction that `^`, `v`, `<` or `>` means in a rule of this direction
+-- rules.turning: the direction that `^`, `v`, `<` or `>` means in a rule of this direction
 abbrev pub turned : Dir → Turn → Dir
 turned Right turn.Up = Up
 turned Right turn.Down = Down
@@ -45,7 +45,7 @@ across Up = sideways
 across Down = sideways
 across _ = upright
 
--- the directions of a word for several, in order
+-- rules.class-words: the directions of a word for several, in order
 abbrev pub class_directions : Dir → Class → List Dir
 class_directions direction class.Moving = Up ∷ Down ∷ Left ∷ Right ∷ Action ∷ []
 class_directions direction class.Orthogonal = Up ∷ Down ∷ Left ∷ Right ∷ []

@@ -67,7 +67,7 @@ fn pairs_within(table: &[Denotation], start: u64, choices: &[Choice], limit: u64
     product_within(start, table, choices, limit)
 }
 
-/// How many pairs a plan has, if that is at most the limit.
+/// How many pairs a plan has, if that is at most the limit. Rule `checks.too-many-rules`.
 pub fn count_within(table: &[Denotation], plan: &Plan, limit: u64) -> Option<u64>
     ensures { SomeIff result (pair_count table.now plan.now ≤ limit) (pair_count table.now plan.now) }
 {

@@ -81,7 +81,7 @@ fn place(draft: &mut Draft, group: OpenGroup) -> Result<(), AllocError>
     }
 }
 
-/// Puts the last group in its place, so that no rule can join it any more.
+/// Puts the last group in its place, so that no rule can join it any more. Rule `rules.loop-places`.
 fn settle(draft: &mut Draft) -> Result<(), AllocError>
     ensures draft { OnOk result (draft.new ≡ settled draft.old) }
     ensures group { OnOk result (draft.new.group ≡ None) }
@@ -143,7 +143,7 @@ fn close(draft: &mut Draft) -> Result<(), RuleFault>
     }
 }
 
-/// Whether a rule asks to join a group but can't.
+/// Whether a rule asks to join a group but can't. Rule `rules.loop-joins`.
 fn is_misplaced(draft: &Draft, rule: &Rule) -> bool
     ensures { result ≡ is_misplaced draft.now rule.now }
 {
@@ -154,7 +154,7 @@ fn is_misplaced(draft: &Draft, rule: &Rule) -> bool
         }
 }
 
-/// Whether a rule is late. A rule that joins a group is late if the group is.
+/// Whether a rule is late. A rule that joins a group is late if the group is. Rule `rules.late`.
 fn lateness(draft: &Draft, rule: &Rule) -> bool
     ensures { result ≡ lateness draft.now rule.now }
 {
@@ -235,7 +235,7 @@ fn add_rule(
     extend(draft, rule, more)
 }
 
-/// Adds a loop line, or names its fault.
+/// Adds a loop line, or names its fault. Rule `rules.loop-pairs`.
 fn add_loop_line(
     alloc: Global,
     draft: &mut Draft,
@@ -287,7 +287,7 @@ fn add_line(
     }
 }
 
-/// The draft with a line, or the first fault of the line.
+/// The draft with a line, or the first fault of the line. Rule `checks.rules`.
 pub fn line_added(
     patterns: &mut Patterns,
     game: &Game,

@@ -21,7 +21,7 @@ use pz_plan::plan::Plan;
 use pz_plan::planning::plan_of;
 use pz_program::instance::Instance;
 
-/// How many pairs of a direction and a list of picks all rules of a game may have together.
+/// How many pairs of a direction and a list of picks all rules of a game may have together. Rule `limits.pairs`.
 pub const PAIRS: u64 = 65_536;
 
 /// Promises the limit as a number, so that changing the constant alone breaks a proof.

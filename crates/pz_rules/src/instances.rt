@@ -211,7 +211,7 @@ fn all_one_cell(rows: &[PlanRow<Term>]) -> bool
     rows.iter().all(|row| is_one_cell(row))
 }
 
-/// The direction in which an instance is looked for: a rule whose rows all have one cell is scanned upwards.
+/// The direction in which an instance is looked for: a rule whose rows all have one cell is scanned upwards. Rule `expand.scan`.
 fn scan_of(plan: &Plan, direction: Dir) -> Dir
     ensures { result ≡ scan_of plan.now direction }
 {
@@ -223,6 +223,7 @@ fn scan_of(plan: &Plan, direction: Dir) -> Dir
 }
 
 /// Adds the instance of these picks, unless it is impossible or already there. The right of an impossible instance isn't made.
+/// Rule `expand.dropped`.
 fn consider(
     patterns: &mut Patterns,
     directed: &DirectedPlan,
@@ -247,7 +248,7 @@ fn consider(
     })
 }
 
-/// Considers every list of picks that begins with these.
+/// Considers every list of picks that begins with these. Rule `expand.pairs`.
 fn consider_all(
     patterns: &mut Patterns,
     directed: &DirectedPlan,
@@ -310,7 +311,7 @@ fn consider_direction(
     Ok(())
 }
 
-/// Considers every direction of a plan.
+/// Considers every direction of a plan. Rule `expand.pairs`.
 fn consider_directions(
     patterns: &mut Patterns,
     table: &[Denotation],

@@ -6,7 +6,7 @@ ghost use Rattle.pz_rules.specs.Turning.{turned, along, across, class_directions
 use pz_game::direction::Dir;
 use pz_grammar::token::{Class, Turn};
 
-/// The direction that a turning word means in a rule of this direction.
+/// The direction that a turning word means in a rule of this direction. Rule `rules.turning`.
 pub fn turned(direction: Dir, turn: Turn) -> Dir
     ensures { result ≡ turned direction turn }
 {
@@ -51,7 +51,7 @@ fn across(direction: Dir) -> &'static [Dir]
     }
 }
 
-/// The directions of a word for several, in order.
+/// The directions of a word for several, in order. Rule `rules.class-words`.
 pub fn class_directions(direction: Dir, class: Class) -> &'static [Dir]
     ensures { result.now ≡ class_directions direction class }
 {

@@ -35,8 +35,8 @@ pub record NamesFile (words : List Text) : Type 0 where
   pub said : options_of words ≡ Some chosen
   pub named : IsSome chosen.file
 
--- what a run over these words leaves in its output, if it ends so. A line that is refused reads nothing, and a read of the input that
--- failed is never told as want of memory
+-- program.faults: what a run over these words leaves in its output, if it ends so. A line that is refused reads nothing, and a
+-- read of the input that failed is never told as want of memory
 abbrev pub Obeys : {F : Type 0} → (F → Option (List ℕ)) → List Text → Reads → Reads → Writes → Writes → Result Bool Failure → Type 0
 Obeys remaining words input input_after old new (Err Memory) = (new ≡ old) × (input_after.has_failed ≡ false)
 Obeys remaining words input input_after old new (Err BadLine) = (new ≡ old) × (input_after ≡ input) × (options_of words ≡ None)

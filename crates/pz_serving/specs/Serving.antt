@@ -86,7 +86,7 @@ ServesOpened order (Ok before) (Ok after) old new end = ReadsFor end after × Se
 ServesOpened order (Err error) (Err same) old new end = (new ≡ old) × (end ≡ Err (failure_at (error_kind error)))
 ServesOpened order before after old new end = ⊥
 
--- 0: every session passed; 1: some didn't; 2: there is no whole recording
+-- program.status: 0: every session passed; 1: some didn't; 2: there is no whole recording
 abbrev pub status_of : Result Bool Failure → ℕ
 status_of (Ok passed) = if passed then 0 else 1
 status_of (Err failure) = 2

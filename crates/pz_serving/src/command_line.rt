@@ -32,6 +32,7 @@ fn open<R: Files>(rt: &R, name: &str) -> io::Result<Counted<R::File>>
 /// else those of the input. The input is not read if FILE is named. Answers the exit status; at 2 one line says why there is no
 /// whole recording. The input's reader, or FILE's, is called at most 16,777,217 times. A process serves one command line, so the memory of
 /// what was played is left to its end: with a thousand games, giving it back would take as long as writing their lines.
+/// Rule `program.faults`.
 pub fn serve_words<T: Files + Threads + Wait + Sync + AllocGlobal, R: Read, W: Write, E: Write>(
     rt: &T,
     words: &[String],

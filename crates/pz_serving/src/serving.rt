@@ -73,7 +73,7 @@ fn read_job<T: Threads + Sync, R: Read>(
     Ok(prepare_with(rt, alloc, entries, options.order, options.workers)?)
 }
 
-/// The exit status of a run that ended so. A failure's line is written.
+/// The exit status of a run that ended so. A failure's line is written. Rule `program.status`.
 fn status_of<E: Write>(end: Result<bool, Failure>, errors: &mut Output<E>) -> u8
     requires sound { errors.old.failure ≡ None }
     ensures status { result ≡ status_of end }

@@ -89,15 +89,15 @@ showing_end kind state = showing kind state false
 abbrev pub idle : State → Link State
 idle state = record { shown = []; after = state; goes_on = false }
 
--- in a game with `run_rules_on_level_start` a tick follows each load and each restart
+-- play.start-ticks: in a game with `run_rules_on_level_start` a tick follows each load and each restart
 abbrev pub ticks_at_start : State → Bool
 ticks_at_start state = state.game.options.run_rules_on_level_start
 
--- the start shows the level
+-- play.start: the start shows the level
 unfoldable pub start_link : State → Link State
 start_link state = showing Start state (ticks_at_start state)
 
--- the level becomes the target, and is shown
+-- play.restart: the level becomes the target, and is shown
 unfoldable pub restarted : State → Link State
 restarted state = showing Restart (at_level state.target state) (ticks_at_start state)
 
@@ -109,12 +109,13 @@ loading won state = record { shown = won ∷ frame_of state Load ∷ []; after =
 abbrev pub ending : Frame → State → Link State
 ending won state = record { shown = won ∷ []; after = record state { is_over = true }; goes_on = false }
 
--- a win: the next level is loaded, or play is over
+-- play.win: a win: the next level is loaded, or play is over
 unfoldable pub won_link : Frame → State → Option ℕ → Link State
 won_link won state None = ending won state
 won_link won state (Some next) = loading won (loaded_at state.game state.program state.order state.recorded next)
 
--- no win: a checkpoint makes the level the target, and `again` asks for one more tick if the step changed the level
+-- play.checkpoint: no win: a checkpoint makes the level the target, and `again` asks for one more tick if the step changed the
+-- level
 unfoldable pub kept_link : FrameKind → Commands → Bool → State → Link State
 kept_link kind commands changed state = record {
   shown = frame_of state kind ∷ [];
@@ -122,15 +123,15 @@ kept_link kind commands changed state = record {
   goes_on = command.has commands command.again && changed;
 }
 
--- a step that gives neither `cancel` nor `restart`: it wins by `win` or by the win lines, or play goes on
+-- play.again: a step that gives neither `cancel` nor `restart`: it wins by `win` or by the win lines, or play goes on
 unfoldable pub reached_link : FrameKind → Commands → Bool → State → Link State
 reached_link kind commands changed state =
     if command.has commands command.win || has_won state.game state.level
     then won_link (frame_of state kind) state (level_from state.game (state.entry + 1))
     else kept_link kind commands changed state
 
--- the effect of a step: cancel, restart and win, in this order, each exclude all after it. A cancelled step leaves the level as
--- it was. A restart is shown in place of the step.
+-- play.commands, play.restart-command: the effect of a step: cancel, restart and win, in this order, each exclude all after it.
+-- A cancelled step leaves the level as it was. A restart is shown in place of the step.
 unfoldable pub effect : FrameKind → State → Outcome Grid → Link State
 effect kind state end =
     if command.has end.commands command.cancel then showing_end kind state
@@ -145,7 +146,7 @@ abbrev pub pressed_to : State → Result (Outcome Grid) StepFault → Result (Li
 pressed_to state (Err fault) = Err (stop_of fault)
 pressed_to state (Ok end) = Ok (effect Move (keeping state) end)
 
--- a press is a step with its direction
+-- play.press: a press is a step with its direction
 unfoldable pub press_link : Dir → State → Result (Link State) Stop
 press_link dir state = pressed_to state (step_of state.game state.program state.level (Some dir))
 
@@ -163,7 +164,7 @@ abbrev pub undone : State → List Grid → State
 undone state [] = state
 undone state (last ∷ past) = record state { level = last; past = past }
 
--- no tick follows an undo
+-- play.undo: no tick follows an undo
 unfoldable pub undo_link : State → Link State
 undo_link state = showing_end Undo (undone state state.past)
 
@@ -174,7 +175,7 @@ input_link input.Undo state = Ok (undo_link state)
 input_link input.Restart state = Ok (restarted (keeping state))
 input_link input.Tick state = tick_link state
 
--- the first link of an input; after play is over it shows the won level
+-- play.over: the first link of an input; after play is over it shows the won level
 unfoldable pub begun : Input → State → Result (Link State) Stop
 begun input state = if state.is_over then Ok (showing_end Over state) else input_link input state
 
@@ -182,11 +183,11 @@ abbrev pub past_with : State → Option Grid → List Grid
 past_with state None = state.past
 past_with state (Some before) = if same_grid before state.level then state.past else before ∷ state.past
 
--- once the chain of a press or a restart is over, the level before it goes on the past if the level differs
+-- play.past: once the chain of a press or a restart is over, the level before it goes on the past if the level differs
 unfoldable pub settled : State → State
 settled state = record state { past = past_with state state.before; before = None }
 
--- a session whose inputs were all played passes if its level is the recorded one
+-- play.close: a session whose inputs were all played passes if its level is the recorded one
 abbrev pub verdict_of : State → Verdict
 verdict_of state = if equals_recorded state.game state.order state.level state.recorded then Passed else Differs
 

@@ -26,7 +26,7 @@ abbrev pub follow : {S : Type 0} → (S → Chain S) → Result (Link S) Stop �
 follow later (Err stop) = record { shown = []; after = Err stop }
 follow later (Ok link) = if link.goes_on then preceded link.shown (later link.after) else record { shown = link.shown; after = Ok link.after }
 
--- ticks from a state that needs one; at most n may run
+-- play.again-limit: ticks from a state that needs one; at most n may run
 abbrev pub ticks : {S : Type 0} → (S → Result (Link S) Stop) → ℕ → S → Chain S
 ticks ticked zero state = record { shown = []; after = Err AgainLimit }
 ticks ticked (suc n) state = follow (ticks ticked n) (ticked state)

@@ -6,7 +6,7 @@ use Rattle.pz_case.specs.declared.recording.Record.{Record}
 use Rattle.pz_session.specs.Case.{items_of}
 use Rattle.pz_case.specs.Playing as playing
 
--- the name and the items of every session of the job in its order, none left out
+-- program.threads: the name and the items of every session of the job in its order, none left out
 abbrev pub recording : List Case → List Record
 recording job = playing.recording items_of job
 

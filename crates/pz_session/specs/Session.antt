@@ -43,7 +43,7 @@ after_chain links later (Ok state) = later (links.settled state)
 abbrev pub going_on : {S : Type 0} → Links S → ℕ → (S → Played) → Chain S → Played
 going_on links at later chain = showing at chain.shown (after_chain links later chain.after)
 
--- what is shown for the inputs that are left, after `taken` inputs
+-- play.stopped: what is shown for the inputs that are left, after `taken` inputs
 unfoldable pub played : {S : Type 0} → Links S → ℕ → List Input → S → Played
 played links taken [] state = closing (links.verdict state)
 played links taken (input ∷ inputs) state =
@@ -54,6 +54,6 @@ unfoldable pub numbered : ℕ → List (ℕ × Frame) → List Item
 numbered n [] = []
 numbered n (f ∷ fs) = item.Frame n f.1.kind f.0 f.1.level_text ∷ numbered (n + 1) fs
 
--- the frames from number n on, and the close
+-- play.at: the frames from number n on, and the close
 unfoldable pub items_from : ℕ → Played → List Item
 items_from n played = numbered n played.shown ++ map item.Close (option_to_list played.close)

@@ -20,6 +20,7 @@ fault_of step.Memory = Memory
 fault_of step.LoopLimit = Stopped stop.LoopLimit
 fault_of step.MatchLimit = Stopped stop.MatchLimit
 
--- a tick is idle if it is cancelled, or if it changes nothing and gives neither `restart` nor `win`; win lines don't count
+-- play.idle: a tick is idle if it is cancelled, or if it changes nothing and gives neither `restart` nor `win`; win lines don't
+-- count
 abbrev pub is_idle : Outcome Grid → Bool
 is_idle end = has end.commands cancel || not (end.changed || (has end.commands restart || has end.commands win))

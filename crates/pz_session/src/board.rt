@@ -168,7 +168,7 @@ impl<'a> Board<'a> {
         }
     }
 
-    /// Whether a tick follows each load and each restart.
+    /// Whether a tick follows each load and each restart. Rule `play.start-ticks`.
     fn ticks_at_start(&self) -> bool
         ensures { result ≡ ticks_at_start self.now }
     {
@@ -202,7 +202,7 @@ impl<'a> Board<'a> {
         })
     }
 
-    /// The first link of a session, which shows its level.
+    /// The first link of a session, which shows its level. Rule `play.start`.
     pub fn start(&mut self) -> Result<Shown, PlayFault>
         ensures { GivesLink (Ok (start_link self.old)) self.new result }
     {
@@ -210,7 +210,7 @@ impl<'a> Board<'a> {
         self.show(FrameKind::Start, goes_on)
     }
 
-    /// Makes the level a copy of the target, and shows it.
+    /// Makes the level a copy of the target, and shows it. Rule `play.restart`.
     fn restart(&mut self) -> Result<Shown, PlayFault>
         ensures { GivesLink (Ok (restarted self.old)) self.new result }
     {
@@ -238,7 +238,7 @@ impl<'a> Board<'a> {
         Ok(())
     }
 
-    /// Shows the frame of the step that wins. Then the next level is loaded and shown, or play is over.
+    /// Shows the frame of the step that wins. Then the next level is loaded and shown, or play is over. Rule `play.win`.
     fn win(&mut self, won: Frame) -> Result<Shown, PlayFault>
         ensures { GivesLink (Ok (won_link won self.old (level_from self.old.game (self.old.entry + 1)))) self.new result }
     {
@@ -274,7 +274,7 @@ impl<'a> Board<'a> {
     }
 
     /// Shows the level after a step that doesn't win. A checkpoint makes it the target. `again` asks for one more tick if the step changed
-    /// the level.
+    /// the level. Rules `play.checkpoint`, `play.again`.
     fn keep(
         &mut self,
         kind: FrameKind,
@@ -289,7 +289,7 @@ impl<'a> Board<'a> {
     }
 
     /// The effect of a step that has led to the level. Cancel, restart and win, in this order, each exclude all after it. A step wins by
-    /// `win` or by the win lines.
+    /// `win` or by the win lines. Rules `play.commands`, `play.restart-command`.
     fn take(
         &mut self,
         kind: FrameKind,
@@ -331,7 +331,7 @@ impl<'a> Board<'a> {
         )
     }
 
-    /// A press plays a step.
+    /// A press plays a step. Rule `play.press`.
     fn press(&mut self, dir: Dir) -> Result<Shown, PlayFault>
         ensures { GivesLink (press_link dir self.old) self.new result }
     {
@@ -386,6 +386,7 @@ impl<'a> Board<'a> {
         Ok(())
     }
 
+    /// Rule `play.undo`.
     fn undo(&mut self) -> Result<Shown, PlayFault>
         ensures { GivesLink (Ok (undo_link self.old)) self.new result }
     {
@@ -451,7 +452,7 @@ impl<'a> Board<'a> {
 impl<'a> Board<'a> {
     ghost use Rattle.pz_session.specs.Board.{begun, settled, verdict_of};
 
-    /// Plays the first link of an input. After play is over it only shows the won level.
+    /// Plays the first link of an input. After play is over it only shows the won level. Rule `play.over`.
     pub fn begin(&mut self, input: Input) -> Result<Shown, PlayFault>
         ensures { GivesLink (begun input self.old) self.new result }
     {
@@ -467,7 +468,7 @@ impl<'a> Board<'a> {
     }
 
     /// Ends the chain of an input. After a press or a restart, the level before it goes on the past, unless the level is the same or
-    /// another was loaded.
+    /// another was loaded. Rule `play.past`.
     pub fn settle(&mut self) -> Result<(), AllocError>
         ensures { OnOk result (self.new ≡ settled self.old) }
     {
@@ -481,7 +482,7 @@ impl<'a> Board<'a> {
         Ok(())
     }
 
-    /// The close of a session whose inputs were all played.
+    /// The close of a session whose inputs were all played. Rule `play.close`.
     pub fn verdict(&self) -> Verdict
         ensures { result ≡ verdict_of self.now }
     {

@@ -8,7 +8,7 @@ use pz_record::input::Input;
 use pz_record::quoted::QuotedText;
 use std::alloc::AllocError;
 
-/// The most ticks of a chain, idle ones included. A tick input is one of them itself.
+/// The most ticks of a chain, idle ones included. A tick input is one of them itself. Rule `play.again-limit`.
 pub const MOST_TICKS: u64 = 500;
 
 /// Promises the limit as a number, so that changing the constant alone breaks a proof.
@@ -16,7 +16,7 @@ pub fn ticks_are_limited()
     ensures { MOST_TICKS ≡ 500 }
 {}
 
-/// How many ticks may follow an input's first link.
+/// How many ticks may follow an input's first link. Rule `play.again-limit`.
 pub fn ticks_after(input: Input) -> u64
     ensures { result ≡ ticks_after input }
 {

@@ -24,7 +24,7 @@ pub enum Phase {
     Closed,
 }
 
-/// Makes an item of a frame. It gets the next number, and `at` is the number of inputs taken so far.
+/// Makes an item of a frame. It gets the next number, and `at` is the number of inputs taken so far. Rule `play.at`.
 fn numbered(next: &mut u64, taken: u64, frame: Frame) -> Item
     requires { next.old + 1 < 2 ^ 64 }
     ensures item { result ≡ Item.Frame next.old frame.kind taken frame.level_text }
@@ -188,7 +188,7 @@ impl<'a> Player<'a> {
         }
     }
 
-    /// Plays one link.
+    /// Plays one link. Rule `play.again-limit`.
     fn advance(&mut self) -> Result<(), AllocError>
         requires { is_waiting self.old ≡ true }
         ensures left { OnOk result (left self.new
@@ -215,7 +215,7 @@ impl<'a> Player<'a> {
         }
     }
 
-    /// The next item, or `None` after the close. Err: memory was refused.
+    /// The next item, or `None` after the close. Err: memory was refused. Rule `play.stopped`.
     pub fn next(&mut self) -> Result<Option<Item>, AllocError>
         requires room { self.old.number + 1 < 2 ^ 64 }
         ensures item { IfOk result (λ answer. Yields (left self.old) answer

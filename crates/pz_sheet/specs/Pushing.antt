@@ -14,6 +14,7 @@ pushed_place players dir None = None
 pushed_place players dir (Some piece) =
     if is_one_of players piece.object then Some (record { object = piece.object; heading = Some dir }) else Some piece
 
+-- step.press
 abbrev pub pushed : List ℕ → Dir → Grid → Grid
 pushed players dir grid = record grid { cells = map (map (pushed_place players dir)) grid.cells }
 

@@ -68,11 +68,12 @@ entry_at table object = option_and_then (λ entry. entry) (slice_get table objec
 abbrev pub lies_nowhere : (ℕ → Option ℕ) → List NameLine → NameLine → Option Code
 lies_nowhere layer before line = if is_some (layer (length before)) then None else Some code.NoLayer
 
+-- checks.layers
 abbrev pub fault_of_layers : List NameLine → List (List ℕ) → List Denotation → List Line → Option SourceFault
 fault_of_layers objects names values lines =
     or_else (first_fault name_line_at (misplaces names values) [] (layer_lines lines))
     (first_fault name_line_at (lies_nowhere (layer_of (holds names values) (layer_lines lines))) [] objects)
 
--- the layer of each object
+-- layers.lines: the layer of each object
 abbrev pub layers_of : List NameLine → List (List ℕ) → List Denotation → List Line → List ℕ
 layers_of objects names values lines = filter_map (layer_of (holds names values) (layer_lines lines)) (range_with_len 0 (length objects))

@@ -28,7 +28,8 @@ abbrev pub closed : List Line → List (List Line)
 closed [] = []
 closed (row ∷ rows) = (row ∷ rows) ∷ []
 
--- the entries, each with its lines; `rows` are those of a level that is still open, and a blank line or a message ends it
+-- text.blank-lines, levels.entries: the entries, each with its lines; `rows` are those of a level that is still open, and a
+-- blank line or a message ends it
 abbrev pub entries_of : List Line → List Line → List (List Line)
 entries_of rows [] = closed rows
 entries_of rows (line ∷ lines) =
@@ -47,7 +48,7 @@ draws Object = true
 draws Aggregate = true
 draws Property = false
 
--- the number of the name that a character stands for, if it draws something
+-- levels.glyphs: the number of the name that a character stands for, if it draws something
 abbrev pub glyph_of : List (List ℕ) → List Denotation → ℕ → Option ℕ
 glyph_of names values c =
     option_and_then (λ number. option_and_then (λ d. if draws d.kind then Some number else None) (slice_get values number)) (number_in names (name_of (c ∷ [])))
@@ -56,12 +57,12 @@ glyph_of names values c =
 abbrev pub glyphs_of : (ℕ → Option ℕ) → List ℕ → Option (List ℕ)
 glyphs_of glyph row = all_some (map glyph row)
 
--- a row of n cells: the numbers in order, then the last of them again and again
+-- levels.short-rows: a row of n cells: the numbers in order, then the last of them again and again
 abbrev pub filled : ℕ → ℕ → List ℕ → List ℕ
 filled zero last row = []
 filled (suc n) last row = get_or row 0 last ∷ filled n (get_or row 0 last) (drop 1 row)
 
--- the cells of a row: a longer row is cut, a shorter one filled
+-- levels.long-rows: the cells of a row: a longer row is cut, a shorter one filled
 abbrev pub row_of : (ℕ → Option ℕ) → ℕ → Line → Result (List ℕ) SourceFault
 row_of glyph width line =
     option_map_or (λ row. Ok (filled width 0 row)) (glyphs_of glyph (take width line.text))
@@ -88,7 +89,7 @@ entry_of glyph above (first ∷ rest) =
 abbrev pub read_entries : (ℕ → Option ℕ) → List (List Line) → Result (List LevelEntry) SourceFault
 read_entries glyph entries = each_ok (map (λ entry. entry_of glyph entry.0 entry.1) (enumerate_from 0 entries))
 
--- the entries of LEVELS; one of them must be a level
+-- checks.levels: the entries of LEVELS; one of them must be a level
 abbrev pub levels_of : (ℕ → Option ℕ) → List Line → Result (List LevelEntry) SourceFault
 levels_of glyph lines =
     and_then (λ entries. if list_any is_playable entries then Ok entries else Err (record { code = code.NoLevel; line = 0 }))

@@ -17,7 +17,7 @@ is_single Aggregate = false
 abbrev pub names_single : List (List ℕ) → List Denotation → List ℕ → Bool
 names_single names values name = option_map_or (λ d. is_single d.kind) (option_and_then (slice_get values) (number_in names name)) false
 
--- the fault if one of the two names that each game needs is not there or is an aggregate
+-- checks.missing: the fault if one of the two names that each game needs is not there or is an aggregate
 abbrev pub fault_of_needs : List (List ℕ) → List Denotation → Option SourceFault
 fault_of_needs names values =
     if names_single names values (codes "background") && names_single names values (codes "player") then None

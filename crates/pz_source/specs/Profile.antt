@@ -33,7 +33,7 @@ is_outside section text = false
 abbrev pub leaves_profile : List Line → Line → Option Code
 leaves_profile before line = if is_outside line.section line.text then Some code.OutsideProfile else None
 
--- the first line outside the profile
+-- checks.profile: the first line outside the profile
 abbrev pub outside_profile : List Line → Option SourceFault
 outside_profile lines = first_fault number_of leaves_profile [] lines
 
@@ -41,7 +41,7 @@ outside_profile lines = first_fault number_of leaves_profile [] lines
 abbrev pub has_keyword : List ℕ → List Line → Bool
 has_keyword keyword lines = list_any (λ line. begins_with_word line.text keyword) lines
 
--- the options that the lines of the prelude set
+-- sections.options: the options that the lines of the prelude set
 abbrev pub options_of : List Line → Options
 options_of lines = record {
   run_rules_on_level_start = has_keyword (codes "run_rules_on_level_start") lines;

@@ -77,6 +77,6 @@ game_of_objects lines objects =
 abbrev pub game_of_lines : List Line → Result GameParts SourceFault
 game_of_lines lines = unless (outside_profile lines) (and_then (game_of_objects lines) (objects_of (lines_in section.Objects lines)))
 
--- the game of a text: checks its length and its headings, then what follows
+-- checks.order: the game of a text: checks its length and its headings, then what follows
 unfoldable pub source_of : List ℕ → Result GameParts SourceFault
 source_of text = and_then game_of_lines (lines_of text)

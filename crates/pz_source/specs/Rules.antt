@@ -30,7 +30,7 @@ words_from is_first word (c ∷ cs) =
     else (if ends_word Rules is_first word c then ended word c else [])
     ++ words_from (is_first_after Rules is_first word c) (word_after Rules is_first word c) cs
 
--- the words of a rule line, folded
+-- text.marks: the words of a rule line, folded
 abbrev pub rule_words : List ℕ → List (List ℕ)
 rule_words text = map name_of (words_from true [] text)
 

@@ -28,7 +28,8 @@ win_about (Some quantifier) None on = Err code.Unknown
 win_about (Some quantifier) (Some subject) None = Err code.Unknown
 win_about (Some quantifier) (Some subject) (Some on) = Ok (record { quantifier = quantifier; subject = subject; on = on })
 
--- A win line has a quantifier and a name, and may go on with `on` and another name. `on` is a joint by its place alone.
+-- wins.lines: A win line has a quantifier and a name, and may go on with `on` and another name. `on` is a joint by its place
+-- alone.
 abbrev pub win_of : List (List ℕ) → List (List ℕ) → Result WinLine Code
 win_of names (word ∷ subject ∷ []) = win_about (quantifier_of word) (number_in names subject) (Some None)
 win_of names (word ∷ subject ∷ joint ∷ on ∷ []) =
@@ -41,7 +42,7 @@ abbrev pub at_line : {A : Type 0} → ℕ → Result A Code → Result A SourceF
 at_line number (Ok x) = Ok x
 at_line number (Err code) = Err (record { code = code; line = number })
 
--- the win line of a line, or its fault
+-- checks.wins: the win line of a line, or its fault
 abbrev pub win_at : List (List ℕ) → Line → Result WinLine SourceFault
 win_at names line = at_line line.number (win_of names (names_of line.text))
 

@@ -105,7 +105,7 @@ fn drawing(values: &[Denotation], number: usize) -> Option<usize>
     }
 }
 
-/// The number of the name that a glyph stands for, if it draws something: an object or an aggregate.
+/// The number of the name that a glyph stands for, if it draws something: an object or an aggregate. Rule `levels.glyphs`.
 fn glyph(
     alloc: Global,
     names: &NameSet,

@@ -168,7 +168,7 @@ fn entry_at(table: &[Option<usize>], object: usize) -> Option<usize>
     table.get(object).copied().unwrap_or(None)
 }
 
-/// `NoLayer` at the first name line whose object is in no layer.
+/// `NoLayer` at the first name line whose object is in no layer. Rule `checks.layers`.
 fn missing_layer(table: &[Option<usize>], objects: &[NameLine]) -> Option<SourceFault>
     ensures first { result ≡ first_fault name_line_at (lies_nowhere (entry_at table.now)) [] objects.now }
     ensures code { IfSome result (λ fault. fault.code ≡ code.NoLayer) }
@@ -192,6 +192,7 @@ fn known_layers(alloc: Global, table: Vec<Option<usize>>) -> Result<Vec<usize>, 
 
 /// The layer of each object, and the number of layers; or the first fault of COLLISIONLAYERS. Line by line it is `Unknown`, `Mixed` (an
 /// aggregate) or `TooLarge`; then it is `NoLayer` at the name line of an object. `Memory`, with line 0, may come in place of any.
+/// Rule `layers.lines`.
 pub fn read_layers(
     alloc: Global,
     objects: &[NameLine],

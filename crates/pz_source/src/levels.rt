@@ -18,7 +18,7 @@ use pz_text::heading::begins_with_word;
 use pz_text::line::Line;
 use std::alloc::{AllocError, Global};
 
-/// The most entries that a source may have.
+/// The most entries that a source may have. Rule `limits.entries`.
 pub const MAX_ENTRIES: usize = 1_024;
 
 /// Promises the limit as a number, so that changing the constant alone breaks a proof.
@@ -33,7 +33,7 @@ pub fn is_message(line: &Line) -> bool
     begins_with_word(line.text.items(), b"message")
 }
 
-/// The entries of LEVELS, each with its lines: the line of a message, or the rows of a level.
+/// The entries of LEVELS, each with its lines: the line of a message, or the rows of a level. Rule `levels.entries`.
 pub fn entries<'a>(alloc: Global, lines: &'a [Line]) -> Result<Vec<&'a [Line]>, AllocError>
     ensures { IfOk result (λ entries. map (λ entry. entry.now) entries.items ≡ entries_of [] lines.entry.now) }
 {
@@ -47,7 +47,7 @@ pub fn entries<'a>(alloc: Global, lines: &'a [Line]) -> Result<Vec<&'a [Line]>, 
 }
 
 /// Takes the line at `place` into account. The rows from `start` up to it belong to an open level. Gives where the rows of the level that
-/// is open after the line start.
+/// is open after the line start. Rule `text.blank-lines`.
 fn pass<'a>(
     entries: &mut Vec<&'a [Line]>,
     lines: &'a [Line],
@@ -101,7 +101,7 @@ fn numbers_of(
     Ok(Some(found))
 }
 
-/// Adds a row of this width to the cells. A shorter row is filled with its own last glyph.
+/// Adds a row of this width to the cells. A shorter row is filled with its own last glyph. Rule `levels.short-rows`.
 fn add_row(cells: &mut Vec<usize>, width: usize, row: &[usize]) -> Result<(), AllocError>
     ensures cells { OnOk result (cells.new.items ≡ cells.old.items ++ filled width 0 row.now) }
     ensures count { OnOk result (length cells.new.items ≡ length cells.old.items + width) }
@@ -120,7 +120,7 @@ fn next_glyph(row: &[usize], column: usize, last: usize) -> usize
     row.get(column).copied().unwrap_or(last)
 }
 
-/// The numbers of the glyphs of a row, cut to this width. `BadGlyph`: a glyph of the cut row draws nothing.
+/// The numbers of the glyphs of a row, cut to this width. `BadGlyph`: a glyph of the cut row draws nothing. Rule `levels.long-rows`.
 fn read_row(
     alloc: Global,
     glyphs: &mut Glyphs,
@@ -218,7 +218,7 @@ fn read_entry(
 }
 
 /// The entries of LEVELS, or their first fault: `TooLarge` or `BadGlyph` of an entry, then `NoLevel`, with line 0, if no entry is a level.
-/// `Memory`, with line 0, may come in place of any.
+/// `Memory`, with line 0, may come in place of any. Rule `checks.levels`.
 pub fn read_levels(
     alloc: Global,
     names: &NameSet,

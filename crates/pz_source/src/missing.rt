@@ -28,7 +28,7 @@ fn names_single(names: &NameSet, values: &[Denotation], name: &str) -> bool
     }
 }
 
-/// `Missing`, with line 0, if `background` or `player` is not there or is an aggregate.
+/// `Missing`, with line 0, if `background` or `player` is not there or is an aggregate. Rule `checks.missing`.
 pub fn missing_name(names: &NameSet, values: &[Denotation]) -> Option<SourceFault>
     ensures { result ≡ fault_of_needs names.now values.now }
 {

@@ -64,7 +64,7 @@ fn is_outside(alloc: Global, line: &Line) -> Result<bool, AllocError>
 }
 
 /// `OutsideProfile` at the first line outside the profile: of the prelude with the keyword `realtime_interval`, or of RULES with a word
-/// `random`, `randomdir` or `rigid`. `Memory`, with line 0, may come in place of either.
+/// `random`, `randomdir` or `rigid`. `Memory`, with line 0, may come in place of either. Rule `checks.profile`.
 fn check_profile(alloc: Global, lines: &[Line]) -> Result<(), SourceFault>
     ensures sound { IfOk result (λ _. outside_profile lines.now ≡ None) }
     ensures refused { IfErr result (λ fault. fault.code ≢ code.Memory → outside_profile lines.now ≡ Some fault) }
@@ -132,7 +132,7 @@ fn has_keyword(lines: &[Line], keyword: &[u8]) -> bool
         .any(|line| begins_with_word(line.text.items(), keyword))
 }
 
-/// The options that the lines of the prelude set. A keyword sets its option, whatever its value.
+/// The options that the lines of the prelude set. A keyword sets its option, whatever its value. Rule `sections.options`.
 pub fn options_of(lines: &[Line]) -> Options
     ensures { result ≡ options_of lines.now }
 {

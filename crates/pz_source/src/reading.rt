@@ -211,7 +211,7 @@ fn read_game_of_lines(alloc: Global, lines: &[Line]) -> Result<Game, SourceFault
 
 /// Reads a source: gives its game, or its first fault. That is the fault of the first check that names a line, at the first such line.
 /// `Memory`, with line 0, may come in place of either. The rules of the game are not expanded yet. Rule lines have their line numbers in
-/// the text, counted from 1.
+/// the text, counted from 1. Rule `checks.order`.
 pub fn read_game(alloc: Global, text: &str) -> Result<Game, SourceFault>
     ensures read { IfOk result (λ game. source_of text.now ≡ Ok game) }
     ensures refused { IfErr result (λ fault. fault.code ≢ code.Memory → source_of text.now ≡ Err fault) }

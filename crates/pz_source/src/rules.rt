@@ -111,7 +111,7 @@ fn push_words(
     push_closed(alloc, words, cursor.word.as_slice())
 }
 
-/// The words of a rule line, folded. The text after `message` is one word.
+/// The words of a rule line, folded. The text after `message` is one word. Rule `text.marks`.
 pub fn rule_words(alloc: Global, text: &[char]) -> Result<Listed<Name>, AllocError>
     ensures { IfOk result (λ words. words ≡ rule_words text.now) }
 {

@@ -46,7 +46,7 @@ fn win_about(
     })
 }
 
-/// The win line that these words make.
+/// The win line that these words make. Rule `wins.lines`.
 fn win_of(names: &NameSet, words: &[Name]) -> Result<WinLine, Code>
     ensures line { result ≡ win_of names.now words.now }
     ensures other { IfErr result (λ c. c ≢ code.Memory) }
@@ -66,7 +66,7 @@ fn win_of(names: &NameSet, words: &[Name]) -> Result<WinLine, Code>
     }
 }
 
-/// The win line of a line that isn't blank, or its fault.
+/// The win line of a line that isn't blank, or its fault. Rule `checks.wins`.
 fn read_win(alloc: Global, names: &NameSet, line: &Line) -> Result<WinLine, SourceFault>
     ensures read { IfOk result (λ win. win_at names.now line.now ≡ Ok win) }
     ensures refused { IfErr result (λ fault. fault.code ≢ code.Memory → win_at names.now line.now ≡ Err fault) }

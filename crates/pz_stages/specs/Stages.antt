@@ -35,7 +35,7 @@ stage_line number tick state stage =
 abbrev pub has_acted : StageState → Bool
 has_acted stage = stage.gave.changed || not (stage.gave.commands.0 == 0)
 
--- a block is told if it changed something or gave a command, every other stage always
+-- stages.quiet: a block is told if it changed something or gave a command, every other stage always
 abbrev pub is_told : Part → StageState → Bool
 is_told (Early number) stage = has_acted stage
 is_told (Late number) stage = has_acted stage

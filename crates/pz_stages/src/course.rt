@@ -21,7 +21,7 @@ use pz_trace::{Part, Stage, Tracing};
 use pz_turn::StepFault;
 use std::alloc::{AllocError, Global};
 
-/// Whether a stage is told: a block is if it changed something or gave a command, and every other stage always is.
+/// Whether a stage is told: a block is if it changed something or gave a command, and every other stage always is. Rule `stages.quiet`.
 fn is_told(stage: Stage, level: &Level) -> bool
     ensures { result ≡ is_told stage.part (with_level stage level.now.grid) }
 {

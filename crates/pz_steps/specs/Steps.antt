@@ -88,8 +88,8 @@ abbrev pub steps_from : List Input → Option State → List Taken
 steps_from inputs None = []
 steps_from inputs (Some state) = first_steps inputs state
 
--- the steps that a session takes at an input, which are numbered from 1; number 0 is its start. There are none if the session
--- stopped before, or has fewer inputs
+-- stages.steps: the steps that a session takes at an input, which are numbered from 1; number 0 is its start. There are none if
+-- the session stopped before, or has fewer inputs
 unfoldable pub steps_at : PlanState → ℕ → List Taken
 steps_at plan zero = start_steps (state_of plan)
 steps_at plan (suc count) = steps_from (drop count plan.inputs) (standing_after plan count)

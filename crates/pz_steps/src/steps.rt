@@ -155,7 +155,7 @@ impl<'a> Steps<'a> {
     ghost use Rattle.pz_steps.specs.Steps.{taken};
 
     /// The steps that a session takes at an input, by its number from 1, or with 0 at its start. It has none if the session stopped
-    /// before, or has fewer inputs. Everything before is played. Err: memory was refused.
+    /// before, or has fewer inputs. Everything before is played. Err: memory was refused. Rule `stages.steps`.
     pub fn at(alloc: Global, plan: &'a Plan, number: usize) -> Result<Steps<'a>, AllocError>
         ensures { IfOk result (λ steps. steps ≡ steps_at plan.now number) }
     {

@@ -4,7 +4,7 @@ use Rattle.std.specs.Option.{option_map_or}
 use Rattle.std.specs.Str.{bytes_eq, skip_leading_whitespace, drop_trailing_whitespace}
 use Rattle.pz_base.specs.Name.{folded}
 
--- without the white space at both ends; all white space of Unicode counts
+-- text.white-space: without the white space at both ends; all white space of Unicode counts
 abbrev pub trimmed : List ℕ → List ℕ
 trimmed cs = drop_trailing_whitespace (skip_leading_whitespace cs)
 

@@ -13,7 +13,7 @@ use Rattle.pz_base.specs.declared.fault.Code.{Code}
 use Rattle.pz_base.specs.declared.fault.Code.TheVariants as code
 use Rattle.pz_base.specs.declared.fault.SourceFault.{SourceFault}
 
--- the fault of a text with more bytes than a source may have
+-- checks.length: the fault of a text with more bytes than a source may have
 abbrev pub too_long : List ℕ → Option SourceFault
 too_long bytes = if nat_lt MAX_BYTES (length bytes) then Some (record { code = code.TooLong; line = 0 }) else None
 
@@ -24,7 +24,7 @@ number_of line = line.number
 abbrev pub reaches_place : ℕ → Line → Bool
 reaches_place place line = line.is_heading && nat_le place (place_of line.section)
 
--- a heading is at fault if one above it has the same place in the order, or a later one
+-- sections.order: a heading is at fault if one above it has the same place in the order, or a later one
 abbrev pub misplaces : List Line → Line → Option Code
 misplaces before line =
     if line.is_heading && list_any (reaches_place (place_of line.section)) before then Some code.Section else None
@@ -36,7 +36,7 @@ misplaced_heading lines = first_fault number_of misplaces [] lines
 abbrev pub has_section : Section → List Line → Bool
 has_section section lines = list_any (is_heading_of section) lines
 
--- the fault of a text without a section that every source must have
+-- checks.sections: the fault of a text without a section that every source must have
 abbrev pub missing_section : List Line → Option SourceFault
 missing_section lines =
     if has_section Objects lines && has_section Legend lines && has_section Layers lines && has_section Levels lines then None

@@ -33,13 +33,13 @@ word_after section is_first word c = if ends_word section is_first word c then [
 abbrev pub is_first_after : Section → Bool → List ℕ → ℕ → Bool
 is_first_after section is_first word c = is_first && (not (ends_word section is_first word c) || (length word == 0 && is_whitespace c))
 
--- the character ends the word `message` of a line of RULES
+-- text.glued-bracket: the character ends the word `message` of a line of RULES
 abbrev pub ends_message : List ℕ → ℕ → Bool
 ends_message word c =
     (is_word word (codes "message") && (is_whitespace c || is_bracket c)) || (is_word word (codes "message-") && c == 62)
 
--- From this character on the rest of the line is plain text, with no comment in it: in the prelude from the first word on, in
--- LEVELS after a first word `message`, in RULES after any word `message`.
+-- text.prelude, text.message: From this character on the rest of the line is plain text, with no comment in it: in the prelude
+-- from the first word on, in LEVELS after a first word `message`, in RULES after any word `message`.
 abbrev pub is_plain_from : Section → Bool → List ℕ → ℕ → Bool
 is_plain_from Prelude is_first word c = not (is_whitespace c)
 is_plain_from Levels is_first word c = is_first && is_word word (codes "message") && is_whitespace c
@@ -50,8 +50,8 @@ is_plain_from section is_first word c = false
 abbrev pub depth_past : ℕ → ℕ → ℕ
 depth_past depth c = if c == 40 then depth + 1 else (if c == 41 then depth - 1 else depth)
 
--- What is left of a line without its comments; `depth` brackets are open before it. A comment leaves nothing: what stands at
--- its sides is joined. A closing bracket outside a comment is plain.
+-- text.comments: What is left of a line without its comments; `depth` brackets are open before it. A comment leaves nothing:
+-- what stands at its sides is joined. A closing bracket outside a comment is plain.
 abbrev pub outside : Section → Bool → List ℕ → ℕ → List ℕ → List ℕ
 outside section is_first word depth [] = []
 outside section is_first word depth (c ∷ cs) =

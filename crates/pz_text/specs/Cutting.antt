@@ -13,9 +13,9 @@ abbrev pub holds_only : ℕ → List ℕ → Bool
 holds_only k [] = true
 holds_only k (c ∷ cs) = c == k && holds_only k cs
 
--- A line that is left out everywhere. Either it is void: only white space is left of it, and it begins inside a comment or has
--- part of one. Or only `=` characters are left. `line` is the line, `left` is it without comments, and `text` is that without
--- white space at its ends. `depth` brackets are open before the line.
+-- text.void-lines: A line that is left out everywhere. Either it is void: only white space is left of it, and it begins inside
+-- a comment or has part of one. Or only `=` characters are left. `line` is the line, `left` is it without comments, and `text`
+-- is that without white space at its ends. `depth` brackets are open before the line.
 abbrev pub is_left_out : ℕ → List ℕ → List ℕ → List ℕ → Bool
 is_left_out depth line left text =
     if length text == 0 then nat_lt 0 depth || nat_lt (length left) (length line) else holds_only 61 text
@@ -34,6 +34,6 @@ lines_from section depth number (raw ∷ more) =
     else record { number = number; section = after; is_heading = is_some heading; text = text } ∷ [])
     ++ lines_from after (depth_after section true [] depth line) (number + 1) more
 
--- the lines of a text; a line ends at a line feed
+-- text.lines: the lines of a text; a line ends at a line feed
 abbrev pub cut : List ℕ → List Line
 cut text = lines_from Prelude 0 1 (slice_split (λ c. c == 10) text)

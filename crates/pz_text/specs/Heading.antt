@@ -24,8 +24,8 @@ begins_with_word (c ∷ cs) [] = is_whitespace c
 begins_with_word [] (w ∷ ws) = false
 begins_with_word (c ∷ cs) (w ∷ ws) = to_ascii_lowercase c == w && begins_with_word cs ws
 
--- The section that a line begins, if it is a heading. That is a heading word alone, in every section. In the prelude a line
--- whose first word is `objects` is one too.
+-- sections.headings: The section that a line begins, if it is a heading. That is a heading word alone, in every section. In the
+-- prelude a line whose first word is `objects` is one too.
 abbrev pub heading_in : Section → List ℕ → Option Section
 heading_in Prelude line = if begins_with_word line (codes "objects") then Some Objects else heading_of line
 heading_in section line = heading_of line

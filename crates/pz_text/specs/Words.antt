@@ -4,7 +4,7 @@ use Rattle.std.specs.List.{slice_split}
 use Rattle.std.specs.Char.{is_whitespace}
 use Rattle.pz_base.specs.Name.{name_of}
 
--- the words of a line, separated by any white space of Unicode
+-- text.words: the words of a line, separated by any white space of Unicode
 abbrev pub words : List ℕ → List (List ℕ)
 words line = filter (λ word. not (length word == 0)) (slice_split is_whitespace line)
 

@@ -14,7 +14,7 @@ pub fn characters(alloc: Global, text: &str) -> Result<Vec<char>, AllocError>
     text.chars().collect(alloc)
 }
 
-/// The characters without the white space at both ends.
+/// The characters without the white space at both ends. Rule `text.white-space`.
 pub fn trimmed(line: &[char]) -> &[char]
     ensures value { result.now ≡ trimmed line.now }
     ensures shorter { length result.now ≤ length line.now }

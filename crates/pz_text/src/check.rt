@@ -11,7 +11,7 @@ use crate::section::{is_heading_of, place_of};
 use pz_base::fault::{Code, SourceFault};
 use std::alloc::Global;
 
-/// The most bytes that a source may have.
+/// The most bytes that a source may have. Rule `limits.source`.
 pub const MAX_BYTES: usize = 1_048_576;
 
 /// Promises the limit as a number, so that changing the constant alone breaks a proof.
@@ -19,7 +19,7 @@ pub fn sources_are_limited()
     ensures { MAX_BYTES ≡ 1_048_576 }
 {}
 
-/// `TooLong`, with line 0, if the text has more bytes than a source may have.
+/// `TooLong`, with line 0, if the text has more bytes than a source may have. Rule `checks.length`.
 pub fn too_long(text: &str) -> Option<SourceFault>
     ensures { result ≡ too_long text.now }
 {
@@ -33,7 +33,7 @@ pub fn too_long(text: &str) -> Option<SourceFault>
     }
 }
 
-/// `Section` at the first heading that is out of the order of the sections, or repeated.
+/// `Section` at the first heading that is out of the order of the sections, or repeated. Rule `sections.order`.
 pub fn misplaced_heading(lines: &[Line]) -> Option<SourceFault>
     ensures first { result ≡ misplaced_heading lines.now }
     ensures code { IfSome result (λ fault. fault.code ≡ code.Section) }
@@ -60,7 +60,7 @@ fn has_section(section: Section, lines: &[Line]) -> bool
     lines.iter().any(|line| is_heading_of(section, line))
 }
 
-/// `Section`, with line 0, if OBJECTS, LEGEND, COLLISIONLAYERS or LEVELS is missing.
+/// `Section`, with line 0, if OBJECTS, LEGEND, COLLISIONLAYERS or LEVELS is missing. Rule `checks.sections`.
 pub fn missing_section(lines: &[Line]) -> Option<SourceFault>
     ensures { result ≡ missing_section lines.now }
 {

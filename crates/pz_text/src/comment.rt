@@ -61,7 +61,7 @@ impl Cursor {
         }
     }
 
-    /// Whether a character ends the word `message` of a line of RULES.
+    /// Whether a character ends the word `message` of a line of RULES. Rule `text.glued-bracket`.
     pub fn ends_message(&self, c: char) -> bool
         ensures { result ≡ ends_message self.now.word.items c }
     {
@@ -70,7 +70,7 @@ impl Cursor {
             || is_word(word, b"message-") && c == '>'
     }
 
-    /// Whether the rest of the line is plain text from a character on.
+    /// Whether the rest of the line is plain text from a character on. Rules `text.prelude`, `text.message`.
     pub fn is_plain_from(&self, section: Section, c: char) -> bool
         ensures { result ≡ is_plain_from section self.now.is_first self.now.word.items c }
     {
@@ -118,6 +118,7 @@ pub fn opens_bracket(line: &[char]) -> bool
 }
 
 /// What is left of a line without its comments, and how many brackets are open after it. `opened` brackets are open before it.
+/// Rule `text.comments`.
 pub fn outside(
     alloc: Global,
     section: Section,

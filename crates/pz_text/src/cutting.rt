@@ -26,6 +26,7 @@ fn holds_only(line: &[char], mark: char) -> bool
     true
 }
 
+/// Rule `text.void-lines`.
 fn is_left_out(depth: usize, line: &[char], left: &[char], text: &[char]) -> bool
     ensures { result ≡ is_left_out depth line.now left.now text.now }
 {
@@ -98,7 +99,7 @@ fn read_line(
     line_of(alloc, before, number, line, left.as_slice(), depth)
 }
 
-/// The lines of a text, without comments. Blank lines are kept. Void lines and lines of only `=` are left out.
+/// The lines of a text, without comments. Blank lines are kept. Void lines and lines of only `=` are left out. Rule `text.lines`.
 pub fn cut(alloc: Global, text: &[char]) -> Result<Vec<Line>, AllocError>
     requires { length text.now < 2 ^ 31 }
     ensures { IfOk result (λ lines. lines.items ≡ cut text.now) }

@@ -46,7 +46,7 @@ pub fn begins_with_word(line: &[char], word: &[u8]) -> bool
     }
 }
 
-/// The section that a line begins, if it is a heading. `section` is the one in which it stands.
+/// The section that a line begins, if it is a heading. `section` is the one in which it stands. Rule `sections.headings`.
 pub fn heading_in(section: Section, line: &[char]) -> Option<Section>
     ensures { result ≡ heading_in section line.now }
 {

@@ -7,7 +7,7 @@ use pz_base::listed::Listed;
 use pz_base::name::Name;
 use std::alloc::{AllocError, Global};
 
-/// The words of a line, separated by white space only.
+/// The words of a line, separated by white space only. Rule `text.words`.
 pub fn words<'a>(alloc: Global, line: &'a [char]) -> Result<Vec<&'a [char]>, AllocError>
     ensures { IfOk result (λ parts. map (λ part. part.now) parts.items ≡ words line.entry.now) }
 {

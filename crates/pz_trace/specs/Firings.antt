@@ -30,7 +30,7 @@ abbrev pub are_some : {X : Type 0} → List X → Bool
 are_some [] = false
 are_some (first ∷ more) = true
 
--- it fires if it changes a cell somewhere
+-- stages.fires: it fires if it changes a cell somewhere
 abbrev pub has_fired : Fired → Bool
 has_fired fired = are_some fired.places
 
@@ -93,6 +93,7 @@ abbrev pub told : (Fired → FiringState) → (Bool → Grid → Sequence) → R
 told firing later (Err fault) = stopped fault
 told firing later (Ok gave) = if has_fired gave then preceded (firing gave) (later true gave.level) else later false gave.level
 
+-- stages.firings
 abbrev pub told_instance : List RuleLine → Moment → Instance → Telling
 told_instance rules moment instance later grid =
     told (λ gave. record { moment = moment; line = line_of rules instance; scan = instance.scan; gave = gave }) later (fired instance grid)
@@ -125,7 +126,7 @@ told_round rules groups round = told_each (told_group rules round) 0 groups fals
 abbrev pub done : Bool → Grid → Sequence
 done changed level = over
 
--- the firings of a block. A group that is in no loop counts as group 0 of round 0.
+-- stages.firings: the firings of a block. A group that is in no loop counts as group 0 of round 0.
 unfoldable pub firings_of : List RuleLine → Block → Grid → Sequence
 firings_of rules (One group) grid = told_group rules 0 0 group done grid
 firings_of rules (Loop groups) grid = told_rest (told_round rules groups) PASSES 0 done grid

@@ -32,6 +32,7 @@ pub record Course : Type 0 where
 abbrev pub over : Course
 over = record { stages = []; stop = None }
 
+-- stages.stop
 abbrev pub stopped : StepFault → Course
 stopped fault = record { stages = []; stop = Some fault }
 
@@ -46,7 +47,7 @@ pub record Standing : Type 0 where
 abbrev pub after : Standing → Outcome Grid → Standing
 after standing gave = record { level = gave.level; commands = either standing.commands gave.commands }
 
--- a part that gave this or stopped, and what follows it
+-- stages.commands: a part that gave this or stopped, and what follows it
 abbrev pub going_on : Part → Standing → (Standing → Course) → Result (Outcome Grid) StepFault → Course
 going_on part standing later (Err fault) = stopped fault
 going_on part standing later (Ok gave) = preceded (record { part = part; gave = gave }) (later (after standing gave))
@@ -68,7 +69,7 @@ pub record Asked : Type 0 where
   pub grid : Grid
   pub input : Option Dir
 
--- the end: the step may be cancelled, and then ends with the level before it
+-- stages.end: the end: the step may be cancelled, and then ends with the level before it
 abbrev pub end_of : Asked → Standing → Outcome Grid
 end_of asked standing =
     ended asked.grid standing.level (with_cancel (must_cancel asked.game asked.input asked.grid standing.level) standing.commands)
@@ -76,19 +77,19 @@ end_of asked standing =
 abbrev pub end_from : Asked → Standing → Course
 end_from asked standing = preceded (record { part = End; gave = end_of asked standing }) over
 
--- from the late block of this number on
+-- stages.late: from the late block of this number on
 abbrev pub late_from : Asked → ℕ → Standing → Course
 late_from asked number standing = blocks_from Late number (end_from asked) (drop number asked.program.late) standing
 
--- from the movement on
+-- stages.movement: from the movement on
 abbrev pub movement_from : Asked → Standing → Course
 movement_from asked standing = going_on Movement standing (late_from asked 0) (Ok (led standing.level (resolved standing.level)))
 
--- from the early block of this number on
+-- stages.early: from the early block of this number on
 abbrev pub early_from : Asked → ℕ → Standing → Course
 early_from asked number standing = blocks_from Early number (movement_from asked) (drop number asked.program.early) standing
 
--- from the input on: a press gives its direction to the player, a tick gives none
+-- stages.input: from the input on: a press gives its direction to the player, a tick gives none
 abbrev pub input_from : Asked → Standing → Course
 input_from asked standing =
     going_on Input standing (early_from asked 0) (Ok (led asked.grid (given_input (players_of asked.game) asked.input standing.level)))

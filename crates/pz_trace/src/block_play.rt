@@ -205,7 +205,7 @@ impl<'a> BlockPlay<'a> {
         }
     }
 
-    /// The next firing, or `None` after the last. Err: why there is none.
+    /// The next firing, or `None` after the last. Err: why there is none. Rule `stages.firings`.
     pub fn advance(&mut self) -> Result<Option<Firing>, StepFault>
         requires played { IsPlayed self.old }
         ensures firing { IfOk result (λ firing. Yields (left_in self.old) firing self.new.level.grid (left_in self.new)) }

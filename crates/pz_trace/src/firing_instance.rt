@@ -27,7 +27,7 @@ fn rewrites_at(level: &mut Level, instance: &Instance, places: &[Place]) -> bool
     still_matches(level, instance, places) && level.rewrite_all(instance, places, false)
 }
 
-/// Applies an instance at these places, and tells them if a cell changed.
+/// Applies an instance at these places, and tells them if a cell changed. Rule `stages.fires`.
 fn fire_at(
     alloc: Global,
     level: &mut Level,

@@ -135,7 +135,7 @@ impl<'a> Play<'a> {
     ghost use Rattle.pz_trace.specs.Stages.{Course, Standing, going_on, preceded, stopped, movement_from, end_from};
     ghost use Rattle.pz_trace.specs.Tracing.{IsTraced, Yields, asked_in, left, standing_in, with_level};
 
-    /// The stage of a part that has led to the level, given these commands and perhaps changed something.
+    /// The stage of a part that has led to the level, given these commands and perhaps changed something. Rule `stages.commands`.
     fn stage(&mut self, part: Part, commands: Commands, changed: bool) -> Stage
         ensures stage { result ≡ record { part = part; commands = commands; changed = changed } }
         ensures commands { self.new.commands ≡ either self.old.commands commands }
@@ -150,7 +150,7 @@ impl<'a> Play<'a> {
         }
     }
 
-    /// The first stage.
+    /// The first stage. Rule `stages.input`.
     fn input(&mut self) -> Stage
         requires phase { self.old.phase ≡ Phase.Input }
         requires traced { IsTraced self.old }
@@ -163,7 +163,7 @@ impl<'a> Play<'a> {
         self.stage(Part::Input, Commands::empty(), changed)
     }
 
-    /// The stage of a block, after which this comes.
+    /// The stage of a block, after which this comes. Rules `stages.early`, `stages.late`.
     fn block(&mut self, part: Part, block: &Block, next: Phase) -> Result<Stage, StepFault>
         requires block_of { IsBlockOf self.old.game.now.layers block.now }
         requires traced { IsTraced self.old }
@@ -179,7 +179,7 @@ impl<'a> Play<'a> {
         Ok(self.stage(part, commands, changed))
     }
 
-    /// The movement's stage.
+    /// The movement's stage. Rule `stages.movement`.
     fn movement(&mut self) -> Result<Stage, StepFault>
         requires traced { IsTraced self.old }
         ensures stage { IfOk result (λ stage. movement_from (asked_in self.old) (standing_in self.old) ≡ preceded (with_level stage self.new.level.grid) (left self.new)) }
@@ -192,7 +192,7 @@ impl<'a> Play<'a> {
         Ok(self.stage(Part::Movement, Commands::empty(), changed))
     }
 
-    /// The last stage.
+    /// The last stage. Rule `stages.end`.
     fn end(&mut self) -> Result<Stage, StepFault>
         requires traced { IsTraced self.old }
         ensures stage { IfOk result (λ stage. end_from (asked_in self.old) (standing_in self.old) ≡ preceded (with_level stage self.new.level.grid) (left self.new)) }

@@ -82,7 +82,7 @@ impl<'a> Tracing<'a> {
     }
 
     /// The next stage, or `None` after the end. `LoopLimit` and `MatchLimit`: the step stops behind the stages so far. After a fault every
-    /// later call gives it again.
+    /// later call gives it again. Rule `stages.stop`.
     pub fn next(&mut self) -> Result<Option<Stage>, StepFault>
         ensures stage { IfOk result (λ stage. Yields self.old.course stage self.new.level self.new.course) }
         ensures grid { self.new.grid ≡ self.old.grid }

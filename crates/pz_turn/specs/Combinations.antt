@@ -2,7 +2,7 @@
 use Rattle.std.specs.Prelude.{List, [], ◌∷◌, map}
 use Rattle.std.specs.List.{flat_map}
 
--- in order, the element of the first list varying fastest
+-- match.combinations: in order, the element of the first list varying fastest
 abbrev pub combinations : {X : Type 0} → List (List X) → List (List X)
 combinations [] = [] ∷ []
 combinations (xs ∷ lists) = flat_map (λ rest. map (λ x. x ∷ rest) xs) (combinations lists)

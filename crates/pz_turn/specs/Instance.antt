@@ -26,6 +26,7 @@ abbrev pub stop_of : GridFault → StepFault
 stop_of grid.Memory = Memory
 stop_of grid.MatchLimit = MatchLimit
 
+-- match.limit
 abbrev pub found_or_stop : Result (List Place) GridFault → Result (List Place) StepFault
 found_or_stop (Err fault) = Err (stop_of fault)
 found_or_stop (Ok found) = Ok found
@@ -45,12 +46,12 @@ abbrev pub taken : Grid → Dir → List RuleRow → Result (List (List Place)) 
 taken grid dir [] = Ok []
 taken grid dir (row ∷ rows) = after_row (found_or_stop (searched grid row dir)) (taken grid dir rows)
 
--- an instance rewrites at a combination of places, if all its rows hold there in the level so far
+-- match.tested-again: an instance rewrites at a combination of places, if all its rows hold there in the level so far
 abbrev pub applied_at : Instance → Rewriting → List Place → Rewriting
 applied_at instance so_far places =
     if still_matches so_far.grid instance places then rewritten instance places so_far else so_far
 
--- the commands are given if there is a combination
+-- match.commands: the commands are given if there is a combination
 abbrev pub given : List (List Place) → Commands → Commands
 given [] commands = no_commands
 given (places ∷ more) commands = commands
@@ -72,8 +73,8 @@ applied_with instance grid (Ok lists) = applied_to instance grid (combinations l
 unfoldable pub applied : Instance → Grid → Result (Outcome Grid) StepFault
 applied instance grid = applied_with instance grid (taken grid instance.scan instance.left)
 
--- an instance without effect on a level: it has no right and no commands, and its one row can't have too many places, because
--- it has no gap or the level has few cells
+-- rules.no-right: an instance without effect on a level: it has no right and no commands, and its one row can't have too many
+-- places, because it has no gap or the level has few cells
 pub record HasNoEffect (grid : Grid) (instance : Instance) : Type 0 where
   pub right : instance.right ≡ []
   pub commands : instance.commands ≡ no_commands

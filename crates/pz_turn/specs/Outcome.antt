@@ -25,7 +25,7 @@ joined first (Ok second) = Ok (record {
   changed = first.changed || second.changed;
 })
 
--- a run, and then another on the level that it left, unless the first stopped
+-- step.commands: a run, and then another on the level that it left, unless the first stopped
 abbrev pub followed_by : {L : Type 0} → Result (Outcome L) StepFault → (L → Result (Outcome L) StepFault) → Result (Outcome L) StepFault
 followed_by (Err fault) run = Err fault
 followed_by (Ok first) run = joined first (run first.level)

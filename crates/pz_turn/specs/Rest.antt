@@ -34,15 +34,16 @@ ends_after pass (Ok outcome) = ends (pass outcome.level)
 abbrev pub is_last : {L : Type 0} → Runs L → L → ℕ → Bool
 is_last pass level n = ends_after pass (passes pass n level)
 
+-- match.loop-limit
 abbrev pub up_to : {L : Type 0} → Runs L → L → Option ℕ → Result (Outcome L) StepFault
 up_to pass level None = Err LoopLimit
 up_to pass level (Some n) = passes pass (suc n) level
 
--- passes up to the first that stops or changes nothing; `loop-limit` if none of the first `limit` passes does
+-- match.rest: passes up to the first that stops or changes nothing; `loop-limit` if none of the first `limit` passes does
 unfoldable pub rest_of : {L : Type 0} → ℕ → Runs L → Runs L
 rest_of limit pass level = up_to pass level (find (is_last pass level) (range_with_len 0 limit))
 
--- a group of a loop, run to rest
+-- match.loops: a group of a loop, run to rest
 abbrev pub group_runs : {L I : Type 0} → ℕ → (I → Runs L) → List I → Runs L
 group_runs limit applied group = rest_of limit (pass_of applied group)
 

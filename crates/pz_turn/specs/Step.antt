@@ -39,7 +39,7 @@ abbrev pub then_moved : Result (Outcome Grid) StepFault → Result (Outcome Grid
 then_moved (Err fault) = Err fault
 then_moved (Ok end) = Ok (moved end)
 
--- the rules of a step: early blocks, movement, late blocks
+-- step.order: the rules of a step: early blocks, movement, late blocks
 unfoldable pub rules_run : Program → Runs Grid
 rules_run program grid = followed_by (then_moved (blocks_run program.early grid)) (blocks_run program.late)
 
@@ -57,7 +57,7 @@ abbrev pub has_stayed : List ℕ → Grid → Grid → Bool
 has_stayed players before after =
     list_any (holds_one players) before.cells && list_all (keeps_player players) (zip before.cells after.cells)
 
--- a press that must move the player and hasn't is cancelled
+-- step.player-moves: a press that must move the player and hasn't is cancelled
 abbrev pub must_cancel : GameParts → Option Dir → Grid → Grid → Bool
 must_cancel game input before after =
     game.options.require_player_movement && (is_some input && has_stayed (players_of game) before after)
@@ -66,13 +66,14 @@ abbrev pub with_cancel : Bool → Commands → Commands
 with_cancel true commands = either commands cancel
 with_cancel false commands = commands
 
--- a cancelled step ends with the level before it; any other has changed the level if the two differ
+-- play.cancel: a cancelled step ends with the level before it; any other has changed the level if the two differ
 abbrev pub ended : Grid → Grid → Commands → Outcome Grid
 ended before after commands =
     if has commands cancel
     then record { level = before; commands = commands; changed = false }
     else record { level = after; commands = commands; changed = not (same_grid after before) }
 
+-- step.stop
 abbrev pub step_ended : GameParts → Option Dir → Grid → Result (Outcome Grid) StepFault → Result (Outcome Grid) StepFault
 step_ended game input before (Err fault) = Err fault
 step_ended game input before (Ok end) =

@@ -13,7 +13,7 @@ use Rattle.pz_cells.specs.declared.piece.Piece.{Piece}
 use Rattle.pz_sheet.specs.Grid.{Grid}
 use Rattle.pz_sheet.specs.Presence.{holds_one, holds_each, holds_both, holds_if}
 
--- a cell fits an aggregate if it holds all members, and an object or a property if it holds a member
+-- wins.fit: a cell fits an aggregate if it holds all members, and an object or a property if it holds a member
 abbrev pub fits_kind : Kind → List ℕ → List (Option Piece) → Bool
 fits_kind Aggregate members cell = holds_each members cell
 fits_kind _ members cell = holds_one members cell
@@ -46,9 +46,10 @@ holds_of quantifier.All game line cells = list_all (fits_if game line) cells
 holds_of quantifier.Some game line cells = list_any (fits_both game line) cells
 holds_of quantifier.No game line cells = not (list_any (fits_both game line) cells)
 
+-- wins.hold
 abbrev pub line_holds : GameParts → Grid → WinLine → Bool
 line_holds game grid line = holds_of line.quantifier game line grid.cells
 
--- there are win lines, and all hold
+-- wins.step: there are win lines, and all hold
 unfoldable pub has_won : GameParts → Grid → Bool
 has_won game grid = nat_lt 0 (length game.wins) && list_all (line_holds game grid) game.wins

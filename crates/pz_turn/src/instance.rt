@@ -27,7 +27,7 @@ use pz_program::instance::Instance;
 use std::alloc::Global;
 use std::slice;
 
-/// The most combinations that an instance may have.
+/// The most combinations that an instance may have. Rule `limits.combinations`.
 pub const COMBINATION_LIMIT: u64 = 1_048_576;
 
 /// In a level of at most this many cells no row has more than `MATCH_LIMIT` places. There is at most one for each cell and gap, and a gap
@@ -49,7 +49,7 @@ impl From<GridFault> for StepFault {
     }
 }
 
-/// The places of a row, unless there are too many.
+/// The places of a row, unless there are too many. Rule `match.limit`.
 fn search(alloc: Global, level: &Level, row: &Row, dir: Dir) -> Result<Listed<Place>, StepFault>
     requires of_game { IsRowOf level.now.grid.layers row.now }
     ensures found { IfOk result (λ found. found_or_stop (searched level.now.grid row.now dir) ≡ Ok found) }
@@ -68,7 +68,7 @@ fn is_small(level: &Level) -> bool
 
 /// Whether an instance has no effect, even if it fits: it neither rewrites, gives a command nor meets a limit. An example is a rule that
 /// only plays a sound. In a small level the row isn't read: there may be thousands of such instances, each with its row elsewhere in
-/// memory.
+/// memory. Rule `rules.no-right`.
 fn has_no_effect(level: &Level, instance: &Instance) -> bool
     ensures { result ≡ true → HasNoEffect level.now.grid instance.now }
 {
@@ -148,7 +148,7 @@ pub fn combination_count(lists: &[Listed<Place>]) -> u64
     count
 }
 
-/// Tests again whether all rows of an instance hold at these places, and rewrites them if so.
+/// Tests again whether all rows of an instance hold at these places, and rewrites them if so. Rule `match.tested-again`.
 fn apply_at(level: &mut Level, instance: &Instance, places: &[Place], changed: bool) -> bool
     requires of_game { IsInstanceOf level.old.grid.layers instance.now }
     ensures applied { in_rewrite level.new.grid result ≡ applied_at instance.now (in_rewrite level.old.grid changed) places.now }
@@ -162,6 +162,7 @@ fn apply_at(level: &mut Level, instance: &Instance, places: &[Place], changed: b
 }
 
 /// Applies an instance at each combination of places of these rows, together with the places chosen for the rows after them.
+/// Rule `match.combinations`.
 fn apply_all(
     level: &mut Level,
     instance: &Instance,
@@ -198,7 +199,7 @@ fn room_for(alloc: Global, rows: usize) -> Result<Vec<Place>, StepFault>
     }
 }
 
-/// The commands of an instance, if it has a combination.
+/// The commands of an instance, if it has a combination. Rule `match.commands`.
 fn given(lists: &[Listed<Place>], commands: Commands) -> Commands
     ensures { result ≡ given (combinations lists.now) commands }
 {

@@ -15,7 +15,7 @@ use pz_program::instance::Groups;
 use std::alloc::Global;
 
 /// Runs a loop of groups to rest: passes repeat up to the first that changes nothing. A pass runs each group to rest, in order. The result
-/// and the faults are those of `rest`.
+/// and the faults are those of `rest`. Rule `match.loops`.
 pub fn rest_loop(
     alloc: Global,
     game: &Game,

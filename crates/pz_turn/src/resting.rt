@@ -18,7 +18,7 @@ use pz_program::commands::Commands;
 use pz_program::group::Group;
 use std::alloc::Global;
 
-/// The most passes of a group or a loop. If the last of them still changes something, the stop is `loop-limit`.
+/// The most passes of a group or a loop. If the last of them still changes something, the stop is `loop-limit`. Rule `limits.passes`.
 pub const PASSES: u64 = 200;
 
 /// What runs on a level: an instance, a segment, a group of a loop, a block.
@@ -156,6 +156,7 @@ pub(crate) fn as_pair(
 /// Runs a group to rest: passes over its instances repeat up to the first that changes nothing. The result has the commands given in any
 /// pass, and whether a pass changed something. `LoopLimit`: the 200th pass still changed something. `MatchLimit`: a row has too many
 /// places, or an instance too many combinations. After a fault the level is lawful, but its contents are unspecified.
+/// Rules `match.rest`, `match.loop-limit`.
 pub fn rest(
     alloc: Global,
     game: &Game,

@@ -46,7 +46,7 @@ impl Runnable for Block {
     }
 }
 
-/// Runs the early blocks, the movement and the late blocks.
+/// Runs the early blocks, the movement and the late blocks. Rule `step.order`.
 #[tactic(auto, unfolding(crate::specs::Step::blocks_run, crate::specs::Step::rules_run))]
 fn run_rules(
     alloc: Global,
@@ -151,7 +151,7 @@ fn has_stayed(players: &[usize], before: &Level, after: &Level) -> bool
     some_player(players, before) && all_keep_players(players, before, after)
 }
 
-/// Whether `require_player_movement` cancels a step: a press had to move the player, and hasn't.
+/// Whether `require_player_movement` cancels a step: a press had to move the player, and hasn't. Rule `step.player-moves`.
 pub fn must_cancel(game: &Game, input: Option<Dir>, before: &Level, after: &Level) -> bool
     ensures { result ≡ must_cancel game.now input before.now.grid after.now.grid }
 {
@@ -172,7 +172,7 @@ pub fn with_cancel(cancelled: bool, commands: Commands) -> Commands
     }
 }
 
-/// How a step ends that leads from one level to another. A cancelled step ends with the level before it.
+/// How a step ends that leads from one level to another. A cancelled step ends with the level before it. Rule `play.cancel`.
 fn end_of(before: &Level, after: Level, commands: Commands) -> Result<StepEnd, StepFault>
     requires size { SameSize before.now.grid after.grid }
     ensures end { IfOk result (λ end. ended before.now.grid after.grid commands ≡ record { level = end.level.grid; commands = end.commands; changed = end.changed }) }
@@ -201,7 +201,7 @@ fn end_of(before: &Level, after: Level, commands: Commands) -> Result<StepEnd, S
     }
 }
 
-/// Plays a step as `step` does, in the memory of a spare level if there is one. What the spare level held is lost.
+/// Plays a step as `step` does, in the memory of a spare level if there is one. What the spare level held is lost. Rule `step.stop`.
 pub fn step_in(
     alloc: Global,
     game: &Game,

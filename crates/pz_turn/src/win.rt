@@ -12,6 +12,7 @@ use pz_game::win_line::{Quantifier, WinLine};
 use pz_grid::Level;
 
 /// Whether the cell of this number fits what a name denotes: an object or a property if it holds a member, an aggregate if it holds all.
+/// Rule `wins.fit`.
 fn fits_kind(level: &Level, index: usize, denotation: &Denotation) -> bool
     requires { index < length level.now.grid.cells }
     ensures { result ≡ fits_kind denotation.now.kind denotation.now.members (cell_of level.now.grid index) }
@@ -134,6 +135,7 @@ fn line_holds_of(
     }
 }
 
+/// Rule `wins.hold`.
 fn line_holds(game: &Game, level: &Level, line: WinLine) -> bool
     ensures { result ≡ line_holds game.now level.now.grid line }
 {
@@ -156,7 +158,7 @@ fn all_hold(game: &Game, level: &Level, lines: &[WinLine]) -> bool
     true
 }
 
-/// Whether the level is won: the game has win lines, and all of them hold.
+/// Whether the level is won: the game has win lines, and all of them hold. Rule `wins.step`.
 #[tactic(auto, unfolding(crate::specs::Win::has_won))]
 pub fn won(game: &Game, level: &Level) -> bool
     ensures { result ≡ has_won game.now level.now.grid }
