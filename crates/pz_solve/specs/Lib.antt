@@ -1,0 +1,10 @@
+pub mod Moves
+pub mod Leading
+pub mod Winning
+pub mod Found
+pub mod Noted
+pub mod Trying
+pub mod Answers
+pub use Rattle.pz_program.specs.Instance
+pub use Rattle.pz_sheet.specs.Grid
+pub use Rattle.pz_turn.specs.Step

@@ -1,0 +1,11 @@
+//! Solves levels: a shortest list of presses that wins, or that no list does.
+#![tactic(auto)]
+
+mod answer;
+mod moves;
+mod path;
+mod search;
+mod solving;
+
+pub use answer::{Answer, Bounds, SolveFault};
+pub use solving::solve;

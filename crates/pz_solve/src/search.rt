@@ -1,0 +1,155 @@
+//! The levels that a search has found.
+
+ghost use Rattle.std.specs.Prelude.{◌≡◌, ◌+◌, ◌<◌, ◌≤◌, [], ◌∷◌, ◌++◌, length, IfOk, OnErr, option_map, Some, slice_get};
+ghost use Rattle.pz_solve.specs.Found.{start_of};
+ghost use Rattle.pz_solve.specs.Noted.{entry_of, found_in, is_found, link_of, IsKept, IsNotedAs};
+
+use pz_game::direction::Dir;
+use pz_grid::Level;
+use std::alloc::{AllocError, Global};
+use std::marker::Model;
+
+/// How a level was found: after so many presses, from which level before it, and by which press.
+#[derive(Clone, Copy)]
+pub struct Link {
+    pub depth: usize,
+    pub parent: usize,
+    pub input: Dir,
+}
+
+/// A level that was found, and how.
+#[derive(Drop)]
+pub struct Node {
+    pub level: Level,
+    pub link: Link,
+}
+
+/// What became of a level.
+#[derive(Clone, Copy)]
+pub enum Noted {
+    /// It had been found before.
+    Known,
+    /// It was added.
+    Added,
+    /// It is new, and there is no room for it.
+    NoRoom,
+}
+
+/// The levels that a search has found, each once, in the order of their depths.
+pub struct Search {
+    nodes: Vec<Node>,
+}
+
+/// Written out, so that each place where one goes out of scope is one call.
+impl Drop for Search {
+    fn drop(self) {
+        let Search { nodes } = self;
+        drop(nodes);
+    }
+}
+
+impl Model for Search {
+    ghost use Rattle.std.specs.Prelude.{List};
+    ghost use Rattle.pz_solve.specs.Found.{Found};
+    ghost use Rattle.pz_solve.specs.Noted.{found_in, IsKept};
+
+    ghost Value = { List Found };
+
+    ghost view = { λ s. found_in s.nodes.items };
+
+    ghost invariant = { λ s. IsKept (found_in s.nodes.items) };
+}
+
+/// Whether a level is among those of these nodes.
+fn is_among(nodes: &[Node], level: &Level) -> bool
+    ensures { result ≡ is_found (found_in nodes.now) level.now.grid }
+{
+    for node in nodes {
+        if level.same(&node.level) {
+            return true;
+        }
+    }
+    false
+}
+
+impl Search {
+    /// A search that has found one level. Err: memory was refused.
+    pub(crate) fn new(alloc: Global, level: &Level) -> Result<Search, AllocError>
+        ensures { IfOk result (λ search. search ≡ start_of level.now.grid ∷ []) }
+    {
+        let mut nodes = Vec::new(alloc);
+        let level = level.copied()?;
+        let link = Link {
+            depth: 0,
+            parent: 0,
+            input: Dir::Action,
+        };
+        nodes.push(Node { level, link })?;
+        Ok(Search { nodes })
+    }
+
+    /// How many levels were found.
+    pub(crate) fn len(&self) -> usize
+        ensures count { result ≡ length self.now }
+        ensures kept { IsKept self.now }
+    {
+        self.nodes.len()
+    }
+
+    /// The level of this number.
+    pub(crate) fn level(&self, index: usize) -> &Level
+        requires { index < length self.now }
+        ensures { option_map (λ found. found.grid) (slice_get self.now index) ≡ Some result.now.grid }
+    {
+        &self.nodes[index].level
+    }
+
+    /// How the level of this number was found.
+    pub(crate) fn link(&self, index: usize) -> Link
+        requires { index < length self.now }
+        ensures link { option_map link_of (slice_get self.now index) ≡ Some result }
+        ensures low { result.depth ≤ index }
+        ensures behind { 0 < index → result.parent < index }
+    {
+        self.nodes[index].link
+    }
+
+    /// How a level is found by a press from the level of this number.
+    pub(crate) fn link_behind(&self, index: usize, input: Dir) -> Link
+        requires { index < length self.now }
+        ensures depth { option_map (λ found. found.depth + 1) (slice_get self.now index) ≡ Some result.depth }
+        ensures parent { result.parent ≡ index }
+        ensures input { result.input ≡ input }
+        ensures low { result.depth ≤ length self.now }
+    {
+        // (brings the proof how long the list may be)
+        let _ = self.nodes.len();
+        Link {
+            depth: self.link(index).depth + 1,
+            parent: index,
+            input,
+        }
+    }
+
+    /// Adds a level, unless it was found before, or so many levels were found already. Err: memory was refused.
+    pub(crate) fn note(
+        &mut self,
+        level: Level,
+        link: Link,
+        most: usize,
+    ) -> Result<Noted, AllocError>
+        requires low { link.depth ≤ length self.old }
+        requires behind { link.parent < length self.old }
+        ensures noted { IfOk result (IsNotedAs self.old self.new most (entry_of level.grid link)) }
+        ensures err { OnErr result (self.new ≡ self.old) }
+    {
+        if is_among(&self.nodes, &level) {
+            return Ok(Noted::Known);
+        }
+        if self.nodes.len() >= most {
+            return Ok(Noted::NoRoom);
+        }
+        self.nodes.push(Node { level, link })?;
+        Ok(Noted::Added)
+    }
+}
