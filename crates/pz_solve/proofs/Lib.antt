@@ -6,3 +6,6 @@ pub mod Reaching
 pub mod TryingLemmas
 pub mod Expanding
 pub mod Answering
+pub mod Digesting
+pub mod Indexing
+pub mod Knowing

@@ -1,5 +1,5 @@
 -- What a search keeps.
-use Rattle.std.specs.Prelude.{◌≡◌, ℕ, ◌≤◌, ◌<◌, Bool, true, false, List, [], ◌∷◌, ◌++◌, length, map, Some, slice_get}
+use Rattle.std.specs.Prelude.{◌≡◌, ℕ, ◌≤◌, ◌<◌, Bool, true, false, List, [], ◌∷◌, ◌++◌, length, map, Option, Some, None, if◌then◌else◌, slice_get}
 use Rattle.std.specs.List.{IsDistinct, list_any}
 use Rattle.pz_sheet.specs.Grid.{Grid}
 use Rattle.pz_sheet.specs.Sameness.{same_grid}
@@ -7,6 +7,7 @@ use Rattle.pz_solve.specs.declared.search.Link.{Link}
 use Rattle.pz_solve.specs.declared.search.Node.{Node}
 use Rattle.pz_solve.specs.declared.search.Noted.{Noted}
 use Rattle.pz_solve.specs.declared.search.Noted.TheVariants.{Known, Added, NoRoom}
+use Rattle.pz_solve.specs.Digest.{digest_of}
 use Rattle.pz_solve.specs.Found.{Found}
 
 abbrev pub entry_of : Grid → Link → Found
@@ -39,8 +40,21 @@ pub record IsKept (found : List Found) : Type 0 where
   pub distinct : AreDistinct found
   pub placed : (index : ℕ) (here : Found) → slice_get found index ≡ Some here → IsPlaced index here
 
+-- the digests of levels, by so many objects
+abbrev pub digests_of : ℕ → List Found → List ℕ
+digests_of objects found = map (λ here. digest_of objects here.grid) found
+
+-- what holds of what is stored: the levels are kept, and their digests indexed
+pub record IsStored (objects : ℕ) (digests : List ℕ) (found : List Found) : Type 0 where
+  pub kept : IsKept found
+  pub indexed : digests ≡ digests_of objects found
+
 abbrev pub is_found : List Found → Grid → Bool
 is_found found grid = list_any (same_grid grid) (grids_of found)
+
+-- the digest of a level that was not found
+abbrev pub digest_if_new : ℕ → List Found → Grid → Option ℕ
+digest_if_new objects found grid = if is_found found grid then None else Some (digest_of objects grid)
 
 -- a level was known, and nothing changed; or it wasn't, and was added, or there was no room for it
 abbrev pub IsNotedAs : List Found → List Found → ℕ → Found → Noted → Type 0

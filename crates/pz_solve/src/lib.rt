@@ -2,6 +2,8 @@
 #![tactic(auto)]
 
 mod answer;
+mod digest;
+mod index;
 mod moves;
 mod path;
 mod search;

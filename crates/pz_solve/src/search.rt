@@ -1,9 +1,12 @@
 //! The levels that a search has found.
 
 ghost use Rattle.std.specs.Prelude.{◌≡◌, ◌+◌, ◌<◌, ◌≤◌, [], ◌∷◌, ◌++◌, length, IfOk, OnErr, option_map, Some, slice_get};
-ghost use Rattle.pz_solve.specs.Found.{start_of};
-ghost use Rattle.pz_solve.specs.Noted.{entry_of, found_in, is_found, link_of, IsKept, IsNotedAs};
+ghost use Rattle.pz_sheet.specs.Sameness.{same_grid};
+ghost use Rattle.pz_solve.specs.Found.{Found, start_of};
+ghost use Rattle.pz_solve.specs.Noted.{digest_if_new, digests_of, entry_of, found_in, link_of, IsKept, IsNotedAs};
 
+use crate::digest::digest;
+use crate::index::Index;
 use pz_game::direction::Dir;
 use pz_grid::Level;
 use std::alloc::{AllocError, Global};
@@ -35,15 +38,21 @@ pub enum Noted {
     NoRoom,
 }
 
-/// The levels that a search has found, each once, in the order of their depths.
+/// The levels that a search has found, each once, in the order of their depths. `index` has their digests, by that many objects.
 pub struct Search {
     nodes: Vec<Node>,
+    index: Index,
+    objects: usize,
 }
 
 /// Written out, so that each place where one goes out of scope is one call.
 impl Drop for Search {
     fn drop(self) {
-        let Search { nodes } = self;
+        let Search {
+            nodes,
+            index: _index,
+            objects: _,
+        } = self;
         drop(nodes);
     }
 }
@@ -51,30 +60,42 @@ impl Drop for Search {
 impl Model for Search {
     ghost use Rattle.std.specs.Prelude.{List};
     ghost use Rattle.pz_solve.specs.Found.{Found};
-    ghost use Rattle.pz_solve.specs.Noted.{found_in, IsKept};
+    ghost use Rattle.pz_solve.specs.Noted.{found_in, IsStored};
 
     ghost Value = { List Found };
 
     ghost view = { λ s. found_in s.nodes.items };
 
-    ghost invariant = { λ s. IsKept (found_in s.nodes.items) };
+    ghost invariant = { λ s. IsStored s.objects s.index (found_in s.nodes.items) };
 }
 
-/// Whether a level is among those of these nodes.
-fn is_among(nodes: &[Node], level: &Level) -> bool
-    ensures { result ≡ is_found (found_in nodes.now) level.now.grid }
+/// Whether a level is the one of a node.
+fn is_at(nodes: &[Node], place: usize, level: &Level) -> bool
+    requires { place < length nodes.now }
+    ensures { (here : Found) → slice_get (found_in nodes.now) place ≡ Some here → result ≡ same_grid level.now.grid here.grid }
 {
-    for node in nodes {
-        if level.same(&node.level) {
-            return true;
+    level.same(&nodes[place].level)
+}
+
+/// The digest of a level, unless it is among those of these nodes.
+fn digest_if_new(nodes: &[Node], index: &Index, objects: usize, level: &Level) -> Option<u64>
+    requires { index.now ≡ digests_of objects (found_in nodes.now) }
+    ensures { result ≡ digest_if_new objects (found_in nodes.now) level.now.grid }
+{
+    let digest = digest(level.bare(), objects);
+    let mut at = index.newest(digest);
+    'places: while let Some(place) = at {
+        if is_at(nodes, place, level) {
+            return None;
         }
+        at = index.older(place, digest);
     }
-    false
+    Some(digest)
 }
 
 impl Search {
     /// A search that has found one level. Err: memory was refused.
-    pub(crate) fn new(alloc: Global, level: &Level) -> Result<Search, AllocError>
+    pub(crate) fn new(alloc: Global, level: &Level, objects: usize) -> Result<Search, AllocError>
         ensures { IfOk result (λ search. search ≡ start_of level.now.grid ∷ []) }
     {
         let mut nodes = Vec::new(alloc);
@@ -84,8 +105,14 @@ impl Search {
             parent: 0,
             input: Dir::Action,
         };
+        let mut index = Index::new(alloc);
+        index.push(digest(level.bare(), objects))?;
         nodes.push(Node { level, link })?;
-        Ok(Search { nodes })
+        Ok(Search {
+            nodes,
+            index,
+            objects,
+        })
     }
 
     /// How many levels were found.
@@ -143,13 +170,17 @@ impl Search {
         ensures noted { IfOk result (IsNotedAs self.old self.new most (entry_of level.grid link)) }
         ensures err { OnErr result (self.new ≡ self.old) }
     {
-        if is_among(&self.nodes, &level) {
+        let Some(digest) = digest_if_new(&self.nodes, &self.index, self.objects, &level) else {
             return Ok(Noted::Known);
-        }
+        };
         if self.nodes.len() >= most {
             return Ok(Noted::NoRoom);
         }
         self.nodes.push(Node { level, link })?;
+        if self.index.push(digest).is_err() {
+            self.nodes.pop();
+            return Err(AllocError);
+        }
         Ok(Noted::Added)
     }
 }

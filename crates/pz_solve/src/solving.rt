@@ -138,7 +138,7 @@ pub fn solve(
     requires program_of { IsProgramOf game.now.layers program.now }
     ensures { IfOk result (IsAnswer (move_of game.now program.now) level.now.grid bounds) }
 {
-    let mut search = Search::new(alloc, level)?;
+    let mut search = Search::new(alloc, level, game.layers().len())?;
     let mut index = 0;
     'levels: while index < search.len() {
         match expand(alloc, game, program, &mut search, index, bounds)? {

@@ -10,7 +10,7 @@ placed : (c : goal.After-result-1) → IsPlaced c.args.index (entry_in c.index.r
 placed c =
     let nodes = c.self.inside.nodes.items in
     let within : c.args.index < length nodes = omega (arith, c.requires, ap (λ (all : List Found). length all) c.self.view_is, length-map nodes entry_in) in
-    c.self.invariant.placed c.args.index (entry_in c.index.result.now) (read_node nodes c.args.index c.index.result.now within c.index.ensures)
+    c.self.invariant.kept.placed c.args.index (entry_in c.index.result.now) (read_node nodes c.args.index c.index.result.now within c.index.ensures)
 
 pub returns-clause-low : goal.returns-clause-low
 returns-clause-low c = (placed c).low
