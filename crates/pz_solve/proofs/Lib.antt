@@ -9,3 +9,4 @@ pub mod Answering
 pub mod Digesting
 pub mod Indexing
 pub mod Knowing
+pub mod WorkedSearches
