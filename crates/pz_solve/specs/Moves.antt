@@ -52,3 +52,7 @@ pressed tick game (Ok end) = effect tick game end
 -- the move of a press from a level
 unfoldable pub move_of : GameParts → Program → Grid → Dir → Reached
 move_of game program level input = pressed (ticks game program MOST_TICKS) game (step_of game program level (Some input))
+
+-- what a session plays before its first input: in a game with `run_rules_on_level_start` the ticks of the level's start
+abbrev pub started : GameParts → Program → Grid → Reached
+started game program level = if game.options.run_rules_on_level_start then ticks game program MOST_TICKS level else Stands level

@@ -4,10 +4,11 @@
 mod answer;
 mod digest;
 mod index;
-mod moves;
+pub mod moves;
 mod path;
 mod search;
 mod solving;
 
 pub use answer::{Answer, Bounds, SolveFault};
+pub use moves::{Move, start};
 pub use solving::solve;

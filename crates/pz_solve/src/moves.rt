@@ -5,7 +5,7 @@ ghost use Rattle.pz_program.specs.Instance.{IsProgramOf};
 ghost use Rattle.pz_sheet.specs.Grid.{Grid, IsOfGame};
 ghost use Rattle.pz_session.specs.Turn.{is_idle};
 ghost use Rattle.pz_turn.specs.Step.{step_of};
-ghost use Rattle.pz_solve.specs.Moves.{Reached, effect, move_of, pressed, ticked, ticks};
+ghost use Rattle.pz_solve.specs.Moves.{Reached, effect, move_of, pressed, started, ticked, ticks};
 ghost use Rattle.pz_solve.specs.Leading.{end_of, reached_by, reached_in, IsMoveIn, IsNextIn};
 
 use bitflags::Flags;
@@ -151,5 +151,25 @@ pub(crate) fn play(
     match press(alloc, game, program, level, input)? {
         Next::Tick(next) => finish(alloc, game, program, next),
         Next::End(end) => Ok(end),
+    }
+}
+
+/// Plays what a session plays before its first input: in a game with `run_rules_on_level_start` the ticks of the level's start. Err: memory
+/// was refused.
+pub fn start(
+    alloc: Global,
+    game: &Game,
+    program: &Program,
+    level: Level,
+) -> Result<Move, AllocError>
+    requires level_of { IsOfGame game.now level.grid }
+    requires program_of { IsProgramOf game.now.layers program.now }
+    ensures reached { IfOk result (λ end. reached_by end ≡ started game.now program.now level.grid) }
+    ensures game { IfOk result (IsMoveIn game.now) }
+{
+    if game.options().run_rules_on_level_start {
+        finish(alloc, game, program, level)
+    } else {
+        Ok(Move::Stands(level))
     }
 }
