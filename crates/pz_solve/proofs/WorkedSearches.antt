@@ -1,13 +1,12 @@
 -- Worked cases of moves and of lists of presses.
-use Rattle.std.proofs.Common.{◌≡◌, zero, Bool, true, false, List, [], ◌∷◌, Option, Some, Err, refl}
-use Rattle.pz_game.specs.declared.direction.Dir.{Dir}
+use Rattle.std.proofs.Common.{◌≡◌, zero, true, false, [], ◌∷◌, Some, Err, refl}
 use Rattle.pz_game.specs.declared.direction.Dir.TheVariants.{Up, Right}
 use Rattle.pz_game.specs.declared.game.GameParts.{GameParts}
 use Rattle.pz_program.specs.declared.instance.Program.{Program}
 use Rattle.pz_program.specs.Commands.{again, cancel, either, restart, win}
 use Rattle.pz_sheet.specs.Grid.{Grid}
 use Rattle.pz_turn.specs.declared.outcome.StepFault.TheVariants.{LoopLimit}
-use Rattle.pz_solve.specs.Moves.{Reached, Stands, Wins, DeadEnd, pressed, ticked}
+use Rattle.pz_solve.specs.Moves.{Reached, Stands, Wins, DeadEnd, pressed}
 unfoldable use Rattle.pz_solve.specs.Moves.{effect, ticks, went_on}
 use Rattle.pz_solve.specs.Winning.{Moves}
 unfoldable use Rattle.pz_solve.specs.Winning.{stands_after, wins}

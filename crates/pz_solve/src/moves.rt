@@ -16,7 +16,7 @@ use pz_program::commands::Commands;
 use pz_program::instance::Program;
 use pz_session::chain::MOST_TICKS;
 use pz_turn::outcome::StepFault;
-use pz_turn::stepping::{StepEnd, step};
+use pz_turn::stepping::{StepEnd, step, step_in};
 use pz_turn::win::won;
 use std::alloc::{AllocError, Global};
 
@@ -114,12 +114,13 @@ fn finish(alloc: Global, game: &Game, program: &Program, level: Level) -> Result
     Ok(Move::DeadEnd)
 }
 
-/// Plays the step of a press.
+/// Plays the step of a press, in the memory of a spare level if there is one.
 fn press(
     alloc: Global,
     game: &Game,
     program: &Program,
     level: &Level,
+    spare: Option<Level>,
     input: Dir,
 ) -> Result<Next, AllocError>
     requires level_of { IsOfGame game.now level.now.grid }
@@ -127,20 +128,21 @@ fn press(
     ensures next { IfOk result (λ next. (tick : Grid → Reached) → reached_in tick next ≡ pressed tick game.now (step_of game.now program.now level.now.grid (Some input))) }
     ensures game { IfOk result (IsNextIn game.now) }
 {
-    match step(alloc, game, program, level, Some(input)) {
+    match step_in(alloc, game, program, level, spare, Some(input)) {
         Ok(end) => Ok(effect(game, end)),
         Err(StepFault::Memory) => Err(AllocError),
         Err(_) => Ok(Next::End(Move::DeadEnd)),
     }
 }
 
-/// Plays the move of a press. Err: memory was refused.
+/// Plays the move of a press, in the memory of a spare level if there is one. Err: memory was refused.
 #[tactic(auto, unfolding(crate::specs::Moves::move_of))]
 pub(crate) fn play(
     alloc: Global,
     game: &Game,
     program: &Program,
     level: &Level,
+    spare: Option<Level>,
     input: Dir,
 ) -> Result<Move, AllocError>
     requires level_of { IsOfGame game.now level.now.grid }
@@ -148,7 +150,7 @@ pub(crate) fn play(
     ensures reached { IfOk result (λ end. reached_by end ≡ move_of game.now program.now level.now.grid input) }
     ensures game { IfOk result (IsMoveIn game.now) }
 {
-    match press(alloc, game, program, level, input)? {
+    match press(alloc, game, program, level, spare, input)? {
         Next::Tick(next) => finish(alloc, game, program, next),
         Next::End(end) => Ok(end),
     }

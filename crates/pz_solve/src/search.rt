@@ -1,12 +1,12 @@
 //! The levels that a search has found.
 
-ghost use Rattle.std.specs.Prelude.{◌≡◌, ◌+◌, ◌<◌, ◌≤◌, [], ◌∷◌, ◌++◌, length, IfOk, OnErr, option_map, Some, slice_get};
-ghost use Rattle.pz_sheet.specs.Sameness.{same_grid};
+ghost use Rattle.std.specs.Prelude.{◌≡◌, ◌+◌, ◌<◌, ◌≤◌, [], ◌∷◌, ◌++◌, ◌↔◌, IsTrue, length, IfOk, OnErr, option_map, Some, slice_get};
 ghost use Rattle.pz_solve.specs.Found.{Found, start_of};
 ghost use Rattle.pz_solve.specs.Noted.{digest_if_new, digests_of, entry_of, found_in, link_of, IsKept, IsNotedAs};
 
 use crate::digest::digest;
 use crate::index::Index;
+use pz_bare::BareLevel;
 use pz_game::direction::Dir;
 use pz_grid::Level;
 use std::alloc::{AllocError, Global};
@@ -23,7 +23,7 @@ pub struct Link {
 /// A level that was found, and how.
 #[derive(Drop)]
 pub struct Node {
-    pub level: Level,
+    pub level: BareLevel,
     pub link: Link,
 }
 
@@ -38,11 +38,13 @@ pub enum Noted {
     NoRoom,
 }
 
-/// The levels that a search has found, each once, in the order of their depths. `index` has their digests, by that many objects.
+/// The levels that a search has found, each once, in the order of their depths. `index` has their digests, by that many objects. `spare` is
+/// memory for the next step.
 pub struct Search {
     nodes: Vec<Node>,
     index: Index,
     objects: usize,
+    spare: Option<Level>,
 }
 
 /// Written out, so that each place where one goes out of scope is one call.
@@ -52,8 +54,10 @@ impl Drop for Search {
             nodes,
             index: _index,
             objects: _,
+            spare,
         } = self;
         drop(nodes);
+        drop(spare);
     }
 }
 
@@ -72,9 +76,9 @@ impl Model for Search {
 /// Whether a level is the one of a node.
 fn is_at(nodes: &[Node], place: usize, level: &Level) -> bool
     requires { place < length nodes.now }
-    ensures { (here : Found) → slice_get (found_in nodes.now) place ≡ Some here → result ≡ same_grid level.now.grid here.grid }
+    ensures { (here : Found) → slice_get (found_in nodes.now) place ≡ Some here → IsTrue result ↔ (level.now.grid ≡ here.grid) }
 {
-    level.same(&nodes[place].level)
+    level.bare().equals(&nodes[place].level)
 }
 
 /// The digest of a level, unless it is among those of these nodes.
@@ -99,19 +103,20 @@ impl Search {
         ensures { IfOk result (λ search. search ≡ start_of level.now.grid ∷ []) }
     {
         let mut nodes = Vec::new(alloc);
-        let level = level.copied()?;
+        let level = level.bare().copy()?;
         let link = Link {
             depth: 0,
             parent: 0,
             input: Dir::Action,
         };
         let mut index = Index::new(alloc);
-        index.push(digest(level.bare(), objects))?;
+        index.push(digest(&level, objects))?;
         nodes.push(Node { level, link })?;
         Ok(Search {
             nodes,
             index,
             objects,
+            spare: None,
         })
     }
 
@@ -124,7 +129,7 @@ impl Search {
     }
 
     /// The level of this number.
-    pub(crate) fn level(&self, index: usize) -> &Level
+    pub(crate) fn level(&self, index: usize) -> &BareLevel
         requires { index < length self.now }
         ensures { option_map (λ found. found.grid) (slice_get self.now index) ≡ Some result.now.grid }
     {
@@ -158,24 +163,42 @@ impl Search {
         }
     }
 
-    /// Adds a level, unless it was found before, or so many levels were found already. Err: memory was refused.
+    /// Memory for a step, if there is some.
+    pub(crate) fn take_spare(&mut self) -> Option<Level>
+        ensures { self.new ≡ self.old }
+    {
+        self.spare.take()
+    }
+
+    /// Keeps a level as memory for the next step.
+    pub(crate) fn put_aside(&mut self, level: Level)
+        ensures { self.new ≡ self.old }
+    {
+        self.spare = Some(level);
+    }
+
+    /// Adds a level that another one led to, unless it was found before, or so many levels were found already. Err: memory was refused.
     pub(crate) fn note(
         &mut self,
-        level: Level,
+        level: &Level,
         link: Link,
         most: usize,
     ) -> Result<Noted, AllocError>
         requires low { link.depth ≤ length self.old }
         requires behind { link.parent < length self.old }
-        ensures noted { IfOk result (IsNotedAs self.old self.new most (entry_of level.grid link)) }
+        ensures noted { IfOk result (IsNotedAs self.old self.new most (entry_of level.now.grid link)) }
         ensures err { OnErr result (self.new ≡ self.old) }
     {
-        let Some(digest) = digest_if_new(&self.nodes, &self.index, self.objects, &level) else {
+        if is_at(&self.nodes, link.parent, level) {
+            return Ok(Noted::Known);
+        }
+        let Some(digest) = digest_if_new(&self.nodes, &self.index, self.objects, level) else {
             return Ok(Noted::Known);
         };
         if self.nodes.len() >= most {
             return Ok(Noted::NoRoom);
         }
+        let level = level.bare().copy()?;
         self.nodes.push(Node { level, link })?;
         if self.index.push(digest).is_err() {
             self.nodes.pop();

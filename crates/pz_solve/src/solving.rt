@@ -1,6 +1,6 @@
 //! The search, breadth first.
 
-ghost use Rattle.std.specs.Prelude.{◌≡◌, ◌+◌, ◌<◌, ◌≤◌, ℕ, length, max, IfOk, OnOk, Some, slice_get};
+ghost use Rattle.std.specs.Prelude.{◌≡◌, ◌+◌, ◌<◌, ◌≤◌, ℕ, length, max, IfOk, OnOk, Some, option_map, slice_get};
 ghost use Rattle.pz_game.specs.declared.direction.Dir.{Dir};
 ghost use Rattle.pz_program.specs.Instance.{IsProgramOf};
 ghost use Rattle.pz_sheet.specs.Grid.{Grid, IsOfGame};
@@ -67,23 +67,29 @@ fn try_press(
     program: &Program,
     search: &mut Search,
     index: usize,
+    level: &Level,
     input: Dir,
     bounds: Bounds,
 ) -> Result<Tried, AllocError>
     requires within { index < length search.old }
+    requires here { option_map (λ found. found.grid) (slice_get search.old index) ≡ Some level.now.grid }
     requires level_of { AreOfGame game.now search.old }
     requires program_of { IsProgramOf game.now.layers program.now }
     ensures level_of { OnOk result (AreOfGame game.now search.new) }
+    ensures here { OnOk result (option_map (λ found. found.grid) (slice_get search.new index) ≡ Some level.now.grid) }
     ensures longer { OnOk result (length search.old ≤ length search.new) }
     ensures room { OnOk result (length search.new ≤ max (length search.old) bounds.levels) }
     ensures tried { IfOk result (λ tried. (start : Grid) (here : Found) →
         IsSearch (move_of game.now program.now) start search.old index → slice_get search.old index ≡ Some here →
         HasTried (move_of game.now program.now) start search.old search.new index here bounds.levels input tried) }
 {
-    match play(alloc, game, program, search.level(index), input)? {
+    let spare = search.take_spare();
+    match play(alloc, game, program, level, spare, input)? {
         Move::Stands(level) => {
             let link = search.link_behind(index, input);
-            Ok(tried_by(search.note(level, link, bounds.levels)?))
+            let noted = search.note(&level, link, bounds.levels)?;
+            search.put_aside(level);
+            Ok(tried_by(noted))
         }
         Move::Wins => Ok(Tried::Wins(input)),
         Move::DeadEnd => Ok(Tried::Nothing),
@@ -109,6 +115,7 @@ fn expand(
         IsSearch (move_of game.now program.now) start search.old index → slice_get search.old index ≡ Some here →
         HasExpanded (move_of game.now program.now) start search.old search.new index here bounds.levels tried) }
 {
+    let level = Level::marked(alloc, search.level(index).copy()?)?;
     for number in 0..PRESSES {
         match try_press(
             alloc,
@@ -116,6 +123,7 @@ fn expand(
             program,
             search,
             index,
+            &level,
             input_of(number),
             bounds,
         )? {

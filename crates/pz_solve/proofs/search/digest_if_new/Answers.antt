@@ -1,10 +1,8 @@
 use Rattle.std.proofs.Common.{◌≡◌, ℕ, ◌<◌, ◌≤◌, Bool, true, false, Some, None, Option, length, ap, sym, ◌∙◌, subst, arith, List}
-use Rattle.std.specs.Prelude.{slice_get, if◌then◌else◌}
+use Rattle.std.specs.Prelude.{IsTrue, slice_get, if◌then◌else◌}
 use Rattle.std.proofs.lemmas.List.{length-map}
 use Rattle.std.proofs.lemmas.Option.{slice_get_within}
 use Rattle.pz_sheet.specs.Grid.{Grid}
-use Rattle.pz_sheet.specs.Sameness.{same_grid}
-use Rattle.pz_grid.proofs.SameLemmas.{same_grid_is, same_grid_self}
 use Rattle.pz_solve.specs.Digest.{digest_of}
 use Rattle.pz_solve.specs.Found.{Found}
 use Rattle.pz_solve.specs.Noted.{digests_of, entry_in, found_in, is_found}
@@ -29,6 +27,12 @@ places-init c =
           place f (within c.args.objects found index place f c.requires is) is same;
     }
 
+is_true : {b : Bool} → b ≡ true → IsTrue b
+is_true is = grind (arith, is)
+
+is_not : {b : Bool} → b ≡ false → IsTrue b → ⊥
+is_not is holds = grind (arith, is, holds)
+
 pub is_at-requires : goal.is_at-requires
 is_at-requires c = (c.places.invariant.placed c.in-Some.place c.in-Some.is).0
 
@@ -39,18 +43,16 @@ returns-then-is_at c =
     let place = c.in-Some.place in
     let low : place < length found = omega (arith, (c.places.invariant.placed place c.in-Some.is).0, length-map c.args.nodes.now entry_in) in
     let f = there found place low in
-    let same : f.0.grid ≡ grid = sym (same_grid_is grid f.0.grid (sym (c.is_at.ensures f.0 f.1) ∙ c.if-is_at.true)) in
+    let same : f.0.grid ≡ grid = sym ((c.is_at.ensures f.0 f.1).0 (is_true c.if-is_at.true)) in
     ap (λ (b : Bool). if b then None else Some (digest_of c.args.objects grid)) (sym (is_there found place f.0 grid f.1 same))
 
 -- a level is behind no other place, if it isn't the one there
-others : (found : List Found) (grid : Grid) (at : Option ℕ) (place : ℕ) → at ≡ Some place → ((f : Found) → slice_get found place ≡ Some f → same_grid grid f.grid ≡ false) →
+others : (found : List Found) (grid : Grid) (at : Option ℕ) (place : ℕ) → at ≡ Some place → ((f : Found) → slice_get found place ≡ Some f → grid ≡ f.grid → ⊥) →
     (i : ℕ) (f : Found) → slice_get found i ≡ Some f → f.grid ≡ grid → IsUpTo at i → i < place
 others found grid at place at_place differs i f is same up =
     let low : i ≤ place = subst (λ (o : Option ℕ). IsUpTo o i) at_place up in
     let other : (i ≡ place → ⊥) = λ here.
-    let no = differs f (subst (λ (n : ℕ). slice_get found n ≡ Some f) here is) in
-    let yes : same_grid grid f.grid ≡ true = subst (λ (g : Grid). same_grid g f.grid ≡ true) same (same_grid_self f.grid) in
-    cc in
+    differs f (subst (λ (n : ℕ). slice_get found n ≡ Some f) here is) (sym same) in
     grind (arith, low, other)
 
 pub places-preserved : goal.places-preserved
@@ -63,7 +65,7 @@ places-preserved c =
     record {
       placed = place_of (length c.args.nodes.now) index place c.digest-digest.result c.older-at.result (as_many c.args.objects c.args.nodes.now index c.requires) c.older-at.ensures;
       left = λ i f is same.
-          let low = others found grid c.places.at place c.in-Some.is (λ h there. sym (c.is_at.ensures h there) ∙ c.if-is_at.false) i f is same (c.places.invariant.left i f is same) in
+          let low = others found grid c.places.at place c.in-Some.is (λ h there same. is_not c.if-is_at.false ((c.is_at.ensures h there).1 same)) i f is same (c.places.invariant.left i f is same) in
           up_to c.args.objects found index c.digest-digest.result place grid c.older-at.result c.requires digest c.older-at.ensures i f low is same;
     }
 

@@ -1,5 +1,5 @@
 use Rattle.std.proofs.Common.{◌≡◌, ℕ, ◌<◌, ◌≤◌, Bool, true, false, List, [], ◌∷◌, ◌++◌, length, Some, None, Result, Ok, Err, subst, sym, ap, ◌∙◌, arith, refl}
-use Rattle.std.specs.Prelude.{OnOk, is_err, if◌then◌else◌}
+use Rattle.std.specs.Prelude.{IsTrue, slice_get, OnOk, is_err, if◌then◌else◌}
 use Rattle.std.proofs.lemmas.List.{map-append}
 use Rattle.pz_sheet.specs.Grid.{Grid}
 use Rattle.pz_solve.specs.declared.search.Node.{Node}
@@ -7,6 +7,8 @@ use Rattle.pz_solve.specs.Digest.{digest_of}
 use Rattle.pz_solve.specs.Found.{Found}
 use Rattle.pz_solve.specs.Noted.{IsStored, digest_if_new, digests_of, entry_of, entry_in, found_in, is_found}
 use Rattle.pz_solve.proofs.Keeping.{kept_more}
+use Rattle.pz_solve.proofs.Knowing.{is_there}
+use Rattle.pz_solve.proofs.Listing.{there}
 use Rattle.pz_solve.proofs.search.Search.note.Goals as goal
 
 -- what holds on `Ok` of what is no error
@@ -24,13 +26,30 @@ fresh objects found grid digest is = by (is_found found grid) refl is where
   by true known is = absurd cc
   by false new is = (new, grind (arith, is))
 
+is_true : {b : Bool} → b ≡ true → IsTrue b
+is_true is = grind (arith, is)
+
+pub returns-then-is_at-clause-noted : goal.returns-then-is_at-clause-noted
+returns-then-is_at-clause-noted c =
+    let nodes = c.self.inside.nodes.items in
+    let found = found_in nodes in
+    let grid = c.args.level.now.grid in
+    let place = c.args.link.parent in
+    let low : place < length found = subst (λ (all : List Found). place < length all) (sym c.self.view_is) c.requires.behind in
+    let f = there found place low in
+    let told = c.is_at.ensures f.0 (ap (λ (all : List Node). slice_get (found_in all) place) c.deref.ensures.value ∙ f.1) in
+    let same : grid ≡ f.0.grid = told.0 (is_true c.if-is_at.true) in
+    (subst (λ (all : List Found). is_found all grid ≡ true) c.self.view_is (is_there found place f.0 grid f.1 (sym same)), refl)
+
 pub invariant_of-self-else-is_err : goal.invariant_of-self-else-is_err
 invariant_of-self-else-is_err c =
     let nodes = c.self.inside.nodes.items in
     let objects = c.self.inside.objects in
-    let more = entry_of c.args.level.grid c.args.link in
-    let found : found_in c.push.new.self.items ≡ found_in nodes ++ more ∷ [] = ap found_in c.in_ok-push.ensures.items ∙ map-append entry_in nodes _ in
-    let told : Some c.in-Some.digest ≡ digest_if_new objects (found_in nodes) more.grid = sym c.in-Some.is ∙ c.digest_if_new.ensures ∙ ap (λ (all : List Node). digest_if_new objects (found_in all) more.grid) c.deref.ensures.value in
+    let grid = c.args.level.now.grid in
+    let more = entry_of grid c.args.link in
+    let copied : c.in_ok-level.level.grid ≡ grid = c.in_ok-level.ensures.copied ∙ c.bare.ensures in
+    let found : found_in c.push.new.self.items ≡ found_in nodes ++ more ∷ [] = ap found_in c.in_ok-push.ensures.items ∙ map-append entry_in nodes _ ∙ ap (λ (g : Grid). found_in nodes ++ entry_of g c.args.link ∷ []) copied in
+    let told : Some c.in-Some.digest ≡ digest_if_new objects (found_in nodes) more.grid = sym c.in-Some.is ∙ c.digest_if_new.ensures ∙ ap (λ (all : List Node). digest_if_new objects (found_in all) more.grid) c.deref-2.ensures.value in
     let new = fresh objects (found_in nodes) more.grid c.in-Some.digest told in
     let digests = so c.push-2.result _ (sym c.is_err.ensures.value ∙ c.if-is_err.false) c.push-2.ensures.ok in
     subst (λ (all : List Found). IsStored objects c.push-2.new.self all) (sym found) (record {
