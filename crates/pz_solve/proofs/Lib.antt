@@ -1,0 +1,12 @@
+pub mod Listing
+pub mod Searching
+pub mod Ticking
+pub mod Keeping
+pub mod Reaching
+pub mod TryingLemmas
+pub mod Expanding
+pub mod Answering
+pub mod Digesting
+pub mod Indexing
+pub mod Knowing
+pub mod WorkedSearches

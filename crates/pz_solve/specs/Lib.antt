@@ -1,0 +1,12 @@
+pub mod Moves
+pub mod Leading
+pub mod Winning
+pub mod Digest
+pub mod Found
+pub mod Noted
+pub mod Trying
+pub mod Indexed
+pub mod Answers
+pub use Rattle.pz_program.specs.Instance
+pub use Rattle.pz_sheet.specs.Grid
+pub use Rattle.pz_turn.specs.Step

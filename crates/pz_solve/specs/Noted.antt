@@ -1,0 +1,63 @@
+-- What a search keeps.
+use Rattle.std.specs.Prelude.{◌≡◌, ℕ, ◌≤◌, ◌<◌, Bool, true, false, List, [], ◌∷◌, ◌++◌, length, map, Option, Some, None, if◌then◌else◌, slice_get}
+use Rattle.std.specs.List.{IsDistinct, list_any}
+use Rattle.pz_sheet.specs.Grid.{Grid}
+use Rattle.pz_sheet.specs.Sameness.{same_grid}
+use Rattle.pz_solve.specs.declared.search.Link.{Link}
+use Rattle.pz_solve.specs.declared.search.Node.{Node}
+use Rattle.pz_solve.specs.declared.search.Noted.{Noted}
+use Rattle.pz_solve.specs.declared.search.Noted.TheVariants.{Known, Added, NoRoom}
+use Rattle.pz_solve.specs.Digest.{digest_of}
+use Rattle.pz_solve.specs.Found.{Found}
+
+abbrev pub entry_of : Grid → Link → Found
+entry_of grid link = record { grid = grid; depth = link.depth; parent = link.parent; input = link.input }
+
+abbrev pub link_of : Found → Link
+link_of found = record { depth = found.depth; parent = found.parent; input = found.input }
+
+abbrev pub entry_in : Node → Found
+entry_in node = entry_of node.level.grid node.link
+
+-- the levels that these nodes have
+abbrev pub found_in : List Node → List Found
+found_in nodes = map entry_in nodes
+
+abbrev pub grids_of : List Found → List Grid
+grids_of found = map (λ here. here.grid) found
+
+-- no level is found twice
+abbrev pub AreDistinct : List Found → Type 0
+AreDistinct found = IsDistinct same_grid (grids_of found)
+
+-- a level has its number after the one that it was found from, and a depth of at most its number
+pub record IsPlaced (index : ℕ) (here : Found) : Type 0 where
+  pub low : here.depth ≤ index
+  pub behind : 0 < index → here.parent < index
+
+-- what holds of the levels that are kept: each once, and each in its place
+pub record IsKept (found : List Found) : Type 0 where
+  pub distinct : AreDistinct found
+  pub placed : (index : ℕ) (here : Found) → slice_get found index ≡ Some here → IsPlaced index here
+
+-- the digests of levels, by so many objects
+abbrev pub digests_of : ℕ → List Found → List ℕ
+digests_of objects found = map (λ here. digest_of objects here.grid) found
+
+-- what holds of what is stored: the levels are kept, and their digests indexed
+pub record IsStored (objects : ℕ) (digests : List ℕ) (found : List Found) : Type 0 where
+  pub kept : IsKept found
+  pub indexed : digests ≡ digests_of objects found
+
+abbrev pub is_found : List Found → Grid → Bool
+is_found found grid = list_any (same_grid grid) (grids_of found)
+
+-- the digest of a level that was not found
+abbrev pub digest_if_new : ℕ → List Found → Grid → Option ℕ
+digest_if_new objects found grid = if is_found found grid then None else Some (digest_of objects grid)
+
+-- a level was known, and nothing changed; or it wasn't, and was added, or there was no room for it
+abbrev pub IsNotedAs : List Found → List Found → ℕ → Found → Noted → Type 0
+IsNotedAs old new most entry Known = (is_found old entry.grid ≡ true) × (new ≡ old)
+IsNotedAs old new most entry Added = (is_found old entry.grid ≡ false) × (new ≡ old ++ entry ∷ []) × (length old < most)
+IsNotedAs old new most entry NoRoom = (is_found old entry.grid ≡ false) × (new ≡ old) × (most ≤ length old)

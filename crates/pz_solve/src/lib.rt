@@ -1,0 +1,14 @@
+//! Solves levels: a shortest list of presses that wins, or that no list does.
+#![tactic(auto)]
+
+mod answer;
+mod digest;
+mod index;
+pub mod moves;
+mod path;
+mod search;
+mod solving;
+
+pub use answer::{Answer, Bounds, SolveFault};
+pub use moves::{Move, start};
+pub use solving::solve;

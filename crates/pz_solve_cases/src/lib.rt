@@ -1,0 +1,5 @@
+//! Tests of solving, from outside.
+#![tactic(auto)]
+
+#[cfg(test)]
+mod solving;
