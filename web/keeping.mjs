@@ -137,8 +137,9 @@ export class Store {
     return this.unkept === null || noteDown(this.name, this.unkept, (part) => this.isThere(part));
   }
 
+  // A browser may end this in the midst: until all is noted, it counts as not noted.
   leave() {
-    noteLeaving(true);
-    if (!this.note()) noteLeaving(false);
+    noteLeaving(this.unkept === null);
+    if (this.note()) noteLeaving(true);
   }
 }

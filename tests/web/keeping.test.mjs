@@ -121,6 +121,17 @@ test("a page that is left is noted once it is hidden too, where the browser ende
   assert.deepEqual(textsOf((await Visit.of()).state), [LONG[1], LONG[0]]);
 });
 
+test("where the browser ends what a page does as it is left, the next visit says that not all is there", async () => {
+  const browser = new OneTab(), visit = await worked(browser, LONG[0]), { sessionStorage } = globalThis;
+  visit.act(withGame, LONG[1]);
+  // nothing that the page does behind the first note of its leaving is done
+  const ended = () => { throw new Error("ended"); }, storages = { sessionStorage, localStorage: globalThis.localStorage };
+  globalThis.sessionStorage = { setItem: (...words) => { sessionStorage.setItem(...words); Object.assign(globalThis, { sessionStorage: { setItem: ended }, localStorage: { setItem: ended } }); } };
+  browser.leave();
+  Object.assign(globalThis, storages);
+  assert.match((await Visit.of()).told, /^This browser had no room for all that was changed/);
+});
+
 test("values are in the order in which they were kept, whatever the clock says", async () => {
   const now = Date.now;
   for (const later of [1000, 500]) {
