@@ -10,3 +10,4 @@ pub mod Digesting
 pub mod Indexing
 pub mod Knowing
 pub mod WorkedSearches
+pub mod Sessions

@@ -10,3 +10,4 @@ pub mod Answers
 pub use Rattle.pz_program.specs.Instance
 pub use Rattle.pz_sheet.specs.Grid
 pub use Rattle.pz_turn.specs.Step
+pub mod Laws

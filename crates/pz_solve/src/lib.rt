@@ -4,6 +4,7 @@
 mod answer;
 mod digest;
 mod index;
+pub mod laws;
 pub mod moves;
 mod path;
 mod search;
