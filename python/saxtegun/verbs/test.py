@@ -44,7 +44,7 @@ from saxtegun.playing import engine_of, runs_of
 from saxtegun.sessions import Entry, Sessions, fits, read_sessions, unfitting
 from saxtegun.solving import SOLVED, no_longer, solved_of, unsolved_told
 from saxtegun.telling import Failure, annotation, markdown, once
-from saxtegun.texts import GameText, of_another_text, over, read_game, remark
+from saxtegun.texts import GameText, of_another_text, over, read_game, remark, split_files
 from saxtegun.ticks import forget, ticks_told
 from saxtegun.watching import times_of, wait_for_save
 
@@ -86,14 +86,6 @@ class Picked(NamedTuple):
 
     sessions: Sessions
     entries: List[Entry]
-
-
-def split_files(files: List[str]) -> Tuple[str, List[str]]:
-    """The game's text, or the empty text, and the sessions files."""
-    game = files[0] if not files[0].endswith(".json") and files[0] != "-" else ""
-    if game and len(files) == 1:
-        raise Refused(f"{game} is taken for a game's text, since it doesn't end with .json, and no sessions file is named")
-    return game, files[1:] if game else files
 
 
 def picked(sessions: Sessions, patterns: Optional[List[str]]) -> List[Entry]:

@@ -36,8 +36,7 @@ from saxtegun.lines import Run
 from saxtegun.playing import Engine, engine_of, runs_of
 from saxtegun.sessions import Entry, Sessions, fits, read_sessions
 from saxtegun.stages import STOPS, Stop, lines_and_stages, stages_and_firings_of, stages_of
-from saxtegun.texts import over, read_game, read_named, say_others
-from saxtegun.verbs.test import split_files
+from saxtegun.texts import over, read_game, read_named, say_others, split_files
 
 USAGE = "why [GAME.txt] SESSIONS.json --session NAME [--input K] [--firings] [--old OTHER.txt] [options]"
 START = "start"
