@@ -1,12 +1,17 @@
 """What crates.txt says, for the tools that prove crates side by side."""
+from __future__ import annotations
+
 import os
 import re
 from pathlib import Path
+from typing import Dict, List, Tuple
+
+Uses = Dict[str, List[str]]
 
 
-def read_uses(top):
+def read_uses(top: Path) -> Uses:
     """The crates of crates.txt, each with all that it names: crates, and libraries of the kit."""
-    named = {}
+    named: Uses = {}
     for line in (top / "crates.txt").read_text(encoding="utf-8").splitlines():
         name, mark, uses = line.partition("#")[0].partition(":")
         if mark:
@@ -14,9 +19,10 @@ def read_uses(top):
     return named
 
 
-def read_towers(top):
+def read_towers(top: Path) -> List[Tuple[str, List[Tuple[str, str]]]]:
     """The towers of crates.txt, lowest first: a comment before an empty line names one. Each has its crates with the comment above them, or ""."""
-    towers, comment = [], ""
+    towers: List[Tuple[str, List[Tuple[str, str]]]] = []
+    comment = ""
     for line in (top / "crates.txt").read_text(encoding="utf-8").splitlines():
         if line.startswith("#"):
             comment = line.lstrip("# ")
@@ -29,21 +35,21 @@ def read_towers(top):
     return [(name, crates) for name, crates in towers if crates]
 
 
-def read_crates(top):
+def read_crates(top: Path) -> Uses:
     """The crates of crates.txt, each with those of them that it names."""
     named = read_uses(top)
     return {name: [use for use in uses if use in named] for name, uses in named.items()}
 
 
-def all_below(crates, name):
+def all_below(crates: Uses, name: str) -> List[str]:
     """The crates that a crate stands on, lowest first."""
-    found = []
+    found: List[str] = []
     for use in crates[name]:
         found += [it for it in [*all_below(crates, use), use] if it not in found]
     return found
 
 
-def lanes_for_checks(memory_of_a_check):
+def lanes_for_checks(memory_of_a_check: int) -> int:
     """How many checks that take at most so many bytes run side by side."""
     available = re.search(r"MemAvailable:\s+(\d+) kB", Path("/proc/meminfo").read_text(encoding="utf-8"))
     memory = int(available[1]) * 1024 if available else memory_of_a_check

@@ -3,14 +3,17 @@
 Each crate is proved from nothing by the kit's compiler, `rattle build`, which builds what is proved and nothing else. It is called as `rt ci` calls it: first
 those on which most of the rest waits, and idle processors are shared among those that begin. Neither tests nor wrong bodies are tried, nor what else the
 gate alone wants. Where a kit has kept what its `rt ci` proved on this machine, `rt ci` proves them, since it finds that again."""
+from __future__ import annotations
+
 import re
 import shutil
 import subprocess
 import sys
-from concurrent.futures import FIRST_COMPLETED, ThreadPoolExecutor, wait
+from concurrent.futures import FIRST_COMPLETED, Future, ThreadPoolExecutor, wait
 from pathlib import Path
+from typing import Callable, Dict, List, Optional, Sequence, Set, Tuple, Union
 
-from crates import lanes_for_checks, read_uses
+from crates import Uses, lanes_for_checks, read_uses
 
 TOP = Path(__file__).resolve().parent.parent
 PROGRAM, LIBRARY = "src/main.rt", "src/lib.rt"
@@ -24,7 +27,7 @@ PROVED = re.compile(r"rt: (\w+) (?:proved$|is kept)")
 NOT_PROVED = re.compile(r"^rt: (\w+) NOT PROVED$", re.M)
 
 
-def say_what_is_proved(crates, left):
+def say_what_is_proved(crates: Uses, left: Set[str]) -> None:
     """Says which crates may be proved now, since all below them are, and how many are left."""
     ready = [it for it in left if not left & set(crates[it])]
     print(f"proving {', '.join(sorted(ready))}; {len(left)} left", file=sys.stderr, flush=True)
@@ -33,18 +36,18 @@ def say_what_is_proved(crates, left):
 class Kit:
     """The kit whose `rt` is on the path."""
 
-    def __init__(self):
+    def __init__(self) -> None:
         rt = shutil.which("rt")
         if rt is None:
             sys.exit(f"{sys.argv[0]}: there is no rt on the path")
         self.home = Path(rt).resolve().parent.parent
 
-    def has_kept(self):
+    def has_kept(self) -> bool:
         """Whether its `rt ci` has kept what it proved, as that of some kits does; what `rt check` keeps beside that is of no use here."""
         kept = self.home.with_name(f"{self.home.name}-kept")
         return kept.is_dir() and any(it.name != "work" for it in kept.iterdir())
 
-    def words_for(self, name, uses, built):
+    def words_for(self, name: str, uses: Sequence[str], built: Path) -> List[str]:
         """What its compiler is told of a crate: its root, what it uses, and where that and the logic lie."""
         words = ["--crate-name", name, root_of(name)]
         for it in ["std", *uses]:
@@ -53,41 +56,43 @@ class Kit:
         words += ["-L", f"dependency={self.home}/rlibs", "-L", f"dependency={built}"]
         return [*words, "--antt-project", f"{self.home}/rattle/logic/antt-project.json", "--logic-built", f"{self.home}/logic_built"]
 
-    def does(self, log, *words):
+    def does(self, log: Path, *words: Union[str, Path]) -> bool:
         """Whether a command of its own goes well, in the folder of the crate whose log this is."""
         with log.open("a", encoding="utf-8") as written:
             ran = subprocess.run([self.home / "bin" / words[0], *words[1:]], cwd=log.parent.parent, stdin=subprocess.DEVNULL, stdout=written, stderr=subprocess.STDOUT, check=False)
         return ran.returncode == 0
 
-    def link(self, log, compiled, program):
+    def link(self, log: Path, compiled: str, program: str) -> bool:
         """Whether what was compiled is linked to a program."""
-        words = ["--target", "x86_64-unknown-linux-gnu", "--toolchain", self.home / "toolchain", "-o", program, compiled]
+        words: List[Union[str, Path]] = ["--target", "x86_64-unknown-linux-gnu", "--toolchain", self.home / "toolchain", "-o", program, compiled]
         return self.does(log, "rattle-link", *words, self.home / "c/libos_c.a", self.home / "c/liblibc_c.a")
 
 
-def root_of(name):
+def root_of(name: str) -> str:
     """The root file of a crate: a program's, or a library's."""
     return PROGRAM if (TOP / "crates" / name / PROGRAM).is_file() else LIBRARY
 
 
-def seconds_of_proofs():
+def seconds_of_proofs() -> Dict[str, int]:
     """How many seconds the proof of each crate takes, as dev/proof-seconds.txt says: only which crate comes first depends on it."""
     file = TOP / "dev/proof-seconds.txt"
     return {name: int(seconds) for name, seconds in SECONDS.findall(file.read_text(encoding="utf-8"))} if file.is_file() else {}
 
 
-def weights(crates, names):
+def weights(crates: Uses, names: Sequence[str]) -> Dict[str, int]:
     """The seconds of each of these crates, lowest first, with those of the longest chain of them that stands on it."""
-    seconds, found = seconds_of_proofs(), {}
+    seconds = seconds_of_proofs()
+    found: Dict[str, int] = {}
     for name in reversed(names):
         found[name] = seconds.get(name, MIDDLING) + max((found[it] for it in names if name in crates[it]), default=0)
     return found
 
 
-def in_lanes(crates, names, prove):
+def in_lanes(crates: Uses, names: Sequence[str], prove: Callable[[str, int], bool]) -> Optional[str]:
     """Proves these crates, each once those below it are proved: `prove` gets a name and by how many processes, and says whether it is. The first that is
     not, or None."""
-    lanes, heavy, left, running = lanes_for_checks(MEMORY_OF_A_CHECK), weights(crates, names), set(names), {}
+    lanes, heavy, left = lanes_for_checks(MEMORY_OF_A_CHECK), weights(crates, names), set(names)
+    running: Dict[Future[bool], Tuple[str, int]] = {}
     with ThreadPoolExecutor(len(names)) as pool:
         while left:
             say_what_is_proved(crates, left)
@@ -106,19 +111,19 @@ def in_lanes(crates, names, prove):
     return None
 
 
-def library_of(name):
+def library_of(name: str) -> Path:
     """Where `rt ci` leaves the library of a crate that it proves in this checkout."""
     return TOP / "crates" / name / "out" / "rlib" / f"{name}.rlib"
 
 
-def is_proved_here(name):
+def is_proved_here(name: str) -> bool:
     """Whether `rt ci` has left the library of a crate, and no source of the crate is newer."""
     library = library_of(name)
     sources = [it for folder in SOURCES for it in (TOP / "crates" / name / folder).rglob("*") if it.is_file()]
     return library.is_dir() and all(it.stat().st_mtime <= library.stat().st_mtime for it in sources)
 
 
-def take_proved(names, room):
+def take_proved(names: Sequence[str], room: Path) -> bool:
     """Puts links to the libraries that `rt ci` has proved in this checkout into an empty folder, as NAME.rlib. Answers whether it did: it does so for
     all of these crates, or for none."""
     if not all(is_proved_here(it) for it in names):
@@ -128,7 +133,7 @@ def take_proved(names, room):
     return True
 
 
-def new_log(name):
+def new_log(name: str) -> Path:
     """Where it is written what was said of a crate; nothing yet."""
     log = TOP / "crates" / name / "out" / "build.log"
     log.parent.mkdir(exist_ok=True)
@@ -136,11 +141,11 @@ def new_log(name):
     return log
 
 
-def prove_in_lanes(kit, crates, names, room):
+def prove_in_lanes(kit: Kit, crates: Uses, names: Sequence[str], room: Path) -> Optional[str]:
     """Proves these crates by the compiler of the kit."""
     uses, logs = read_uses(TOP), {it: new_log(it) for it in names}
 
-    def prove_one(name, jobs):
+    def prove_one(name: str, jobs: int) -> bool:
         words = [*kit.words_for(name, uses[name], room), "--jobs", str(jobs)]
         if root_of(name) == LIBRARY:
             return kit.does(logs[name], "rattle", "build", *words, "--links", f"{name}=", "--statements", "-o", f"{room}/{name}.rlib")
@@ -150,7 +155,7 @@ def prove_in_lanes(kit, crates, names, room):
     return in_lanes(crates, names, prove_one)
 
 
-def furnish(room, names):
+def furnish(room: Path, names: Sequence[str]) -> None:
     """Puts these crates into a room, without their wrong bodies and what earlier checks left."""
     wanted = {f"{it}:" for it in names}
     lines = (TOP / "crates.txt").read_text(encoding="utf-8").splitlines(keepends=True)
@@ -160,7 +165,7 @@ def furnish(room, names):
         shutil.copytree(TOP / "crates" / it, room / "crates" / it, ignore=shutil.ignore_patterns("must-fail", "out"))
 
 
-def log_of_failed(log, last):
+def log_of_failed(log: Path, last: str) -> str:
     """Gives what `rt ci` said to the log of the first crate that it says isn't proved, and names that: the last, where it names none."""
     said = log.read_text(encoding="utf-8")
     failed = NOT_PROVED.search(said)
@@ -169,12 +174,12 @@ def log_of_failed(log, last):
     return name
 
 
-def made_of(name, room):
+def made_of(name: str, room: Path) -> Path:
     """What `rt ci` made of a crate in a room."""
     return room / "crates" / name / "out" / (f"rlib/{name}.rlib" if root_of(name) == LIBRARY else name)
 
 
-def prove_by_ci(crates, names, room):
+def prove_by_ci(crates: Uses, names: Sequence[str], room: Path) -> Optional[str]:
     """Proves these crates by `rt ci` in the room. What it says stands in the log of the last, or of the first crate that isn't proved."""
     left, last = set(names), names[-1]
     log = new_log(last)
@@ -182,7 +187,7 @@ def prove_by_ci(crates, names, room):
     say_what_is_proved(crates, left)
     with log.open("w", encoding="utf-8") as written:
         with subprocess.Popen(["rt", "ci"], cwd=room, stdin=subprocess.DEVNULL, stdout=subprocess.PIPE, stderr=subprocess.STDOUT, text=True, errors="replace") as ran:
-            for line in ran.stdout:
+            for line in ran.stdout or ():
                 written.write(line)
                 proved = PROVED.match(line)
                 if proved and proved[1] in left:
@@ -197,7 +202,7 @@ def prove_by_ci(crates, names, room):
     return None
 
 
-def prove(kit, crates, names, room):
+def prove(kit: Kit, crates: Uses, names: Sequence[str], room: Path) -> Optional[str]:
     """Proves these crates of crates.txt, lowest first, in an empty folder, which then has NAME.rlib for each library and NAME for each program. Answers which
     is not proved, having said where its log is, or None."""
     failed = prove_by_ci(crates, names, room) if kit.has_kept() else prove_in_lanes(kit, crates, names, room)

@@ -14,7 +14,7 @@ import tempfile
 import textwrap
 from functools import lru_cache
 from pathlib import Path
-from typing import Dict, List, NamedTuple, Optional, Sequence
+from typing import IO, Dict, List, NamedTuple, Optional, Sequence, cast
 
 from freshness import SOURCES, digests, written
 from symbols import c_library_of
@@ -96,7 +96,7 @@ def gate_of(top: Path) -> Optional[Gate]:
     path = top / PASSED
     lines = path.read_text(encoding="utf-8").splitlines() if path.is_file() else []
     commit = lines[0].partition("commit ")[2] if lines else ""
-    sums = dict(reversed(it.split("  ", 1)) for it in lines[1:] if re.match("[0-9a-f]{64}  ", it))
+    sums = {it.partition("  ")[2]: it.partition("  ")[0] for it in lines[1:] if re.match("[0-9a-f]{64}  ", it)}
     is_there = all((top / it).is_file() and sums.get(it) == sum_of((top / it).read_bytes()) for it in (PROGRAM, MODULE))
     if not is_there or commit != told(top, "git", "rev-parse", "HEAD"):
         return None
@@ -219,7 +219,7 @@ def engine_files(top: Path, files: Dict[str, File], version: str) -> Dict[str, F
 def archive(files: Dict[str, File], folder: str, time: int) -> bytes:
     """The files as a compressed archive below a folder: sorted, of nobody, all of one time."""
     written = io.BytesIO()
-    with gzip.GzipFile("", "wb", 9, written, mtime=time) as packed, tarfile.open(fileobj=packed, mode="w|", format=tarfile.GNU_FORMAT) as tar:
+    with gzip.GzipFile("", "wb", 9, written, mtime=time) as packed, tarfile.open(fileobj=cast(IO[bytes], packed), mode="w|", format=tarfile.GNU_FORMAT) as tar:
         for path in sorted(files):
             info = tarfile.TarInfo(f"{folder}/{path}")
             info.size, info.mtime = len(files[path].content), time
@@ -278,9 +278,9 @@ def package(files: Dict[str, File], time: int) -> bytes:
         root = Path(folder) / "root"
         for path, file in files.items():
             put(root / path, file.content, file.runs)
-        for path in [root, *root.rglob("*")]:
-            if path.is_dir():
-                path.chmod(0o755)
+        for place in [root, *root.rglob("*")]:
+            if place.is_dir():
+                place.chmod(0o755)
         made = Path(folder) / "made.deb"
         ran = subprocess.run(["dpkg-deb", "--root-owner-group", "-Zgzip", "--build", str(root), str(made)],
                              capture_output=True, text=True, env={"PATH": "/usr/bin:/bin", "SOURCE_DATE_EPOCH": str(time)})

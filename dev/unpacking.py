@@ -5,7 +5,7 @@ from __future__ import annotations
 
 import re
 import zlib
-from typing import Dict, NamedTuple, Tuple
+from typing import Dict, NamedTuple, Tuple, Union
 
 from releasing import Broken, File
 from saxtegun.files import MIB
@@ -67,7 +67,7 @@ def inflated(content: bytes) -> Tuple[bytearray, bool]:
     packer, raw, view = zlib.decompressobj(16 + zlib.MAX_WBITS), bytearray(), memoryview(content)
     try:
         for at in range(0, len(content), PACKED_PIECE):
-            held = view[at : at + PACKED_PIECE]
+            held: Union[bytes, memoryview] = view[at : at + PACKED_PIECE]
             while held and not packer.eof:
                 raw += packer.decompress(held, PIECE)
                 held = packer.unconsumed_tail

@@ -17,7 +17,7 @@ import unittest
 from pathlib import Path
 
 from tool import PROGRAM, TOP, plays
-from saxtegun.calling import main as call_verb
+from saxtegun.command_line import main as call_verb
 from saxtegun.commands import serve
 from saxtegun.sessions import fits
 

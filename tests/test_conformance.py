@@ -8,7 +8,7 @@ from pathlib import Path
 from time import monotonic, sleep
 from xml.etree import ElementTree
 
-from test_guarding import is_command
+from test_logs import is_command
 from tool import CASES, TOP, InARoom
 
 RUN = TOP / "conformance/run"

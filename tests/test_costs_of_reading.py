@@ -14,23 +14,23 @@ from time import monotonic, sleep
 
 from day import OnSessions
 from tool import TOP  # which puts the package on the path
-from saxtegun import budget, differences, hanging
-from saxtegun.acting import Text, block_told, drawn
-from saxtegun.belonging import Tests, start_fault
+from saxtegun import budget, differences, hangs
 from saxtegun.culprits import fault_told, repeated_in
-from saxtegun.explaining import told
-from saxtegun.finding import find
+from saxtegun.explanations import told
 from saxtegun.games import MOST_NAMES, Game
-from saxtegun.hanging import Finder, source_from, things_of
-from saxtegun.leading import Parted, Side, Telling
+from saxtegun.hangs import Finder, source_from, things_of
 from saxtegun.levelsets import drawn_columns, drawn_start, level_of_recorded
 from saxtegun.lines import Frame, Run
+from saxtegun.mismatches import Tests, start_fault
 from saxtegun.pages import source_lines
 from saxtegun.playing import Engine
+from saxtegun.recording_search import find
+from saxtegun.reductions import blocks_of_levels, of_columns
+from saxtegun.reductions import things_of as objects_of
 from saxtegun.sessions import sessions_in
-from saxtegun.smaller import blocks_of_levels, of_columns
-from saxtegun.smaller import things_of as objects_of
 from saxtegun.sources import lines_of, trimmed
+from saxtegun.stage_descriptions import Text, block_told, drawn
+from saxtegun.stage_divergence import Parted, Side, Telling
 from saxtegun.stages import Stage
 from saxtegun.terminal import Depth, lettered, painted
 from saxtegun.texts import GameText, of_another_text
@@ -182,7 +182,7 @@ def hung_from(size):
     """Draws a level of as many cells as each has names as the source of what is played."""
     run = Run(0, "a", "stopped", "loop-limit", [Frame(0, "start", level_of(size, size).replace("a0 ", "background "))])
     source = HEAD + "COLLISIONLAYERS\nBackground\nPlayer\n" + TAIL
-    source_from(source, hanging.rows_before(run, source, "columns"), frozenset())
+    source_from(source, hangs.rows_before(run, source, "columns"), frozenset())
 
 
 def shown_in_a_page(cause, size):
@@ -274,7 +274,7 @@ LONG, MOST_BYTES = 4_000_000, 5 * 2**25
 READ = f"""
 import sys
 from resource import RLIMIT_AS, setrlimit
-from saxtegun.finding import find
+from saxtegun.recording_search import find
 from saxtegun.verbs.split import entries_in
 setrlimit(RLIMIT_AS, ({MOST_BYTES}, {MOST_BYTES}))
 read, before, piece, behind = sys.argv[1:]
@@ -376,7 +376,7 @@ class Counting(Finder):
 
     def runs(self, entries):
         if not budget.EXPLAINING.is_left():
-            raise hanging.Unanswered("no time is left")
+            raise hangs.Unanswered("no time is left")
         self.played += entries
         level = Frame(0, "start", "background player:0,background:1,\n")
         hung = [self.culprit in it.source and it.inputs != [] for it in entries]

@@ -7,8 +7,8 @@ from argparse import Namespace
 
 from test_test import RULE, OfAGame
 from tool import plays, run
-from saxtegun.leaving import Leaving
 from saxtegun.lines import Frame, Run
+from saxtegun.omissions import Omissions
 from saxtegun.sessions import sessions_in
 from saxtegun.verbs import coverage
 
@@ -17,20 +17,20 @@ SOURCE = "RULES\n[ a ] -> [ b ]\n+ [ b ] -> [ c ]\nstartloop\nlate [ c ] -> (asi
 
 class LeavingOut(unittest.TestCase):
     def test_each_rule_and_win_line_is_left_out_in_turn(self):
-        leaving = Leaving(SOURCE)
-        parts = leaving.parts()
+        omissions = Omissions(SOURCE)
+        parts = omissions.parts()
         self.assertEqual([it.text for it in parts], ["[ a ] -> [ b ]", "+ [ b ] -> [ c ]", "late [ c ] ->  [ d ]", "all a on b"])
-        self.assertEqual(leaving.without(parts[0]), SOURCE.replace("[ a ] -> [ b ]\n+", "\n "))
-        self.assertEqual(leaving.without(parts[1]), SOURCE.replace("+ [ b ] -> [ c ]", ""))
-        self.assertEqual(leaving.without(parts[2]), SOURCE.replace("late [ c ] -> (aside) [ d ]", "(aside)"))
-        self.assertEqual(leaving.without(parts[3]), SOURCE.replace("all a on b", ""))
+        self.assertEqual(omissions.without(parts[0]), SOURCE.replace("[ a ] -> [ b ]\n+", "\n "))
+        self.assertEqual(omissions.without(parts[1]), SOURCE.replace("+ [ b ] -> [ c ]", ""))
+        self.assertEqual(omissions.without(parts[2]), SOURCE.replace("late [ c ] -> (aside) [ d ]", "(aside)"))
+        self.assertEqual(omissions.without(parts[3]), SOURCE.replace("all a on b", ""))
 
     def test_a_comment_that_holds_the_same_is_no_rule(self):
-        leaving = Leaving("RULES\n([ a ] -> [ b ]) [ a ] -> [ b ]\n(c + d) + [ b ] -> [ c ]\n(late) + (e) [ c ] -> [ d ]\n")
-        first, second, third = leaving.parts()
-        self.assertEqual(leaving.without(first), "RULES\n([ a ] -> [ b ]) \n(c + d)   [ b ] -> [ c ]\n(late) + (e) [ c ] -> [ d ]\n")
-        self.assertEqual(leaving.without(second), "RULES\n([ a ] -> [ b ]) [ a ] -> [ b ]\n(c + d) \n(late) + (e) [ c ] -> [ d ]\n")
-        self.assertEqual(leaving.without(third), "RULES\n([ a ] -> [ b ]) [ a ] -> [ b ]\n(c + d) + [ b ] -> [ c ]\n(late) (e)\n")
+        omissions = Omissions("RULES\n([ a ] -> [ b ]) [ a ] -> [ b ]\n(c + d) + [ b ] -> [ c ]\n(late) + (e) [ c ] -> [ d ]\n")
+        first, second, third = omissions.parts()
+        self.assertEqual(omissions.without(first), "RULES\n([ a ] -> [ b ]) \n(c + d)   [ b ] -> [ c ]\n(late) + (e) [ c ] -> [ d ]\n")
+        self.assertEqual(omissions.without(second), "RULES\n([ a ] -> [ b ]) [ a ] -> [ b ]\n(c + d) \n(late) + (e) [ c ] -> [ d ]\n")
+        self.assertEqual(omissions.without(third), "RULES\n([ a ] -> [ b ]) [ a ] -> [ b ]\n(c + d) + [ b ] -> [ c ]\n(late) (e)\n")
 
     def test_comments_stay_where_a_line_goes(self):
         for rule, left in (
@@ -38,12 +38,12 @@ class LeavingOut(unittest.TestCase):
             ("(of\ntwo lines) [ a ] -> (and\nmore)", "(of\ntwo lines)  (and\nmore)"), ("[ a ] -> message (b) c", ""), ("[ a ] (b) -> message (b", "(b)"), ("[ a ] -> [ b ] ) c", ""),
         ):  # fmt: skip
             with self.subTest(rule):
-                leaving = Leaving(f"RULES\n{rule}\nWINCONDITIONS\n")
-                self.assertEqual(leaving.without(leaving.parts()[0]), f"RULES\n{left}\nWINCONDITIONS\n")
+                omissions = Omissions(f"RULES\n{rule}\nWINCONDITIONS\n")
+                self.assertEqual(omissions.without(omissions.parts()[0]), f"RULES\n{left}\nWINCONDITIONS\n")
 
     def test_the_next_line_of_a_group_begins_it_behind_its_comments(self):
-        leaving = Leaving("RULES\n[ a ] -> [ b ]\n(a + b) + [ b ] (c) -> [ c ]\n")
-        self.assertEqual(leaving.without(leaving.parts()[0]), "RULES\n\n(a + b)   [ b ] (c) -> [ c ]\n")
+        omissions = Omissions("RULES\n[ a ] -> [ b ]\n(a + b) + [ b ] (c) -> [ c ]\n")
+        self.assertEqual(omissions.without(omissions.parts()[0]), "RULES\n\n(a + b)   [ b ] (c) -> [ c ]\n")
 
 
 class Memory(unittest.TestCase):

@@ -13,7 +13,7 @@ from time import monotonic
 from day import OnSessions
 from test_why import GAME as YARD, LINE, PUSH
 from tool import run
-from saxtegun import calling
+from saxtegun import command_line
 from saxtegun.budget import NOT_LOOKED_AT, Budget
 from saxtegun.commands import Refused
 from saxtegun.engines import Ended, Reader, answers
@@ -183,7 +183,7 @@ class Compare(OnEngines):
         words = ["saxtegun", "compare", "--engines", str(self.engine("none")), str(self.engine("hang", True)), str(self.room / "sessions.json"), "--timeout", "1"]
         begin = monotonic()
         with unittest.mock.patch("saxtegun.engines.EXPLAINING", budget), unittest.mock.patch("sys.argv", words), contextlib.redirect_stdout(shown):
-            self.assertEqual(calling.main(), 1)
+            self.assertEqual(command_line.main(), 1)
         # each session is played twice at most, and then 2.5 s for all of them
         self.assertLess(monotonic() - begin, 15)
         told = f"has no answer: not answered in 1 s; behind which input is {NOT_LOOKED_AT}"

@@ -15,10 +15,10 @@ from day import EXAMPLE, OnSessions
 from tool import TOP, environment, run
 from saxtegun import files
 from saxtegun.commands import Refused
+from saxtegun.failures import Failure, markdown
 from saxtegun.files import Changed, locked, read_lines, read_text, write_again
 from saxtegun.lines import Frame
 from saxtegun.sessions import MOST_BYTES, sessions_in
-from saxtegun.telling import Failure, markdown
 from saxtegun.verbs import play
 from saxtegun.verbs.add import add_to
 
@@ -37,7 +37,7 @@ LETTERS = 8_000_000
 # Says how many bytes more there are after a text has been read.
 MEASURE = """
 from resource import RUSAGE_SELF, getrusage
-from saxtegun.finding import find
+from saxtegun.recording_search import find
 before = getrusage(RUSAGE_SELF).ru_maxrss
 find(f"['a',[{text},[],'']]")
 print((getrusage(RUSAGE_SELF).ru_maxrss - before) * 1024)

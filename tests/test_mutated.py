@@ -11,7 +11,7 @@ from unittest import mock
 
 from day import EXAMPLE, OnSessions
 import tool  # puts the package on the path
-from saxtegun import calling
+from saxtegun import command_line
 from saxtegun.commands import Refused
 
 FILES = 1000
@@ -78,7 +78,7 @@ class Mutated(OnSessions):
         output = tempfile.TemporaryFile("w", encoding="utf-8")
         with output, mock.patch("sys.argv", ["saxtegun", *words]), contextlib.redirect_stdout(output), contextlib.redirect_stderr(io.StringIO()):
             try:
-                return calling.main()
+                return command_line.main()
             except Refused:
                 return 2
 

@@ -14,13 +14,13 @@ from random import Random
 from test_differences import games
 from tool import CASES, InARoom, TOP, run
 from saxtegun.differences import likely
-from saxtegun.explaining import culprit_told, cause_told, fault_in
+from saxtegun.explanations import culprit_told, cause_told, fault_in
 from saxtegun.files import read_any_text
-from saxtegun.finding import find
 from saxtegun.games import Game
 from saxtegun.levelsets import entries_of_levels
 from saxtegun.lines import Frame, Run
 from saxtegun.pages import look_of
+from saxtegun.recording_search import find
 from saxtegun.recordings import COMPILER, CUT_OFF, HOW, OBJECTS, as_sessions, own_name
 from saxtegun.sessions import Entry
 

@@ -12,8 +12,8 @@ import unittest.mock
 
 from tool import TOP, InARoom
 from saxtegun import programs
-from saxtegun.guarding import CIS
-from saxtegun.running import watched
+from saxtegun.logs import CIS
+from saxtegun.processes import watched
 
 EXAMPLE = TOP / "examples/block-pushing.json"
 NODE = shutil.which("node")

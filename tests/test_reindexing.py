@@ -4,7 +4,7 @@ import tracemalloc
 import unittest
 import unittest.mock
 
-from test_running import PLAYER, Programs
+from test_processes import PLAYER, Programs
 from test_test import OfAGame
 from tool import plays, run
 from saxtegun import reindexing

@@ -21,7 +21,7 @@ from crates import all_below, read_crates, read_uses  # noqa: E402
 from freshness import newer  # noqa: E402
 from forging import EVIL, bombs, digits, forged, forged_packages, lengths, member, sparse, speaking, with_blocks, with_data  # noqa: E402
 from symbols import c_library_of  # noqa: E402
-from test_guarding import is_command  # noqa: E402
+from test_logs import is_command  # noqa: E402
 from tool import PROGRAM as PROVED, Answer, plays  # noqa: E402
 from verifying import HIDDEN, differences  # noqa: E402
 

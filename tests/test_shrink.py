@@ -10,9 +10,9 @@ import tool  # puts the package on the path
 from tool import PROGRAM, plays, run
 from saxtegun.lines import Run
 from saxtegun.playing import Engine
-from saxtegun.shrinking import Programs, Shrinking
-from saxtegun.smaller import STAGES, of_columns, of_inputs, of_levels, of_lines, of_loops, of_objects
+from saxtegun.reductions import STAGES, of_columns, of_inputs, of_levels, of_lines, of_loops, of_objects
 from saxtegun.sessions import Entry
+from saxtegun.shrinking import Programs, Shrinking
 from saxtegun.verbs.shrink import first_that_parts, write_case
 
 SOURCE = """title A yard (with a comment
@@ -210,12 +210,12 @@ class Counting(Programs):
 class First(unittest.TestCase):
     def test_the_first_that_parts_is_found_by_playing_few_behind_it(self):
         """Each may take all the time that a session has, where a program hangs."""
-        for count, parting, wanted in ((1000, 0, [1]), (1000, 5, [1, 2, 4]), (5, 5, [1, 2, 2])):
-            with self.subTest(parting):
+        for count, divergence, wanted in ((1000, 0, [1]), (1000, 5, [1, 2, 4]), (5, 5, [1, 2, 2])):
+            with self.subTest(divergence):
                 Counting.played = []
-                entries = [ENTRY._replace(name="x" if it >= parting else "a") for it in range(count)]
+                entries = [ENTRY._replace(name="x" if it >= divergence else "a") for it in range(count)]
                 found = first_that_parts(Counting(Engine(), Engine()), entries)
-                self.assertEqual((found is not None, Counting.played), (parting < count, wanted))
+                self.assertEqual((found is not None, Counting.played), (divergence < count, wanted))
 
 
     def test_what_each_lets_go_may_be_kept_by_all_together(self):

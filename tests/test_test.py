@@ -12,13 +12,13 @@ from day import EXAMPLE, OnSessions
 from strangers import NAMES
 from tool import TOP, environment, plays, run
 from saxtegun.culprits import loops_told, repeated_in, outside_told, unknown_told
+from saxtegun.failures import Failure, annotation, markdown, within
+from saxtegun.file_watch import times_of
 from saxtegun.games import Game
-from saxtegun.lines import Frame, Run
 from saxtegun.levelsets import count_of_levels, entries_of_levels, first_level, still_in
+from saxtegun.lines import Frame, Run
 from saxtegun.sessions import sessions_in
-from saxtegun.telling import Failure, annotation, markdown, within
 from saxtegun.texts import same_text
-from saxtegun.watching import times_of
 
 # Of the example's sessions the first two play both levels to their end, the others stay within a level.
 ENDS = ("passed, solved: both levels solved", "passed, solved: the second level alone", "passed, not solved: half way through the first", "passed, not solved: there and back again")

@@ -8,20 +8,20 @@ from unittest import mock
 
 from day import OnSessions
 from stages_stand_in import written_in
-from test_committed import STUCK, InAGitFolder
+from test_regressions import STUCK, InAGitFolder
 from test_stages import tells_stages
 from test_test import OfAGame
 from tool import CASES, plays, run
-from saxtegun import committed, programs
-from saxtegun.acting import Text, block_told, drawn, picture
+from saxtegun import programs, regressions
 from saxtegun.budget import EXPLAINING
 from saxtegun.commands import Refused
+from saxtegun.divergence import divergence_of
 from saxtegun.games import game_of
-from saxtegun.leading import counterparts, inputs_to_try, matched, rules_of
 from saxtegun.lines import Frame, Run
-from saxtegun.parting import parting_of
 from saxtegun.playing import Engine
 from saxtegun.sessions import Entry, sessions_in
+from saxtegun.stage_descriptions import Text, block_told, drawn, picture
+from saxtegun.stage_divergence import counterparts, inputs_to_try, matched, rules_of
 from saxtegun.stages import Firing, Heading, Stage, Stop, stages_of, told_in
 from saxtegun.verbs import why
 
@@ -183,8 +183,8 @@ class Guarded(OfAYard):
         runs = Run(0, "a", "passed", None, shown[0]), Run(0, "a", "differs", None, shown[1])
         old, new = (Entry(0, "a", source, [3], "", 0, {}, False) for source in ("one", "other"))
         left, begin = EXPLAINING.left, monotonic()
-        with mock.patch.object(committed, "SECONDS_TO_LEAD", 0.2):
-            self.assertEqual(committed.leads([committed.Broken(old, new, runs, parting_of(*runs))] * 20, "game.txt", Engine()), {})
+        with mock.patch.object(regressions, "SECONDS_TO_LEAD", 0.2):
+            self.assertEqual(regressions.leads([regressions.Broken(old, new, runs, divergence_of(*runs))] * 20, "game.txt", Engine()), {})
         self.assertLess(monotonic() - begin, 10)
         self.assertLess(EXPLAINING.left, left)
 
@@ -300,7 +300,7 @@ class InWords(unittest.TestCase):
             (run_of("passed", *frames), run_of("stopped"), (range(1), range(0))),
             (run_of("passed", *frames), run_of("passed", *frames), (range(10), range(0))),
         ):
-            self.assertEqual(inputs_to_try(entry, (one, two), parting_of(one, two)), wanted)
+            self.assertEqual(inputs_to_try(entry, (one, two), divergence_of(one, two)), wanted)
 
     def test_rules_are_matched_by_their_text_wherever_they_stand(self):
         old = GAME.replace("RULE", "[ a ] -> [ b ]\n[ c ] -> [ d ]\n[ e ] -> [ f ]")

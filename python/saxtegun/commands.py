@@ -10,7 +10,7 @@ import sys
 import traceback
 from typing import Any, Callable, NoReturn, Optional, TextIO
 
-from saxtegun.guarding import Log, is_log
+from saxtegun.logs import Log, is_log
 
 
 class Refused(Exception):

@@ -7,7 +7,7 @@ from typing import Callable, Iterable, List, NamedTuple, Optional, Set
 
 from saxtegun.commands import cut, fold
 from saxtegun.games import Game
-from saxtegun.smaller import things_of
+from saxtegun.reductions import things_of
 from saxtegun.sources import Line, lines_of, read_source, words_of
 
 OUTSIDE = ("random", "randomdir", "rigid", "realtime_interval")

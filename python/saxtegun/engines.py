@@ -10,11 +10,11 @@ from typing import IO, Any, Iterator, List, NamedTuple, Optional, Sequence, Tupl
 
 from saxtegun.budget import EXPLAINING, NOT_LOOKED_AT
 from saxtegun.commands import Refused, cut
-from saxtegun.explaining import input_told
+from saxtegun.explanations import input_told
 from saxtegun.lines import UNANSWERED, Frame, Run, close_of, frame_of, is_count, line_of, may_follow, written_frame
 from saxtegun.playing import Engine, batches
+from saxtegun.processes import PATIENCE, Said, Unanswered, check_bounds, end, room_for_now, started, time_left, wait_a_while, written_to
 from saxtegun.programs import stages_words
-from saxtegun.running import PATIENCE, Said, Unanswered, check_bounds, end, room_for_now, started, time_left, wait_a_while, written_to
 from saxtegun.sessions import Entry
 
 # The word for our own engine, where an engine is named.

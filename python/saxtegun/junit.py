@@ -5,7 +5,7 @@ import re
 from typing import Dict, Iterable, Optional, Set, Tuple
 from xml.etree import ElementTree
 
-from saxtegun.explaining import told
+from saxtegun.explanations import told
 from saxtegun.lines import UNANSWERED, Run
 from saxtegun.sessions import Entry, Sessions
 

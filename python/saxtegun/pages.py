@@ -11,13 +11,13 @@ from typing import Any, Callable, Dict, List, Optional, Sequence, Tuple, Union
 from saxtegun.budget import EXPLAINING, NOT_LOOKED_AT, UsedUp
 from saxtegun.commands import begin_of, plural
 from saxtegun.culprits import repeated_in
-from saxtegun.explaining import Ending, cause_told, culprit_told, ending_told, fault_in, stop_of, written_lines
+from saxtegun.divergence import Divergence, close_told, sentence_of
+from saxtegun.explanations import Ending, cause_told, culprit_told, ending_told, fault_in, stop_of, written_lines
 from saxtegun.games import Game, game_of
-from saxtegun.hanging import HUNG, Found
+from saxtegun.hangs import HUNG, Found
 from saxtegun.levels import Follower, Labels, differing, width_of
 from saxtegun.levelsets import still_in
 from saxtegun.lines import CLOSES, KINDS, UNANSWERED, Run
-from saxtegun.parting import Parting, close_told, sentence_of
 from saxtegun.sessions import Entry, Sessions
 from saxtegun.webpages import page_of, script_of, style_of
 
@@ -155,12 +155,12 @@ def session_of(entry: Entry, run: Run, game: Optional[int], order: str, found: O
     }
 
 
-def pair_of(entry: Entry, parting: Parting, one: Run, other: Run, game: Optional[int], names: Sequence[str]) -> Dict[str, Any]:
+def pair_of(entry: Entry, divergence: Divergence, one: Run, other: Run, game: Optional[int], names: Sequence[str]) -> Dict[str, Any]:
     """A session of which two runs part, as the page's player reads it."""
     labels = Labels()
-    kept = parting.frame + MORE_FRAMES + 1
+    kept = divergence.frame + MORE_FRAMES + 1
     runs = [it._replace(frames=it.frames[:kept]) for it in (one, other)]
-    told = f"{sentence_of(parting, one, other, entry)} ({names[0]}: {close_told(one)}; {names[1]}: {close_told(other)})"
+    told = f"{sentence_of(divergence, one, other, entry)} ({names[0]}: {close_told(one)}; {names[1]}: {close_told(other)})"
     return {
         "told": told,
         "source": [],
@@ -168,7 +168,7 @@ def pair_of(entry: Entry, parting: Parting, one: Run, other: Run, game: Optional
         "inputs": entry.inputs,
         "sides": [[name, frames_of(it, labels)] for name, it in zip(names, runs)] if all(it.frames for it in runs) else [],
         "beside": names[1],
-        "opens": max(0, min(parting.frame, max(len(it.frames) for it in runs) - 1)),
+        "opens": max(0, min(divergence.frame, max(len(it.frames) for it in runs) - 1)),
         "stop": None,
         "labels": labels.names,
     }
@@ -215,11 +215,11 @@ class Report:
             close, session["told"] = FAILED, f"passed: {failure}"
         self.put(run.name, close, len(run.frames), session)
 
-    def add_pair(self, parting: Parting, one: Run, other: Run, names: Sequence[str]) -> None:
+    def add_pair(self, divergence: Divergence, one: Run, other: Run, names: Sequence[str]) -> None:
         """Adds a session of which two runs part, with the names of the two."""
         entry = self.sessions.entries[one.number]
         game = self.game(entry.source) if one.frames and other.frames else None
-        self.put(f"session {one.number}: {one.name}", "diverges", max(len(one.frames), len(other.frames)), pair_of(entry, parting, one, other, game, names))
+        self.put(f"session {one.number}: {one.name}", "diverges", max(len(one.frames), len(other.frames)), pair_of(entry, divergence, one, other, game, names))
 
     def page(self) -> str:
         more = len(self.notes) - MOST_NOTES

@@ -10,13 +10,13 @@ from contextlib import contextmanager
 from time import monotonic
 from typing import Iterator, List, NamedTuple, Optional, Sequence
 
-from saxtegun.belonging import ALL_BUT_ORDER, Tests, read_runs
 from saxtegun.commands import Refused, cut, plural
 from saxtegun.files import read_lines
 from saxtegun.lines import SESSION, UNANSWERED, Run, frame_of, line_of
+from saxtegun.mismatches import ALL_BUT_ORDER, Tests, read_runs
+from saxtegun.processes import Unanswered, room_for_now, watched
 from saxtegun.programs import has_played, program_words
 from saxtegun.reasons import break_of
-from saxtegun.running import Unanswered, room_for_now, watched
 from saxtegun.sessions import MOST_BYTES, MOST_ENTRIES, Entry, Sessions, written_entry
 from saxtegun.ticks import without_ticking
 

@@ -11,7 +11,7 @@ from pathlib import Path
 from typing import Dict, List, NamedTuple, Optional, Sequence
 
 from saxtegun.commands import Refused, cut, printable, say
-from saxtegun.guarding import is_log
+from saxtegun.logs import is_log
 
 TOP = Path(__file__).resolve().parents[2]
 BUILT = TOP / "crates/pz_replayer/out/pz_replayer"

@@ -6,9 +6,9 @@ from typing import Callable, Dict, Iterable, List, Optional, Sequence, Set, Tupl
 
 from saxtegun.commands import Refused, fold, say
 from saxtegun.files import read_any_text
-from saxtegun.finding import NAMELESS, Findings, Found, find
 from saxtegun.games import game_of
 from saxtegun.levelsets import first_level
+from saxtegun.recording_search import NAMELESS, Findings, Found, find
 from saxtegun.sessions import Entry, Sessions, sessions_in
 from saxtegun.sources import lines_of
 from saxtegun.texts import plain_text

@@ -7,17 +7,17 @@ from math import inf
 from time import monotonic
 from typing import Callable, Iterator, List, NamedTuple, Optional, Sequence, Set, Tuple
 
-from saxtegun.acting import Text
 from saxtegun.budget import EXPLAINING, SECONDS
 from saxtegun.commands import Refused
+from saxtegun.divergence import Divergence, divergence_of
 from saxtegun.engines import FAILED, STRAY, answers
-from saxtegun.leading import Side, rules_that_part
 from saxtegun.lines import UNANSWERED, Run
-from saxtegun.parting import Parting, parting_of
 from saxtegun.playing import Engine
-from saxtegun.running import Beside
+from saxtegun.processes import Beside
+from saxtegun.reductions import STAGES, Stage, of_inputs
 from saxtegun.sessions import Entry
-from saxtegun.smaller import STAGES, Stage, of_inputs
+from saxtegun.stage_descriptions import Text
+from saxtegun.stage_divergence import Side, rules_that_part
 
 Way = Tuple[object, ...]
 # So many sessions are played at once.
@@ -74,7 +74,7 @@ class Programs(NamedTuple):
         text = Text(entry.source, "", self.one.order)
         sides = Side("one", entry, text, self.tellers[0]), Side("the other", entry, text, self.tellers[1])
         try:
-            return (*way, rules_that_part(sides, (one, other), parting_of(one, other), self.one, SECONDS))
+            return (*way, rules_that_part(sides, (one, other), divergence_of(one, other), self.one, SECONDS))
         except Refused as why:
             if wanted is None:
                 raise Refused(f"--stages: {why}") from None
@@ -103,14 +103,14 @@ def way_of(one: Run, other: Run) -> Optional[Way]:
     failures = failure_of(one), failure_of(other)
     if any(failures):
         return "failure", *failures
-    parting = parting_of(one, other)
-    if parting is None:
+    divergence = divergence_of(one, other)
+    if divergence is None:
         return None
-    if parting.kind == "close":
+    if divergence.kind == "close":
         return "close", close_of(one), close_of(other)
-    if parting.one is None or parting.other is None:
-        return "end", None if parting.one is None else parting.one.kind, close_of(one if parting.one is None else other)
-    return parting.kind, parting.one.kind, parting.other.kind
+    if divergence.one is None or divergence.other is None:
+        return "end", None if divergence.one is None else divergence.one.kind, close_of(one if divergence.one is None else other)
+    return divergence.kind, divergence.one.kind, divergence.other.kind
 
 
 def fails(way: Way) -> bool:
@@ -235,10 +235,10 @@ def shrunk(programs: Programs, entry: Entry, way: Way, progress: Callable[[int, 
     return shrinking.run(), shrinking.tried
 
 
-def cut_behind(entry: Entry, parting: Optional[Parting], one: Run, other: Run) -> Entry:
+def cut_behind(entry: Entry, divergence: Optional[Divergence], one: Run, other: Run) -> Entry:
     """An entry without the inputs behind the one at which two runs part, or at which an engine fails."""
     if one.close in FAILED or other.close in FAILED:
         shown = [it.frames[-1].at if it.frames else 0 for it in (one, other) if it.close in FAILED]
         return entry._replace(inputs=entry.inputs[: min(shown) + 1])
-    taken = [it.at for it in (parting.one, parting.other) if it is not None] if parting else []
+    taken = [it.at for it in (divergence.one, divergence.other) if it is not None] if divergence else []
     return entry._replace(inputs=entry.inputs[: max(taken)]) if taken else entry

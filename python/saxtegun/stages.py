@@ -8,8 +8,8 @@ from typing import Any, Dict, Iterator, NamedTuple, Optional, Tuple, Union
 
 from saxtegun.commands import Refused
 from saxtegun.playing import Engine, refusal
+from saxtegun.processes import watched
 from saxtegun.programs import stages_words
-from saxtegun.running import watched
 from saxtegun.sessions import LONE_SURROGATE, Entry, is_number, written_entry
 from saxtegun.ticks import without_ticking
 

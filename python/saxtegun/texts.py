@@ -3,7 +3,7 @@ from __future__ import annotations
 
 from functools import lru_cache
 from shlex import quote
-from typing import Iterable, List, NamedTuple, Optional, Sequence
+from typing import Iterable, List, NamedTuple, Optional, Sequence, Tuple
 
 from saxtegun.commands import Refused, cut, plural, say
 from saxtegun.files import MARK, read_text
@@ -22,6 +22,14 @@ class GameText(NamedTuple):
 
     path: str
     source: str
+
+
+def split_files(files: List[str]) -> Tuple[str, List[str]]:
+    """The game's text, or the empty text, and the sessions files."""
+    game = files[0] if not files[0].endswith(".json") and files[0] != "-" else ""
+    if game and len(files) == 1:
+        raise Refused(f"{game} is taken for a game's text, since it doesn't end with .json, and no sessions file is named")
+    return game, files[1:] if game else files
 
 
 def read_named(path: str) -> GameText:

@@ -32,7 +32,7 @@ from argparse import ArgumentParser, Namespace
 from typing import Dict, List, Mapping, Optional, Sequence, Tuple, Union
 
 from saxtegun.commands import Refused, add_game, add_playing, add_ticks, plural, printable, say, seconds_in
-from saxtegun.explaining import UNREADABLE, Ending, heading, source_told, told
+from saxtegun.explanations import UNREADABLE, Ending, heading, source_told, told
 from saxtegun.files import guard_output, guard_places, write_again
 from saxtegun.lines import UNANSWERED, Run
 from saxtegun.playing import engine_of, lines_or_played

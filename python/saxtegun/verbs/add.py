@@ -26,7 +26,7 @@ from argparse import ArgumentParser, Namespace
 from typing import List, NamedTuple, Optional, Sequence
 
 from saxtegun.commands import Refused, add_playing, add_ticks, cut, plural, say
-from saxtegun.explaining import told
+from saxtegun.explanations import told
 from saxtegun.files import guard_places, locked, write_whole
 from saxtegun.playing import engine_of, runs_of
 from saxtegun.recordings import Known, as_sessions, is_broken, named, own_name, read_findings

@@ -30,20 +30,20 @@ from itertools import zip_longest
 from pathlib import Path
 from typing import Iterator, List, NamedTuple, Optional, Sequence, Tuple
 
-from saxtegun.acting import Text
-from saxtegun.belonging import NAMES_ALONE, OF_ANY_ENGINE, read_runs
 from saxtegun.commands import Refused, add_playing, cut, plural, printable, say
+from saxtegun.divergence import Divergence, below_of, divergence_of, sentence_of
 from saxtegun.engines import FAILED, OURS, SECONDS, answers, engine_at, failure_told, tellers_of, with_frames
-from saxtegun.explaining import cause_told
+from saxtegun.explanations import cause_told
 from saxtegun.files import guard_files, guard_output, guard_places, write_whole
-from saxtegun.leading import Side, stage_parting
 from saxtegun.lines import UNANSWERED, Run
+from saxtegun.mismatches import NAMES_ALONE, OF_ANY_ENGINE, read_runs
 from saxtegun.origins import add_date, digest_of, origin_of
 from saxtegun.pages import Report, comparison
-from saxtegun.parting import Parting, below_of, parting_of, sentence_of
 from saxtegun.playing import Engine, engine_of, runs_played
 from saxtegun.programs import named_program
 from saxtegun.sessions import Entry, Sessions, read_sessions
+from saxtegun.stage_descriptions import Text
+from saxtegun.stage_divergence import Side, stage_divergence_of
 from saxtegun.texts import read_named, say_others
 
 USAGE = "compare (ONE.lines OTHER.lines [SESSIONS] | --engines P Q [--stages S T] SESSIONS | --sources OLD.txt NEW.txt SESSIONS) [options]"
@@ -149,21 +149,21 @@ class Comparing:
             self.refused += one.close == other.close == "refused"
             self.why = self.why or cause_told(one.cause or "")
             has_failed = self.sides.engines and (one.close in FAILED or other.close in FAILED)
-            parting = parting_of(one, other)
+            divergence = divergence_of(one, other)
             if has_failed:
                 self.failed += 1
                 self.tell_failure(one, other)
             elif UNANSWERED in (one.close, other.close):
                 self.tell_late(one, other)
-            elif parting is not None:
-                self.tell(parting, one, other, stages=self.stages_told(parting, one, other))
+            elif divergence is not None:
+                self.tell(divergence, one, other, stages=self.stages_told(divergence, one, other))
             if self.failed == MOST_FAILED:
                 break
 
     def entry(self, run: Run) -> Optional[Entry]:
         return self.sides.sessions.entries[run.number] if self.sides.sessions else None
 
-    def stages_told(self, parting: Parting, one: Run, other: Run) -> List[str]:
+    def stages_told(self, divergence: Divergence, one: Run, other: Run) -> List[str]:
         """At which stage two engines part, with its rules, where it is known what tells theirs."""
         entry = self.entry(one)
         if not self.stages or entry is None or self.parted >= MOST_LED:
@@ -171,23 +171,23 @@ class Comparing:
         text = Text(entry.source, "", self.order)
         sides = Side(self.names[0], entry, text, self.stages[0]), Side(self.names[1], entry, text, self.stages[1])
         try:
-            led = stage_parting(sides, (one, other), parting, self.sides.engines[0], SECONDS_OF_STAGES)
+            led = stage_divergence_of(sides, (one, other), divergence, self.sides.engines[0], SECONDS_OF_STAGES)
         except Refused as why:
             return [f"stages: {why}"]
         return [f"stages: {led.sentence}", *led.rules, *led.drawing] if led else ["stages: none parts"]
 
-    def tell(self, parting: Parting, one: Run, other: Run, failures: Sequence[str] = (), stages: Sequence[str] = ()) -> None:
+    def tell(self, divergence: Divergence, one: Run, other: Run, failures: Sequence[str] = (), stages: Sequence[str] = ()) -> None:
         """Tells where two runs part, and below it at which stage, and what failed behind that."""
         entry = self.entry(one)
-        is_behind = bool(failures) and (parting.one is None or parting.other is None)
-        told = [] if is_behind else [sentence_of(parting, one, other, entry), *below_of(parting, entry, self.order)]
+        is_behind = bool(failures) and (divergence.one is None or divergence.other is None)
+        told = [] if is_behind else [sentence_of(divergence, one, other, entry), *below_of(divergence, entry, self.order)]
         first, *below = [*told, *stages, *failures]
         print(printable(f"session {one.number}, {cut(one.name)}: {first}"))
         for line in below:
             print(printable(f"    {line}"))
         self.parted += 1
         if self.report:
-            self.report.add_pair(parting, one, other, self.names)
+            self.report.add_pair(divergence, one, other, self.names)
 
     def tell_failure(self, *runs: Run) -> None:
         """Tells at what an engine failed, or both."""
@@ -196,7 +196,7 @@ class Comparing:
         looked = [with_frames(entry, it, engine) if it.close in FAILED else it for it, engine in zip(runs, self.sides.engines)]
         one, other = (found or it for found, it in zip(looked, runs))
         failures = [failure_told(entry, it, name, found is not None) for found, it, name in zip(looked, (one, other), self.names) if it.close in FAILED]
-        self.tell(parting_of(one, other) or Parting(len(one.frames), None, None), one, other, failures)
+        self.tell(divergence_of(one, other) or Divergence(len(one.frames), None, None), one, other, failures)
 
     def tell_late(self, *runs: Run) -> None:
         """Tells what had no answer in its time, so that nothing is known of it."""

@@ -18,15 +18,15 @@ from argparse import ArgumentParser, Namespace
 from typing import Dict, Iterable, Iterator, List, NamedTuple, Optional, Set, Tuple
 
 from saxtegun.commands import Refused, add_playing, add_ticks, cut, plural, printable
-from saxtegun.explaining import source_told
+from saxtegun.explanations import source_told
 from saxtegun.files import guard_output
 from saxtegun.games import game_of
-from saxtegun.leaving import Leaving
-from saxtegun.lines import UNANSWERED, Run
 from saxtegun.levelsets import wins_of
+from saxtegun.lines import UNANSWERED, Run
+from saxtegun.omissions import Omissions
 from saxtegun.playing import engine_of, runs_played
 from saxtegun.sessions import Entry, Sessions, read_sessions
-from saxtegun.solving import MOST_INPUTS, ONE_MORE
+from saxtegun.solutions import MOST_INPUTS, ONE_MORE
 from saxtegun.sources import Line
 from saxtegun.texts import GameText, over, read_game, say_others
 
@@ -67,11 +67,11 @@ def longer(entry: Entry) -> Entry:
 def played_in(trials: List[Trial]) -> List[Entry]:
     """The sessions that are played for some trials, each over its source without the line that is left out."""
     entries: List[Entry] = []
-    leaving: Optional[Tuple[str, Leaving]] = None
+    omissions: Optional[Tuple[str, Omissions]] = None
     for trial in trials:
-        if leaving is None or leaving[0] is not trial.source:
-            leaving = trial.source, Leaving(trial.source)
-        source = leaving[1].without(trial.part)
+        if omissions is None or omissions[0] is not trial.source:
+            omissions = trial.source, Omissions(trial.source)
+        source = omissions[1].without(trial.part)
         entries += [it._replace(source=source) for it in trial.entries]
     return entries
 
@@ -138,7 +138,7 @@ class Coverage:
             raise Refused(f"no session is played over {self.text.path}, so none of its lines was left out: {self.unplayed_over(self.text)}")
         trials: List[Trial] = []
         for source, entries in of.items():
-            trials += [Trial(source, part, entries) for part in Leaving(source).parts()]
+            trials += [Trial(source, part, entries) for part in Omissions(source).parts()]
         return trials
 
     def unplayed_over(self, text: GameText) -> str:

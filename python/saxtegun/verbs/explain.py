@@ -20,12 +20,12 @@ from argparse import ArgumentParser, Namespace
 from typing import Dict, List, NamedTuple, Tuple
 
 from saxtegun.commands import add_game, add_playing, add_ticks, plural, printable
-from saxtegun.explaining import heading, summary, told
+from saxtegun.explanations import heading, summary, told
 from saxtegun.files import guard_output
 from saxtegun.lines import UNANSWERED, Run
 from saxtegun.playing import engine_of, lines_or_played
 from saxtegun.sessions import read_sessions
-from saxtegun.solving import unsolved_among, unsolved_told
+from saxtegun.solutions import unsolved_among, unsolved_told
 from saxtegun.texts import over, read_game, say_others
 from saxtegun.ticks import ticks_told
 

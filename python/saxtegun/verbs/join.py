@@ -20,10 +20,10 @@ import sys
 from argparse import ArgumentParser, Namespace
 from typing import List
 
-from saxtegun.belonging import ALL_BUT_ORDER, mismatch
 from saxtegun.commands import Refused, cut, plural
 from saxtegun.files import guard_output
 from saxtegun.lines import Frame, Run, told_in
+from saxtegun.mismatches import ALL_BUT_ORDER, mismatch
 from saxtegun.parts import MANIFEST, Part, read_manifest
 from saxtegun.sessions import Sessions, read_sessions
 from saxtegun.texts import say_demands

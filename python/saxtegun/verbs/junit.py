@@ -14,13 +14,13 @@ from argparse import ArgumentParser, Namespace
 from itertools import chain
 from pathlib import Path
 
-from saxtegun.belonging import Tests, read_runs
 from saxtegun.commands import Refused, add_game, add_playing, add_ticks
 from saxtegun.files import guard_output
 from saxtegun.junit import junit_of
+from saxtegun.mismatches import Tests, read_runs
 from saxtegun.playing import engine_of
 from saxtegun.sessions import read_sessions
-from saxtegun.solving import unsolved_among
+from saxtegun.solutions import unsolved_among
 from saxtegun.texts import over, read_game, say_others
 
 USAGE = "junit [SESSIONS] LINES [--game GAME.txt] [--order rows|columns] [--refused error|skipped] >junit.xml"

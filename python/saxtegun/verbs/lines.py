@@ -28,7 +28,7 @@ from saxtegun.commands import Refused, add_game, add_playing, add_ticks, plural
 from saxtegun.files import NoFile, TooLong, guard_output, read_bytes
 from saxtegun.lines import PLAYED
 from saxtegun.playing import engine_of, lines_within, refusal
-from saxtegun.running import PAUSE, Beside, Ran, watched
+from saxtegun.processes import PAUSE, Beside, Ran, watched
 from saxtegun.sessions import MOST_BYTES, Entry, read_sessions, sessions_in
 from saxtegun.texts import over, read_game, say_others, say_untested
 

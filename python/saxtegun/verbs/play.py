@@ -26,7 +26,7 @@ from argparse import ArgumentParser, Namespace
 from typing import Any, List, NoReturn, Optional
 
 from saxtegun.commands import Refused, add_ticks, plural, printable, say
-from saxtegun.explaining import cause_told, told
+from saxtegun.explanations import cause_told, told
 from saxtegun.files import MARK, guard_places, locked, read_text, write_whole
 from saxtegun.games import game_of
 from saxtegun.keyboard import DRAW, keyboard, pass_over

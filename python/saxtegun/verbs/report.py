@@ -18,13 +18,13 @@ from pathlib import Path
 
 from saxtegun.commands import add_game, add_playing, add_ticks
 from saxtegun.files import guard_output
-from saxtegun.hanging import Finder
+from saxtegun.hangs import Finder
 from saxtegun.lines import UNANSWERED
 from saxtegun.origins import add_date, origin_of, program_told
 from saxtegun.pages import Report
 from saxtegun.playing import engine_of, lines_or_played
 from saxtegun.sessions import read_sessions
-from saxtegun.solving import unsolved_among
+from saxtegun.solutions import unsolved_among
 from saxtegun.texts import over, read_game, say_others
 
 USAGE = "report SESSIONS [LINES] [--game GAME.txt] [--order rows|columns] >report.html"

@@ -29,13 +29,13 @@ from time import monotonic
 from typing import Dict, List, NamedTuple, Optional, Tuple
 
 from saxtegun.commands import Refused, add_game, add_order, cut, fold, plural, printable, say, seconds_in, workers_in
+from saxtegun.divergence import below_of, divergence_of, sentence_of
 from saxtegun.engines import FAILED, SECONDS, answers, engine_at, failure_told, tellers_of, with_frames
 from saxtegun.files import guard_places
 from saxtegun.levels import Labels, read_cells
 from saxtegun.lines import Run
-from saxtegun.parting import below_of, parting_of, sentence_of
 from saxtegun.playing import Engine, play_file
-from saxtegun.running import room_for_now
+from saxtegun.processes import room_for_now
 from saxtegun.sessions import Entry, Sessions, chosen, read_sessions, written
 from saxtegun.shrinking import Programs, Way, cut_behind, shrunk
 from saxtegun.texts import over, read_game, say_others
@@ -159,8 +159,8 @@ def renamed(room: str, folder: str) -> str:
 
 
 def started_with(programs: Programs, found: Found) -> Entry:
-    """Where shrinking begins: without the inputs behind the parting, if that is one still."""
-    shorter = cut_behind(found.entry, parting_of(found.one, found.other), found.one, found.other)
+    """Where shrinking begins: without the inputs behind the divergence, if that is one still."""
+    shorter = cut_behind(found.entry, divergence_of(found.one, found.other), found.one, found.other)
     return shorter if programs.ways([shorter], found.way) == [found.way] else found.entry
 
 
@@ -178,10 +178,10 @@ def tell(entry: Entry, one: Run, other: Run, programs: Programs, given: Namespac
         if run.close in FAILED:
             looked = with_frames(entry, run, engine)
             print(printable(f"{cut(entry.name)}: {failure_told(entry, looked or run, name, looked is not None)}"))
-    parting = parting_of(one, other)
-    if parting is not None and one.close not in FAILED and other.close not in FAILED:
-        print(printable(f"{cut(entry.name)}: {sentence_of(parting, one, other, entry)}"))
-        for line in below_of(parting, entry, given.order):
+    divergence = divergence_of(one, other)
+    if divergence is not None and one.close not in FAILED and other.close not in FAILED:
+        print(printable(f"{cut(entry.name)}: {sentence_of(divergence, one, other, entry)}"))
+        for line in below_of(divergence, entry, given.order):
             print(printable(f"    {line}"))
 
 

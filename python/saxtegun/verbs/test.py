@@ -31,22 +31,22 @@ from typing import Dict, List, NamedTuple, Optional, Tuple
 
 from saxtegun.budget import EXPLAINING, SECONDS
 from saxtegun.commands import Refused, add_playing, add_ticks, cut, fail, plural, printable, say
-from saxtegun.committed import partings
-from saxtegun.explaining import fault_in, summary, told
+from saxtegun.explanations import fault_in, summary, told
+from saxtegun.failures import Failure, annotation, markdown, once
+from saxtegun.file_watch import times_of, wait_for_save
 from saxtegun.files import guard_files, guard_output, guard_places, write_whole
-from saxtegun.guarding import write_command
-from saxtegun.hanging import Finder
+from saxtegun.hangs import Finder
 from saxtegun.junit import junit_of
 from saxtegun.lines import UNANSWERED, Run
+from saxtegun.logs import write_command
 from saxtegun.origins import add_date, origin_of, program_told
 from saxtegun.pages import Report
 from saxtegun.playing import engine_of, runs_of
+from saxtegun.regressions import divergences
 from saxtegun.sessions import Entry, Sessions, fits, read_sessions, unfitting
-from saxtegun.solving import SOLVED, no_longer, solved_of, unsolved_told
-from saxtegun.telling import Failure, annotation, markdown, once
-from saxtegun.texts import GameText, of_another_text, over, read_game, remark
+from saxtegun.solutions import SOLVED, no_longer, solved_of, unsolved_told
+from saxtegun.texts import GameText, of_another_text, over, read_game, remark, split_files
 from saxtegun.ticks import forget, ticks_told
-from saxtegun.watching import times_of, wait_for_save
 
 USAGE = "test [GAME.txt] SESSIONS.json.. [options]"
 
@@ -86,14 +86,6 @@ class Picked(NamedTuple):
 
     sessions: Sessions
     entries: List[Entry]
-
-
-def split_files(files: List[str]) -> Tuple[str, List[str]]:
-    """The game's text, or the empty text, and the sessions files."""
-    game = files[0] if not files[0].endswith(".json") and files[0] != "-" else ""
-    if game and len(files) == 1:
-        raise Refused(f"{game} is taken for a game's text, since it doesn't end with .json, and no sessions file is named")
-    return game, files[1:] if game else files
 
 
 def picked(sessions: Sessions, patterns: Optional[List[str]]) -> List[Entry]:
@@ -182,7 +174,7 @@ def failures_of(suite: Suite, though_passed: Dict[int, str], given: Namespace, h
         is_of_game = bool(game and fault)
         found[entry.number] = Failure(f"{place}, {cut(entry.name)}", run.close, sentence, below, game if is_of_game else path, fault[1] if is_of_game and fault else 1)
     # once all is told that needs no other text to be played
-    for number, where in partings(suite.game, suite.sessions.entries, suite.runs, suite.sessions, engine_of(given)).items():
+    for number, where in divergences(suite.game, suite.sessions.entries, suite.runs, suite.sessions, engine_of(given)).items():
         found[number] = found[number]._replace(below=[*found[number].below, *where])
     return list(found.values())
 

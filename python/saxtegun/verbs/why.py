@@ -26,18 +26,17 @@ from argparse import ArgumentParser, ArgumentTypeError, Namespace
 from time import monotonic, process_time
 from typing import NamedTuple, Optional
 
-from saxtegun.acting import Acted, Text, told_of, where_told
 from saxtegun.budget import SECONDS
 from saxtegun.commands import Refused, add_playing, add_ticks, cut, plural, printable
-from saxtegun.explaining import source_told
+from saxtegun.explanations import source_told
 from saxtegun.files import guard_output
-from saxtegun.leading import Side, parting_told
 from saxtegun.lines import Run
 from saxtegun.playing import Engine, engine_of, runs_of
 from saxtegun.sessions import Entry, Sessions, fits, read_sessions
+from saxtegun.stage_descriptions import Acted, Text, told_of, where_told
+from saxtegun.stage_divergence import Side, divergence_told
 from saxtegun.stages import STOPS, Stop, lines_and_stages, stages_and_firings_of, stages_of
-from saxtegun.texts import over, read_game, read_named, say_others
-from saxtegun.verbs.test import split_files
+from saxtegun.texts import over, read_game, read_named, say_others, split_files
 
 USAGE = "why [GAME.txt] SESSIONS.json --session NAME [--input K] [--firings] [--old OTHER.txt] [options]"
 START = "start"
@@ -170,12 +169,12 @@ def tell_stages(asked: Asked, at: int, has_firings: bool) -> None:
         show(f"no stages: {no_stages_told(asked, at)}")
 
 
-def tell_parting(asked: Asked, old: str) -> int:
+def tell_divergence(asked: Asked, old: str) -> int:
     """Says at which stage two texts of a game part."""
     text = read_named(old)
     before = asked._replace(entry=asked.entry._replace(source=text.source), text=Text(text.source, text.path, asked.text.order))
     sides = Side("the old text", before.entry, before.text), Side("the new text", asked.entry, asked.text)
-    told = parting_told(sides, (played(before), played(asked)), asked.engine)
+    told = divergence_told(sides, (played(before), played(asked)), asked.engine)
     first, *below = told or ["the same frames, and the same stages"]
     show(f"session {asked.entry.number}, {cut(asked.entry.name)}: {first}")
     for line in below:
@@ -189,7 +188,7 @@ def main(given: Namespace) -> int:
         raise Refused("--old finds the input itself, and excludes --input, --firings and --json")
     asked = asked_by(given)
     if given.old:
-        return tell_parting(asked, given.old)
+        return tell_divergence(asked, given.old)
     at = input_of(asked, given)
     if given.json:
         for line, _ in lines_and_stages(asked.entry, at, asked.engine, given.firings):

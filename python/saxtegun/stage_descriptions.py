@@ -7,7 +7,7 @@ from typing import Dict, List, Mapping, NamedTuple, Optional, Sequence, Tuple, U
 
 from saxtegun.commands import cut, plural
 from saxtegun.culprits import Repeated, repeated_in
-from saxtegun.explaining import CELLS_TOLD, STOPS, cell_told, input_told, source_line
+from saxtegun.explanations import CELLS_TOLD, STOPS, cell_told, input_told, source_line
 from saxtegun.games import Game, game_of
 from saxtegun.levels import Labels, in_rows, read_cells, width_of
 from saxtegun.sessions import Entry

@@ -4,7 +4,7 @@ import unittest
 
 from day import OnSessions
 from tool import plays, run
-from saxtegun.hanging import Finder, source_from, things_of
+from saxtegun.hangs import Finder, source_from, things_of
 from saxtegun.lines import Frame, Run
 from saxtegun.playing import Engine
 from saxtegun.sessions import sessions_in

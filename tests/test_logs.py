@@ -10,8 +10,8 @@ import unittest
 from day import EXAMPLE, OnSessions
 from tool import run
 from saxtegun.commands import cut, printable
-from saxtegun.guarding import guarded
-from saxtegun.telling import MOST_FAILURES, Failure, markdown
+from saxtegun.failures import MOST_FAILURES, Failure, markdown
+from saxtegun.logs import guarded
 
 # By hand ten times as many, and with other seeds.
 SEED, COUNT = (int(os.environ.get(name, count)) for name, count in (("SEED", "75"), ("TEXTS", "2000")))

@@ -17,7 +17,7 @@ def places_of(raw: str, line: Line) -> List[int]:
     return places[inked[0] : inked[-1] + 1]
 
 
-class Leaving:
+class Omissions:
     """A source of which lines are left out, one at a time."""
 
     def __init__(self, source: str) -> None:

@@ -5,14 +5,14 @@ from itertools import zip_longest
 from typing import List, NamedTuple, Optional
 
 from saxtegun.commands import cut, plural
-from saxtegun.explaining import CELLS_TOLD, cell_told, input_told
+from saxtegun.explanations import CELLS_TOLD, cell_told, input_told
 from saxtegun.games import game_of
 from saxtegun.levels import Labels, differing, in_rows, position, read_cells, width_of
 from saxtegun.lines import Frame, Run
 from saxtegun.sessions import Entry
 
 
-class Parting(NamedTuple):
+class Divergence(NamedTuple):
     """Where two runs part: the number of the frame (the one behind the last where only their closes differ), and each run's frame there, or
     None where it has no more."""
 
@@ -46,12 +46,12 @@ def is_same_level(one: str, other: str) -> bool:
     return cells is not None and cells == read_cells(other, labels) and one.partition("\n")[0].count(",") == other.partition("\n")[0].count(",")
 
 
-def parting_of(one: Run, other: Run) -> Optional[Parting]:
+def divergence_of(one: Run, other: Run) -> Optional[Divergence]:
     """Where two runs part, or None where they are the same."""
     for number, (left, right) in enumerate(zip_longest(one.frames, other.frames)):
         if not is_same_frame(left, right):
-            return Parting(number, left, right)
-    return None if (one.close, one.cause) == (other.close, other.cause) else Parting(len(one.frames), None, None)
+            return Divergence(number, left, right)
+    return None if (one.close, one.cause) == (other.close, other.cause) else Divergence(len(one.frames), None, None)
 
 
 def after_told(entry: Optional[Entry], at: int) -> str:
@@ -66,29 +66,29 @@ def close_told(run: Run) -> str:
     return f"{run.close} ({cut(run.cause)})" if run.cause else run.close
 
 
-def sentence_of(parting: Parting, one: Run, other: Run, entry: Optional[Entry]) -> str:
+def sentence_of(divergence: Divergence, one: Run, other: Run, entry: Optional[Entry]) -> str:
     """Where two runs part, in a sentence without its end."""
-    if parting.kind == "close":
-        return f"the same {plural(parting.frame, 'frame')}, and then one is {close_told(one)}, the other {close_told(other)}"
-    frames = [it for it in (parting.one, parting.other) if it is not None]
-    where = f"frame {parting.frame}, {after_told(entry, frames[0].at)}"
-    if parting.kind == "end":
-        ended, name = (one, "one") if parting.one is None else (other, "the other")
+    if divergence.kind == "close":
+        return f"the same {plural(divergence.frame, 'frame')}, and then one is {close_told(one)}, the other {close_told(other)}"
+    frames = [it for it in (divergence.one, divergence.other) if it is not None]
+    where = f"frame {divergence.frame}, {after_told(entry, frames[0].at)}"
+    if divergence.kind == "end":
+        ended, name = (one, "one") if divergence.one is None else (other, "the other")
         return f"{where}: {name} has no more frames, and is {close_told(ended)}"
-    if parting.kind == "kind":
+    if divergence.kind == "kind":
         return f"{where}: one shows {frames[0].kind} of {frames[0].at} inputs, the other {frames[1].kind} of {frames[1].at}"
     return where
 
 
-def below_of(parting: Parting, entry: Optional[Entry], order: str) -> List[str]:
-    """The cells that differ at a parting and both levels, as lines."""
-    if parting.one is None or parting.other is None:
+def below_of(divergence: Divergence, entry: Optional[Entry], order: str) -> List[str]:
+    """The cells that differ at a divergence and both levels, as lines."""
+    if divergence.one is None or divergence.other is None:
         return []
     labels = Labels()
-    read = [read_cells(it.level, labels) for it in (parting.one, parting.other)]
+    read = [read_cells(it.level, labels) for it in (divergence.one, divergence.other)]
     one, other = read[0] or [], read[1] or []
-    width = width_of(parting.one.level, len(one))
-    if read[0] is None or read[1] is None or len(one) != len(other) or width != width_of(parting.other.level, len(other)):
+    width = width_of(divergence.one.level, len(one))
+    if read[0] is None or read[1] is None or len(one) != len(other) or width != width_of(divergence.other.level, len(other)):
         return [f"one has a level of {plural(len(one), 'cell')}, the other of {len(other)}"]
     numbers = differing(one, other)
     lines: List[str] = []

@@ -7,7 +7,7 @@ import unittest
 from test_test import OfAGame
 from tool import TOP, InARoom, plays, run
 from saxtegun.files import read_any_text
-from saxtegun.finding import find
+from saxtegun.recording_search import find
 
 FORMS = TOP / "tests/forms"
 EXPECTED = json.loads((FORMS / "expected.json").read_text(encoding="utf-8"))

@@ -12,15 +12,15 @@ from secrets import token_hex
 from time import monotonic
 from typing import Dict, List, NamedTuple, Optional, Sequence, Tuple
 
-from saxtegun.acting import Text
 from saxtegun.budget import EXPLAINING, UsedUp
 from saxtegun.commands import Refused, printable
-from saxtegun.leading import Side, stage_parting
+from saxtegun.divergence import Divergence, divergence_of, sentence_of
 from saxtegun.lines import Run
-from saxtegun.parting import Parting, parting_of, sentence_of
 from saxtegun.playing import Engine, runs_within
-from saxtegun.running import started
+from saxtegun.processes import started
 from saxtegun.sessions import Entry, Sessions
+from saxtegun.stage_descriptions import Text
+from saxtegun.stage_divergence import Side, stage_divergence_of
 from saxtegun.texts import GameText, same_text
 
 # So long git may take for its answers on a text, with so many bytes of memory; and so many bytes a text has at most: no longer one is played.
@@ -80,14 +80,14 @@ class Broken(NamedTuple):
     old: Entry
     new: Entry
     runs: Tuple[Run, Run]
-    parting: Parting
+    divergence: Divergence
 
     def told(self, name: str) -> str:
-        one = "" if self.parting.kind == "level" else " (one)"
-        return f"over the committed {name}{one} it passed, and its frames first part at {sentence_of(self.parting, *self.runs, self.old)}"
+        one = "" if self.divergence.kind == "level" else " (one)"
+        return f"over the committed {name}{one} it passed, and its frames first part at {sentence_of(self.divergence, *self.runs, self.old)}"
 
 
-def partings(game: Optional[GameText], entries: Sequence[Entry], runs: Sequence[Run], of: Sessions, engine: Engine) -> Dict[int, List[str]]:
+def divergences(game: Optional[GameText], entries: Sequence[Entry], runs: Sequence[Run], of: Sessions, engine: Engine) -> Dict[int, List[str]]:
     """For sessions that pass over the committed text, and not over the one at hand, where their frames and their stages part, in lines; by their numbers.
     Nothing where there is no such text, or no time left to explain."""
     broken = [(it, run) for it, run in zip(entries, runs) if game and it.source == game.source and run.close in ("differs", "stopped")]
@@ -116,9 +116,9 @@ def parted(pairs: Sequence[Tuple[Entry, Entry]], runs: Sequence[Run], of: Sessio
         for (old, new), was, run in zip(pairs, runs_within(before, of, engine, seconds), runs):
             if monotonic() > end:
                 break
-            parting = parting_of(was, run) if was.close == "passed" else None
-            if parting is not None:
-                found.append(Broken(old, new, (was, run), parting))
+            divergence = divergence_of(was, run) if was.close == "passed" else None
+            if divergence is not None:
+                found.append(Broken(old, new, (was, run), divergence))
     except (Refused, UsedUp):
         # what is known is told
         pass
@@ -132,7 +132,7 @@ def leads(found: Sequence[Broken], path: str, engine: Engine) -> Dict[int, List[
     try:
         for it in found:
             sides = Side("the committed text", it.old, Text(it.old.source, "", engine.order)), Side("the new text", it.new, Text(it.new.source, path, engine.order))
-            led = stage_parting(sides, it.runs, it.parting, engine, SECONDS_TO_LEAD)
+            led = stage_divergence_of(sides, it.runs, it.divergence, engine, SECONDS_TO_LEAD)
             if led is not None:
                 told[it.new.number] = [led.sentence, *led.rules]
     except (Refused, UsedUp):

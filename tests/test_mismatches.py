@@ -4,8 +4,8 @@ import unittest
 
 from day import EXAMPLE, OnSessions
 from tool import run
-from saxtegun.belonging import ALL_BUT_ORDER, NAMES_ALONE, OF_ANY_ENGINE, mismatch
 from saxtegun.lines import Frame, Run
+from saxtegun.mismatches import ALL_BUT_ORDER, NAMES_ALONE, OF_ANY_ENGINE, mismatch
 from saxtegun.sessions import sessions_in
 
 LEVEL, OTHER = "background:0,\n", "background player:0,\n"

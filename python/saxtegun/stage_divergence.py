@@ -8,16 +8,16 @@ from itertools import zip_longest
 from time import monotonic
 from typing import Dict, Iterator, List, NamedTuple, Optional, Sequence, Set, Tuple
 
-from saxtegun.acting import Text, drawn, heading_told, rule_lines, stage_told, where_told
 from saxtegun.budget import EXPLAINING, SECONDS
 from saxtegun.commands import fold, plural
-from saxtegun.explaining import CELLS_TOLD, cause_told
+from saxtegun.divergence import Divergence, below_of, divergence_of, is_same_level, sentence_of
+from saxtegun.explanations import CELLS_TOLD, cause_told
 from saxtegun.lines import Frame, Run
-from saxtegun.parting import Parting, below_of, is_same_level, parting_of, sentence_of
 from saxtegun.playing import Engine
-from saxtegun.running import Unanswered
+from saxtegun.processes import Unanswered
 from saxtegun.sessions import Entry
 from saxtegun.sources import lines_of, words_of
+from saxtegun.stage_descriptions import Text, drawn, heading_told, rule_lines, stage_told, where_told
 from saxtegun.stages import NAMES, Stage, Stop, Told, stages_of
 
 MARKS = re.compile(r"[\[\]|]|->")
@@ -215,7 +215,7 @@ class Telling:
     def both(self, one: Stage, other: Stage) -> Led:
         """In what two stages differ that are the same part of a step."""
         acts = "" if not one.is_block else "acts in both, edited: " if self.is_edited(one.lines, other.lines) else "acts in both: "
-        cells = below_of(Parting(0, Frame(0, "", one.level), Frame(0, "", other.level)), self.sides[1].entry, self.sides[1].text.order)
+        cells = below_of(Divergence(0, Frame(0, "", one.level), Frame(0, "", other.level)), self.sides[1].entry, self.sides[1].text.order)
         drawing = self.headings(one, other) if is_same_level(one.level, other.level) else cells
         return Led(f"{self.named(0, one)}: {acts}{self.difference(one, other)}", self.rules(0, one) if one.is_block else [], drawing)
 
@@ -285,11 +285,11 @@ class Telling:
         return "; ".join(differs)
 
 
-def inputs_to_try(entry: Entry, runs: Tuple[Run, Run], parting: Optional[Parting]) -> Tuple[range, range]:
+def inputs_to_try(entry: Entry, runs: Tuple[Run, Run], divergence: Optional[Divergence]) -> Tuple[range, range]:
     """Behind which inputs two runs may part in their stages: from where their frames first do or one may have stopped, and else those before it."""
-    if parting is None:
+    if divergence is None:
         return range(len(entry.inputs) + 1), range(0)
-    last = min([len(entry.inputs), *(it.at for it in (parting.one, parting.other) if it is not None)])
+    last = min([len(entry.inputs), *(it.at for it in (divergence.one, divergence.other) if it is not None)])
     # behind its last frame a run may stop in a step that shows none
     first = min([last, *(run.frames[-1].at if run.frames else 0 for run in runs if run.close == "stopped")])
     return range(first, last + 1), range(first)
@@ -308,10 +308,10 @@ def first_parted(sides: Sides, inputs: range, engine: Engine, end: float) -> Opt
     return None
 
 
-def first_parting(sides: Sides, runs: Tuple[Run, Run], parting: Optional[Parting], engine: Engine, seconds: float) -> Optional[Tuple[int, Parted]]:
+def first_divergence(sides: Sides, runs: Tuple[Run, Run], divergence: Optional[Divergence], engine: Engine, seconds: float) -> Optional[Tuple[int, Parted]]:
     """At which input two sides first part in their stages, and where; None where none does. Refused where that isn't known in so many seconds."""
     end = monotonic() + min(seconds, EXPLAINING.seconds_left())
-    likely, before = inputs_to_try(sides[1].entry, runs, parting)
+    likely, before = inputs_to_try(sides[1].entry, runs, divergence)
     found = first_parted(sides, likely, engine, end)
     if found is None or found[1].is_of_all:
         # an input that only one text takes follows from what the texts did before it
@@ -319,9 +319,9 @@ def first_parting(sides: Sides, runs: Tuple[Run, Run], parting: Optional[Parting
     return found
 
 
-def rules_that_part(sides: Sides, runs: Tuple[Run, Run], parting: Optional[Parting], engine: Engine, seconds: float) -> Tuple[str, ...]:
+def rules_that_part(sides: Sides, runs: Tuple[Run, Run], divergence: Optional[Divergence], engine: Engine, seconds: float) -> Tuple[str, ...]:
     """Where two sides first part in their stages, by the name of the stage and the texts of its rules, wherever these stand; nothing where none does."""
-    found = first_parting(sides, runs, parting, engine, seconds)
+    found = first_divergence(sides, runs, divergence, engine, seconds)
     if found is None:
         return ()
     names, rules = [], set()
@@ -331,20 +331,20 @@ def rules_that_part(sides: Sides, runs: Tuple[Run, Run], parting: Optional[Parti
     return (*names, *sorted(rules))
 
 
-def stage_parting(sides: Sides, runs: Tuple[Run, Run], parting: Optional[Parting], engine: Engine, seconds: float) -> Optional[Led]:
+def stage_divergence_of(sides: Sides, runs: Tuple[Run, Run], divergence: Optional[Divergence], engine: Engine, seconds: float) -> Optional[Led]:
     """At which stage two texts part; None where none does. Refused where that isn't known in so many seconds."""
-    found = first_parting(sides, runs, parting, engine, seconds)
+    found = first_divergence(sides, runs, divergence, engine, seconds)
     return Telling(sides, *found).told() if found else None
 
 
 NO_STAGE = "no stage parts: what differs is in no rule (win conditions, levels, objects)"
 
 
-def parting_told(sides: Sides, runs: Tuple[Run, Run], engine: Engine) -> List[str]:
+def divergence_told(sides: Sides, runs: Tuple[Run, Run], engine: Engine) -> List[str]:
     """Where two texts part, in a sentence, and lines below it; nothing where they show the same by the same stages."""
-    parting = parting_of(*runs)
-    led = stage_parting(sides, runs, parting, engine, SECONDS)
-    frames = f"the frames part at {sentence_of(parting, *runs, sides[1].entry)}" if parting else "the frames are the same"
+    divergence = divergence_of(*runs)
+    led = stage_divergence_of(sides, runs, divergence, engine, SECONDS)
+    frames = f"the frames part at {sentence_of(divergence, *runs, sides[1].entry)}" if divergence else "the frames are the same"
     if led is not None:
         return [led.sentence, frames, *led.rules, *led.drawing]
-    return [frames, NO_STAGE] if parting else []
+    return [frames, NO_STAGE] if divergence else []

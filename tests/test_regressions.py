@@ -11,10 +11,10 @@ from unittest import mock
 
 from test_test import RULE, OfAGame
 from tool import plays, run
-from saxtegun import committed
-from saxtegun.committed import committed_text
+from saxtegun import regressions
 from saxtegun.lines import Frame, Run
 from saxtegun.playing import Engine
+from saxtegun.regressions import committed_text
 from saxtegun.sessions import sessions_in
 
 STUCK = "[ > Player | Crate ] -> [ Player | Crate ]"
@@ -68,10 +68,10 @@ class DayOfCommits(InAGitFolder):
         self.assertNotIn("committed", run("test", self.game, self.recordings).out)
 
     def test_where_no_time_is_left_nothing_is_said(self):
-        left = committed.EXPLAINING.left
-        self.addCleanup(lambda: setattr(committed.EXPLAINING, "left", left))
-        committed.EXPLAINING.left = 0
-        self.assertEqual(committed.partings(None, [], [], None, None), {})
+        left = regressions.EXPLAINING.left
+        self.addCleanup(lambda: setattr(regressions.EXPLAINING, "left", left))
+        regressions.EXPLAINING.left = 0
+        self.assertEqual(regressions.divergences(None, [], [], None, None), {})
 
     def test_the_time_is_that_of_all_batches(self):
         """A large text makes small batches, of which each may take nearly all of the time: 100 of them, a fiftieth of a second each, in a tenth."""
@@ -84,8 +84,8 @@ class DayOfCommits(InAGitFolder):
                 yield Run(number, "a", "passed", None, [start])
 
         runs = [Run(number, "a", "differs", None, [other]) for number in range(100)]
-        with mock.patch.object(committed.EXPLAINING, "left", 0.2), mock.patch.object(committed, "runs_within", played):
-            found = committed.parted([(it, it) for it in sessions.entries], runs, sessions, Engine())
+        with mock.patch.object(regressions.EXPLAINING, "left", 0.2), mock.patch.object(regressions, "runs_within", played):
+            found = regressions.parted([(it, it) for it in sessions.entries], runs, sessions, Engine())
         self.assertLess(len(found), 10)
 
 
@@ -93,8 +93,8 @@ class UsedUpWithin(unittest.TestCase):
     def test_where_the_time_ends_in_the_midst_what_is_known_is_told(self):
         """As the committed text is read, to be played without its clock."""
         sessions = sessions_in("x", json.dumps([["a", ["title x\n" * 1_000, [], ""]]] * 2))
-        with mock.patch.object(committed.EXPLAINING, "left", -1.0), committed.EXPLAINING.spent():
-            self.assertEqual(committed.parted([(it, it) for it in sessions.entries], [], sessions, Engine(has_ticks=True)), [])
+        with mock.patch.object(regressions.EXPLAINING, "left", -1.0), regressions.EXPLAINING.spent():
+            self.assertEqual(regressions.parted([(it, it) for it in sessions.entries], [], sessions, Engine(has_ticks=True)), [])
 
 
 class Hostile(InAGitFolder):
@@ -153,16 +153,16 @@ class Hostile(InAGitFolder):
         for name in ("none", ""):
             program, trace = self.hacks("speak")
             program.rename(self.room / f"git-remote-{name}")
-            for environment, is_trapped in ({**committed.OFFLINE}, False), ({"GIT_ALLOW_PROTOCOL": name}, True):
+            for environment, is_trapped in ({**regressions.OFFLINE}, False), ({"GIT_ALLOW_PROTOCOL": name}, True):
                 words = ["git", "-C", self.room, "-c", "remote.origin.url=/x", "-c", f"remote.origin.vcs={name}", "fetch", "origin"]
                 subprocess.run(words, stdout=subprocess.PIPE, stderr=subprocess.PIPE, env={**os.environ, "PATH": f"{self.room}:{os.environ['PATH']}", **environment})
                 self.assertEqual(trace.exists(), is_trapped, name)
             trace.unlink()
 
-    @unittest.skipUnless(committed.BOUND, "there is no shell")
+    @unittest.skipUnless(regressions.BOUND, "there is no shell")
     def test_a_commit_that_grows_takes_no_memory(self):
         """A commit of some megabytes that is larger than the memory of git once it is read."""
-        piece, count = b" " * 2**20, committed.MOST_MEMORY // 2**20
+        piece, count = b" " * 2**20, regressions.MOST_MEMORY // 2**20
         head = git(self.room, "cat-file", "commit", "HEAD").stdout
         begin = b"commit %d\0" % (len(head) + count * len(piece)) + head
         packer, digest = zlib.compressobj(1), hashlib.sha1(begin)
@@ -180,20 +180,20 @@ class Hostile(InAGitFolder):
 
     def test_the_time_is_that_of_all_answers(self):
         self.write("git", "#!/bin/sh\nsleep 0.4\necho 5\n").chmod(0o755)
-        with mock.patch.dict(committed.os.environ, PATH=f"{self.room}:{os.environ['PATH']}"):
+        with mock.patch.dict(regressions.os.environ, PATH=f"{self.room}:{os.environ['PATH']}"):
             for seconds, text in ((5, "5\n"), (0.6, None)):
-                with mock.patch.object(committed, "SECONDS", seconds):
+                with mock.patch.object(regressions, "SECONDS", seconds):
                     self.assertEqual(committed_text(str(self.game)), text)
 
     def test_the_environment_names_no_other_repository(self):
         words = {"GIT_DIR": "/nowhere", "GIT_OBJECT_DIRECTORY": "/nowhere", "GIT_ALLOW_PROTOCOL": "ext"}
-        before = dict(committed.os.environ)
-        self.addCleanup(lambda: (committed.os.environ.clear(), committed.os.environ.update(before)))
-        committed.os.environ.update(words)
+        before = dict(regressions.os.environ)
+        self.addCleanup(lambda: (regressions.os.environ.clear(), regressions.os.environ.update(before)))
+        regressions.os.environ.update(words)
         self.assertEqual(committed_text(str(self.game)), self.source)
 
     def test_what_takes_long_or_is_too_long_is_left(self):
-        self.write("long.txt", "x" * (committed.MOST_BYTES + 1))
+        self.write("long.txt", "x" * (regressions.MOST_BYTES + 1))
         self.write("latin.txt", "x")
         (self.room / "latin.txt").write_bytes(b"\xe4")
         self.commit()
@@ -201,11 +201,11 @@ class Hostile(InAGitFolder):
             self.assertIsNone(committed_text(str(self.room / name)), name)
         slow = self.write("git", "#!/bin/sh\nsleep 100\n")
         slow.chmod(0o755)
-        before, seconds = committed.os.environ["PATH"], committed.SECONDS
-        self.addCleanup(lambda: committed.os.environ.update(PATH=before) or setattr(committed, "SECONDS", seconds))
-        committed.os.environ["PATH"], committed.SECONDS = f"{self.room}:{before}", 0.2
+        before, seconds = regressions.os.environ["PATH"], regressions.SECONDS
+        self.addCleanup(lambda: regressions.os.environ.update(PATH=before) or setattr(regressions, "SECONDS", seconds))
+        regressions.os.environ["PATH"], regressions.SECONDS = f"{self.room}:{before}", 0.2
         self.assertIsNone(committed_text(str(self.game)))
-        committed.os.environ["PATH"] = f".:{self.room}"
+        regressions.os.environ["PATH"] = f".:{self.room}"
         self.assertIsNone(committed_text(str(self.game)))
 
 

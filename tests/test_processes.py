@@ -13,11 +13,11 @@ from unittest import mock
 
 from day import EXAMPLE, OnSessions, lines_of_example
 from tool import TOP, environment, run
-from saxtegun import playing, running
+from saxtegun import playing, processes
 from saxtegun.commands import Refused
 from saxtegun.lines import Run
 from saxtegun.playing import Engine, batches, runs_of
-from saxtegun.running import Unanswered
+from saxtegun.processes import Unanswered
 from saxtegun.sessions import MOST_BYTES, Sessions, read_sessions, sessions_in
 
 # Answers each session of its file at once, but for one that is named slow, whose answer takes as long as nobody waits.
@@ -147,14 +147,14 @@ def hear_signals():
 class Bounds(Programs):
     def watched(self, script, **bounds):
         with open(self.room / "lines", "wb") as lines:
-            before = {name: getattr(running, name) for name in bounds}
+            before = {name: getattr(processes, name) for name in bounds}
             try:
                 for name, value in bounds.items():
-                    setattr(running, name, value)
-                return running.watched([str(self.program(script))], lines)
+                    setattr(processes, name, value)
+                return processes.watched([str(self.program(script))], lines)
             finally:
                 for name, value in before.items():
-                    setattr(running, name, value)
+                    setattr(processes, name, value)
 
     def test_an_endless_program_is_cut_and_that_is_told(self):
         with self.assertRaisesRegex(Refused, "was stopped: it wrote more than 0 GiB of lines; play fewer sessions at once"):
@@ -281,7 +281,7 @@ BEGUN = """
 import os, runpy, signal, sys
 class Finder:
     def find_spec(self, name, path=None, target=None):
-        if name == "saxtegun.calling":
+        if name == "saxtegun.command_line":
             os.kill(os.getpid(), signal.SIGINT)
 sys.meta_path.insert(0, Finder())
 sys.argv = ["saxtegun", "--version"]
@@ -373,14 +373,14 @@ class Held(Programs):
     def test_a_signal_comes_behind_what_is_not_left_halfway(self):
         done = []
         for number in (signal.SIGTERM, signal.SIGINT):
-            with self.assertRaises(Ended), running.held():
+            with self.assertRaises(Ended), processes.held():
                 os.kill(os.getpid(), number)
                 done.append(number)
             self.assertEqual((done[-1], signal.getsignal(number)), (number, self.hear))
 
     def test_what_is_ignored_stays_ignored(self):
         signal.signal(signal.SIGTERM, signal.SIG_IGN)
-        with running.held():
+        with processes.held():
             os.kill(os.getpid(), signal.SIGTERM)
         self.assertEqual(signal.getsignal(signal.SIGTERM), signal.SIG_IGN)
 
@@ -394,7 +394,7 @@ class Held(Programs):
             time.sleep(0.1)
             return ran[0]
 
-        with mock.patch.object(subprocess, "Popen", begin), self.assertRaises(Ended), running.started(["sleep", "1000"], None, subprocess.DEVNULL):
+        with mock.patch.object(subprocess, "Popen", begin), self.assertRaises(Ended), processes.started(["sleep", "1000"], None, subprocess.DEVNULL):
             self.fail("it goes on")
         self.assertEqual(ran[0].poll(), -signal.SIGTERM)
         ran[0].stderr.close()

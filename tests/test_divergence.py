@@ -6,8 +6,8 @@ import unittest
 from day import EXAMPLE
 from test_test import RULE, OfAGame
 from tool import PROGRAM, plays, run
+from saxtegun.divergence import divergence_of
 from saxtegun.lines import Frame, Run
-from saxtegun.parting import parting_of
 
 SAME = "5 sessions: 5 the same, 0 diverge\n"
 
@@ -47,9 +47,9 @@ class Compare(OfAGame):
 
     def test_a_run_that_ends_before_the_other_is_reported(self):
         frames = [Frame(0, "start", "a:0,\n"), Frame(1, "move", "a:0,\n")]
-        parting = parting_of(Run(0, "a", "passed", None, frames), Run(0, "a", "stopped", "loop-limit", frames[:1]))
-        self.assertEqual((parting.frame, parting.kind, parting.other), (1, "end", None))
-        self.assertIsNone(parting_of(Run(0, "a", "passed", None, frames), Run(0, "a", "passed", None, list(frames))))
+        divergence = divergence_of(Run(0, "a", "passed", None, frames), Run(0, "a", "stopped", "loop-limit", frames[:1]))
+        self.assertEqual((divergence.frame, divergence.kind, divergence.other), (1, "end", None))
+        self.assertIsNone(divergence_of(Run(0, "a", "passed", None, frames), Run(0, "a", "passed", None, list(frames))))
 
     def test_where_nothing_was_played_nothing_is_the_same(self):
         """Two files without a line, as two programs leave that crash, and sessions that both sides refuse."""

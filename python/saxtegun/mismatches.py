@@ -4,7 +4,7 @@ from __future__ import annotations
 from typing import Dict, Iterator, NamedTuple, Optional, Tuple, Union
 
 from saxtegun.commands import ORDERS, Refused, cut, plural
-from saxtegun.explaining import input_told
+from saxtegun.explanations import input_told
 from saxtegun.levels import Labels, read_cells, sets_of
 from saxtegun.levelsets import drawn_start
 from saxtegun.lines import Run, runs_in

@@ -5,7 +5,7 @@ import re
 from typing import Dict, Iterable, List, NamedTuple, Tuple
 
 from saxtegun.commands import cut, plural, printable
-from saxtegun.guarding import guarded, without_marks
+from saxtegun.logs import guarded, without_marks
 
 MOST_FAILURES = 20
 # So many bytes a summary tells of a failure at most: GitHub shows none of a summary that has more than 1 MiB.

@@ -7,12 +7,12 @@ from typing import AbstractSet, Dict, FrozenSet, List, NamedTuple, Optional, Seq
 from saxtegun.budget import EXPLAINING, NOT_LOOKED_AT, UsedUp
 from saxtegun.commands import Refused, fold
 from saxtegun.culprits import Repeated, repeated_in
-from saxtegun.explaining import input_told, stop_of
+from saxtegun.explanations import input_told, stop_of
 from saxtegun.games import game_of
 from saxtegun.levels import Labels, each_once, in_rows, read_cells, width_of
 from saxtegun.lines import Run
 from saxtegun.playing import Engine, runs_within
-from saxtegun.running import Unanswered
+from saxtegun.processes import Unanswered
 from saxtegun.sessions import Entry, Input, Sessions
 from saxtegun.sources import lines_of, words_of
 

@@ -9,10 +9,10 @@ from saxtegun import culprits, differences, levelsets, reasons
 from saxtegun.budget import EXPLAINING, NOT_LOOKED_AT, UsedUp
 from saxtegun.commands import cut, plural, printable
 from saxtegun.games import Game, game_of
-from saxtegun.lines import UNANSWERED, Run
-from saxtegun.running import UNANSWERED_BEGIN
-from saxtegun.sessions import Entry
 from saxtegun.levels import Labels, differing, in_rows, position, read_cells, width_of
+from saxtegun.lines import UNANSWERED, Run
+from saxtegun.processes import UNANSWERED_BEGIN
+from saxtegun.sessions import Entry
 
 # How many cells that differ are told.
 CELLS_TOLD = 8
