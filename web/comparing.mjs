@@ -1,5 +1,5 @@
-// How two runs of a session part, and how the level that a session reached differs from the recorded one. The twin of python/saxtegun/parting.py
-// and of what explaining.py says of the end.
+// How two runs of a session part, and how the level that a session reached differs from the recorded one. The twin of python/saxtegun/divergence.py
+// and of what explanations.py says of the end.
 import { differing, isOfOneSize } from "./levels.mjs";
 import { Labels, readCells, readLevel } from "./level-text.mjs";
 import { plural } from "./elements.mjs";

@@ -1,5 +1,5 @@
 // Recordings in any text: what an editor's console prints, with whatever stands around it, or published test data. The twin of
-// python/saxtegun/finding.py, which holds what is looked for; both are held to the texts of tests/forms.
+// python/saxtegun/recording_search.py, which holds what is looked for; both are held to the texts of tests/forms.
 import { ROUNDS, WHITE_SPACE, behindSpace, endOfEscaped, endOfText, tokenAt, unescaped } from "./javascript.mjs";
 import { faultOf, restOf } from "./session-file.mjs";
 

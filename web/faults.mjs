@@ -1,5 +1,5 @@
 // What the cause of a session is, in words, with the culprit: the name that isn't there, the keyword that isn't played, the lines of a loop. The
-// twin of what python/saxtegun/explaining.py and culprits.py say.
+// twin of what python/saxtegun/explanations.py and culprits.py say.
 import { nameLinesOf, shortened } from "./game.mjs";
 import { nearest } from "./nearest.mjs";
 import { fold, lineOf, linesOf, readSource, wordsOf } from "./source.mjs";
