@@ -6,6 +6,8 @@ import { Refusal, codingOf, textOf } from "./session-file.mjs";
 
 const MOST_OF_A_FILE = 64 * 2 ** 20; // of a file that is read, as python/saxtegun/files.py has it
 
+const unreadableTold = (name) => `${name} can't be read`;
+
 // Why a file isn't read, by its size, or null.
 const tooLongTold = (name, size) => (size > MOST_OF_A_FILE ? `${name} has more than 64 MiB, and is not read` : null);
 
@@ -53,12 +55,15 @@ export function download(name, content) {
   setTimeout(() => URL.revokeObjectURL(address), 10_000);
 }
 
-// Hands on files, one behind the other: take(name, bytes). One that is too long is told by refuse(why), and none of it is read.
+// The bytes of a file, or null of what can't be read, as a folder.
+const readBytes = (file) => file.arrayBuffer().then((buffer) => new Uint8Array(buffer), () => null);
+
+// Hands on files, one behind the other: take(name, bytes). One that is too long, or can't be read, is told by refuse(why), and none of it is taken.
 export async function takeEach(files, take, refuse) {
   for (const file of files) {
-    const why = tooLongTold(file.name, file.size);
-    if (why === null) await take(file.name, new Uint8Array(await file.arrayBuffer()));
-    else refuse(why);
+    const why = tooLongTold(file.name, file.size), bytes = why === null ? await readBytes(file) : null;
+    if (bytes !== null) await take(file.name, bytes);
+    else refuse(why ?? unreadableTold(file.name));
   }
 }
 

@@ -38,7 +38,7 @@ function isNameLost({ work: { name } }, after) {
 }
 
 // What tells one session of a file from another.
-const textOfEntry = ({ name, source, inputs, level, index }) => JSON.stringify([name, source, inputs, level, index]);
+const textOfEntry = ({ name, source, inputs, level, index, rest = [] }) => JSON.stringify([name, source, inputs, level, index, ...rest]);
 
 function isFileLost(before, after) {
   if (before.file === null || before.file === after.file || !(before.isUnsaved || after.isUnsaved)) return false;

@@ -3,6 +3,7 @@ import assert from "node:assert/strict";
 import test from "node:test";
 import { Ending, endingTold, obstacleTold, partingOf, partingTold } from "../../web/comparing.mjs";
 import { handed, takeEach } from "../../web/handing.mjs";
+import { lostIn } from "../../web/past.mjs";
 import { meaningOf } from "../../web/keys.mjs";
 import { packed, unpacked } from "../../web/packing.mjs";
 import { playedInParts } from "../../web/parts.mjs";
@@ -236,6 +237,19 @@ test("a file that is too long is told, and not read", async () => {
   assert.deepEqual(taken, [["a", 3], ["b", 0]]);
   assert.deepEqual(refused, ["long has more than 64 MiB, and is not read", "endless has more than 64 MiB, and is not read"]);
   assert.throws(() => handed("pasted", { length: most + 1 }), new Refusal("pasted has more than 64 MiB, and is not read"));
+});
+
+test("what can't be read, as a folder, is told, and what comes behind it is read", async () => {
+  const taken = [], refused = [], folder = { name: "folder", size: 0, arrayBuffer: () => Promise.reject(new Error("a folder")) };
+  await takeEach([folder, { name: "b", size: 1, arrayBuffer: async () => new ArrayBuffer(1) }], async (name, bytes) => taken.push([name, bytes.length]), (why) => refused.push(why));
+  assert.deepEqual([taken, refused], [[["b", 1]], ["folder can't be read"]]);
+});
+
+test("a session that is lost with what must be so of it can be put back", () => {
+  const entry = (rest) => ({ name: "a", source: "", inputs: [0], level: "", index: 0, ...(rest ? { rest } : {}) }), state = (file) => ({ file, isUnsaved: true, past: [], text: "", work: { inputs: [], name: "" } });
+  const [plain, demanded] = [undefined, ["solved"]].map((rest) => state({ entries: [entry(rest)] }));
+  assert.equal(lostIn(demanded, plain).file, demanded.file);
+  assert.equal(lostIn(demanded, state({ entries: [entry(["solved"])] })), null);
 });
 
 const kindOf = (text) => handed("f", typeof text === "string" ? bytesOf(text) : text).kind;
