@@ -331,8 +331,14 @@ class InACi(unittest.TestCase):
         self.assertIn("5 sessions: 4 passed, 1 differs", out)
         for path in job["artifacts"]["paths"]:
             self.assertTrue((runner.work / path).is_file(), path)
-        status, _, _ = self.runner(env={**job["variables"], "FROM": self.address}).run({"run": "\n".join(job["script"])})
-        self.assertEqual(status, 1)
+        # where it ends early nothing is kept that a repository has by these names, as if it were the result
+        for variables in ({}, {"SHA256": self.sum}):
+            runner = self.runner(env={**job["variables"], "FROM": self.address, **variables})
+            for path in job["artifacts"]["paths"]:
+                (runner.work / path).write_text("committed")
+            (runner.work / "sessions.json").write_text("no sessions")
+            self.assertNotEqual(runner.run({"run": "\n".join(job["script"])})[0], 0)
+            self.assertEqual([it for it in job["artifacts"]["paths"] if (runner.work / it).exists()], [])
 
     def test_a_matrix_of_jobs_gives_the_bytes_of_one_run(self):
         jobs = next(it["jobs"] for it in files_of_page() if "part" in it.get("jobs", {}))

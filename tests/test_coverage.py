@@ -7,6 +7,7 @@ from argparse import Namespace
 
 from test_test import RULE, OfAGame
 from tool import plays, run
+from saxtegun.commands import Refused
 from saxtegun.lines import Frame, Run
 from saxtegun.omissions import Omissions
 from saxtegun.sessions import sessions_in
@@ -44,6 +45,27 @@ class LeavingOut(unittest.TestCase):
     def test_the_next_line_of_a_group_begins_it_behind_its_comments(self):
         omissions = Omissions("RULES\n[ a ] -> [ b ]\n(a + b) + [ b ] (c) -> [ c ]\n")
         self.assertEqual(omissions.without(omissions.parts()[0]), "RULES\n\n(a + b)   [ b ] (c) -> [ c ]\n")
+
+
+class Nothing(unittest.TestCase):
+    """Where no line was left out nothing is said of what sessions notice."""
+
+    def play(self, entries, of, engine):
+        for number, it in enumerate(entries):
+            is_whole = it.source in (self.source, f"{self.source}\n")
+            yield Run(number, it.name, "passed", None, [Frame(0, "start", "a:0,")]) if is_whole else Run(number, it.name, "refused", "BadRule:2", [])
+
+    def assert_refused(self, source, why):
+        self.source = source
+        sessions = sessions_in("s.json", json.dumps([["a", [source, [], "a:0,"]]]))
+        with unittest.mock.patch.object(coverage, "runs_played", self.play):
+            self.assertRaisesRegex(Refused, f"^no line was left out: {why}$", coverage.Coverage(sessions, Namespace(order="columns", workers=None, program=None)).run)
+
+    def test_sources_without_a_line_are_refused(self):
+        self.assert_refused("RULES\nWINCONDITIONS\nLEVELS\na\n", "no source that is played has a rule or a win line")
+
+    def test_lines_of_which_none_can_be_left_out_alone_are_refused(self):
+        self.assert_refused(SOURCE, "without any of them the rest is refused")
 
 
 class Memory(unittest.TestCase):

@@ -30,6 +30,17 @@ class Compare(OfAGame):
         text = json.loads(self.lines.read_text(encoding="utf-8").splitlines()[0])["level"]
         self.assertEqual(self.compare(self.changed(0, level=text.replace("background wall:", "Wall background:"))).out, SAME)
 
+    def test_a_level_whose_cells_stand_in_other_lines_is_another(self):
+        """In each line, and not in the first alone; but the last line feed may be missing, and a carriage return be there."""
+        text = json.loads(self.lines.read_text(encoding="utf-8").splitlines()[0])["level"]
+        first, second, rest = text.split("\n", 2)
+        for other in (f"{first}\n{second}{rest}", f"{first}\n\n{second}\n{rest}", f"{first}\n{second[:-2]}\n{second[-2:]}{rest}"):
+            answer = self.compare(self.changed(0, level=other))
+            self.assertEqual(answer.status, 1)
+            self.assertIn("frame 0, at the start\n    the cells are the same, and the line feeds between them are not\n", answer.out)
+        for same in (text.rstrip("\n"), text.replace("\n", "\r\n")):
+            self.assertEqual(self.compare(self.changed(0, level=same)).out, SAME)
+
     def test_the_first_frame_that_differs_is_reported_with_its_input(self):
         text = json.loads(self.lines.read_text(encoding="utf-8").splitlines()[2])["level"]
         answer = self.compare(self.changed(2, level=text.replace("player", "wall")), EXAMPLE)
@@ -41,7 +52,9 @@ class Compare(OfAGame):
         self.assertTrue(answer.out.endswith("5 sessions: 4 the same, 1 diverges\n"))
 
     def test_another_kind_and_another_close_are_reported(self):
-        self.assertIn("frame 1, after input 0: one shows move of 1 inputs, the other tick of 1", self.compare(self.changed(1, kind="tick")).out)
+        told = self.compare(self.changed(1, kind="tick")).out
+        self.assertIn("frame 1, after input 0: one shows move of 1 inputs, the other tick of 1", told)
+        self.assertNotIn("line feeds", told)
         last = len(self.lines.read_text(encoding="utf-8").splitlines()) - 1
         self.assertIn("the same 17 frames, and then one is differs, the other passed", self.compare(self.changed(last, close="passed"), EXAMPLE).out)
 

@@ -1,11 +1,12 @@
 """Lines that are held against the sessions that they must be of."""
 import json
+import tracemalloc
 import unittest
 
 from day import EXAMPLE, OnSessions
 from tool import run
 from saxtegun.lines import Frame, Run
-from saxtegun.mismatches import ALL_BUT_ORDER, NAMES_ALONE, OF_ANY_ENGINE, mismatch
+from saxtegun.mismatches import ALL_BUT_ORDER, NAMES_ALONE, OF_ANY_ENGINE, Tests, mismatch, start_fault
 from saxtegun.sessions import sessions_in
 
 LEVEL, OTHER = "background:0,\n", "background player:0,\n"
@@ -66,6 +67,39 @@ class Inputs(unittest.TestCase):
         self.assertIsNone(told([3, 1], [START], tests=OF_ANY_ENGINE))
         self.assertIsNone(told([3, 1], [START], tests=NAMES_ALONE))
         self.assertEqual(told([3], [START, [2, "move"]], tests=NAMES_ALONE), "session 0 takes more inputs than its 1")
+
+
+class Starts(unittest.TestCase):
+    """First frames that are held against the level that a source draws."""
+
+    def fault(self, level, rows, **words):
+        source = f"OBJECTS\nBackground .\nred\nPlayer p\nred\nLEGEND\nCOLLISIONLAYERS\nBackground\nPlayer\nLEVELS\n{rows}\n"
+        entry = sessions_in("x", json.dumps([["a", [source, [], LEVEL]]])).entries[0]
+        return start_fault(entry, Run(0, "a", "differs", None, [Frame(0, "start", level)]), Tests(is_drawn=True, **words))
+
+    def test_a_level_of_the_same_size_is_looked_at_in_both_orders(self):
+        level = "background player:0,background:1,\n1,1,\n"
+        self.assertIsNone(self.fault(level, "p.\n..", order="rows"))
+        self.assertIsNone(self.fault("background player:0,background:1,1,\n0,1,1,\n", "p..\np..", order="rows"))
+        self.assertIn("was played in the order rows", self.fault("background player:0,background:1,1,\n0,1,1,\n", "p..\np..", order="columns"))
+        self.assertIn("doesn't begin with the level", self.fault(level, "..\np.", order="rows"))
+        self.assertIn("doesn't begin with the level", self.fault(level, "p..\n..", order="rows"))
+
+    def test_levels_are_drawn_up_to_the_limits_of_the_program(self):
+        for width, height in ((255, 1), (1, 255), (128, 128)):
+            level = "background:0," + "0," * (width * height - 1)
+            self.assertIsNone(self.fault(level, ("." * width + "\n") * height, order="rows"))
+        for width, height in ((256, 1), (1, 256), (129, 128)):
+            level = "background:0," + "0," * (width * height - 1)
+            self.assertIn("doesn't begin with the level", self.fault(level, ("." * width + "\n") * height, order="rows"))
+
+    def test_no_level_is_drawn_that_few_letters_spell_and_no_memory_holds(self):
+        """Each row is as wide as the first. 27 KB would be 162,000,000 cells."""
+        for level in ("", "background:0,", "background:0," + "0," * 17_999):
+            tracemalloc.start()
+            self.addCleanup(tracemalloc.stop)
+            self.assertIn("doesn't begin with the level", self.fault(level, "." * 18_000 + "\n" + "p\n" * 8_999, order="columns"))
+            self.assertLess(tracemalloc.get_traced_memory()[1], 2**24)
 
 
 class Verbs(OnSessions):

@@ -151,6 +151,28 @@ class Programs(InAFreshClone):
         said = "saxtegun: the program that is built here plays, crates/pz_replayer/out/pz_replayer\n"
         self.assertEqual(self.called("lines", self.empty), (0, f"replay --order columns {self.empty}\n", said))
 
+    def test_replay_runs_nothing_of_a_folder(self):
+        """It is a script: its shell, and what that calls, are looked for along the path."""
+        shutil.copy(TOP / "replay", self.top)
+        self.put(self.top / "crates/pz_replayer/out/pz_replayer", '#!/bin/sh\necho built "$@"\n')
+        strange = self.room / "stranger"
+        for name in ("bash", "dirname", "find"):
+            self.put(strange / name, f'#!/bin/sh\ntouch {self.room}/ran\nPATH=/usr/bin:/bin\nexec {name} "$@"\n')
+        self.put(strange / "setup", f"touch {self.room}/ran\n")
+        for path in (".:/usr/bin:/bin", ":/usr/bin:/bin", "../stranger:/usr/bin:/bin", ".", ""):
+            with self.subTest(path), unittest.mock.patch.dict(os.environ, BASH_ENV="./setup"):
+                for named in ((), ("--program", self.top / "replay")):
+                    status, out, errors = self.called("lines", self.empty, *named, path=path, folder=strange)
+                    self.assertEqual((status, out), (0, f"built --order columns {self.empty}\n"), errors)
+                    self.assertFalse((self.room / "ran").exists())
+
+    def test_node_reads_nothing_of_a_folder_before_our_functions(self):
+        self.release()
+        told = {"NODE_OPTIONS": "--require ./setup.cjs", "NODE_PATH": ".", "NODE_COMPILE_CACHE": "."}
+        self.put(self.path / "node", '#!/bin/sh\nfound="$NODE_OPTIONS$NODE_PATH$NODE_COMPILE_CACHE"\nif test "$1" = --version; then test -z "$found" && echo v20.0.0; else echo "$found."; fi\n')
+        with unittest.mock.patch.dict(os.environ, told):
+            self.assertEqual(self.called("lines", self.empty), (0, ".\n", f"saxtegun: {PLAYED}20.0.0\n"))
+
     def test_comparing_and_shrinking_begin_no_build(self):
         self.put(self.top / "replay", f'#!/bin/sh\ntouch {self.room}/began\nexit 2\n')
         mine = self.room / "mine"

@@ -3,6 +3,7 @@ them ends a line, or moves a terminal's cursor."""
 import json
 import os
 import re
+import resource
 import subprocess
 import sys
 import unittest
@@ -64,8 +65,8 @@ class OnStreams(OnSessions):
 
     def ends(self, words, **streams):
         """The status and what is told of a call with these streams."""
-        streams = {"stdin": subprocess.DEVNULL, "stdout": subprocess.PIPE, "stderr": subprocess.PIPE, **streams}
-        with subprocess.Popen([sys.executable, TOP / "saxtegun", *map(str, words)], env=environment(), **streams) as ran:
+        streams = {"stdin": subprocess.DEVNULL, "stdout": subprocess.PIPE, "stderr": subprocess.PIPE, "env": environment(), **streams}
+        with subprocess.Popen([sys.executable, TOP / "saxtegun", *map(str, words)], **streams) as ran:
             errors = ran.stderr.read().decode() if ran.stderr else ""
             return ran.wait(), errors
 
@@ -114,6 +115,32 @@ class OnStreams(OnSessions):
                 status, errors = self.ends(words, stdout=writer)
                 os.close(writer)
                 self.assertEqual((status, "Traceback" in errors), (2, False), errors)
+
+    def of_data(self):
+        """The calls that write data, each where Python holds output back, and where it is told not to."""
+        words = [it for it in self.calls if it[0] in ("explain", "source", "accept", "report", "testdata", "junit", "join")]
+        return [(it, {**environment(), **told}) for told in ({}, {"PYTHONUNBUFFERED": "1"}) for it in words]
+
+    def test_a_file_that_takes_only_a_part_is_reported(self):
+        for words, env in self.of_data():
+            with self.subTest(words[0], unbuffered="PYTHONUNBUFFERED" in env), open(self.room / "out", "wb") as out:
+                status, errors = self.ends(words, stdout=out, env=env, preexec_fn=lambda: resource.setrlimit(resource.RLIMIT_FSIZE, (500, 500)))
+                self.assertEqual((status, (self.room / "out").stat().st_size), (2, 500))
+                self.assertTrue(errors.endswith(f"saxtegun {words[0]}: writing failed: File too large\n"), errors)
+
+    def test_a_full_pipe_that_lets_nobody_wait_is_reported(self):
+        for words, env in self.of_data():
+            with self.subTest(words[0], unbuffered="PYTHONUNBUFFERED" in env):
+                reader, writer = os.pipe()
+                os.set_blocking(writer, False)
+                # the room that is left takes a part of a page, and nothing of what is short
+                os.write(writer, bytes(2**20))
+                os.read(reader, 4096 if words[0] == "report" else 1)
+                status, errors = self.ends(words, stdout=writer, env=env)
+                os.close(writer)
+                os.close(reader)
+                self.assertEqual(status, 2)
+                self.assertTrue(errors.endswith(f"saxtegun {words[0]}: writing failed: write could not complete without blocking\n"), errors)
 
     def test_closed_streams_are_reported(self):
         for words in self.calls:

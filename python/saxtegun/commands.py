@@ -3,6 +3,7 @@ from __future__ import annotations
 
 import argparse
 import gc
+import io
 import os
 import re
 import signal
@@ -224,11 +225,21 @@ def forget_ends() -> None:
             signal.signal(number, signal.SIG_DFL)
 
 
+def buffered(stream: Any) -> Any:
+    """A stream that fails where its file takes only a part of what is written. Python opens none such where it is told to hold nothing back
+    (PYTHONUNBUFFERED, `python3 -u`): the rest would be lost without a word."""
+    if not isinstance(stream.buffer, io.RawIOBase):
+        return stream
+    return io.TextIOWrapper(io.BufferedWriter(stream.detach()), line_buffering=True)
+
+
 def open_streams(name: str, is_data: bool) -> None:
     """Makes the streams what they are to be: of UTF-8, and logs, but for one that takes data."""
     for which in ("stdout", "stderr"):
         stream = getattr(sys, which)
         if hasattr(stream, "reconfigure"):
+            stream = buffered(stream)
+            setattr(sys, which, stream)
             stream.reconfigure(encoding="utf-8", newline="\n", errors="backslashreplace")
             if is_log(stream) and not (is_data and which == "stdout"):
                 setattr(sys, which, Log(stream))

@@ -43,7 +43,12 @@ def is_same_level(one: str, other: str) -> bool:
         return True
     labels = Labels()
     cells = read_cells(one, labels)
-    return cells is not None and cells == read_cells(other, labels) and one.partition("\n")[0].count(",") == other.partition("\n")[0].count(",")
+    return cells is not None and cells == read_cells(other, labels) and cells_of_lines(one) == cells_of_lines(other)
+
+
+def cells_of_lines(text: str) -> List[int]:
+    """How many cells stand between the line feeds of a level text, of which the last may be missing."""
+    return [it.count(",") for it in text.rstrip("\r\n").split("\n")]
 
 
 def divergence_of(one: Run, other: Run) -> Optional[Divergence]:
@@ -91,6 +96,8 @@ def below_of(divergence: Divergence, entry: Optional[Entry], order: str) -> List
     if read[0] is None or read[1] is None or len(one) != len(other) or width != width_of(divergence.other.level, len(other)):
         return [f"one has a level of {plural(len(one), 'cell')}, the other of {len(other)}"]
     numbers = differing(one, other)
+    if not numbers and divergence.kind == "level":
+        return ["the cells are the same, and the line feeds between them are not"]
     lines: List[str] = []
     for number in numbers[:CELLS_TOLD]:
         column, row = position(order, width, len(one), number)

@@ -15,6 +15,8 @@ from saxtegun.sessions import Entry
 from saxtegun.sources import lines_of
 
 Cells = Tuple[FrozenSet[str], ...]
+# No program plays a level whose sides, or cells, are more.
+MOST_SIDE, MOST_CELLS = 255, 16_384
 
 
 class Drawn(NamedTuple):
@@ -107,6 +109,21 @@ def drawn_cells(source: str, number: int, order: str) -> Optional[Cells]:
 def drawn_start(entry: Entry, order: str) -> Optional[Cells]:
     """The cells of the level that a session begins in, in an order."""
     return drawn_cells(entry.source, first_level(entry), order)
+
+
+@lru_cache(maxsize=64)
+def count_drawn(source: str, number: int) -> int:
+    """How many cells the level of this number has, from 1; 0 where there is none, or none that is played."""
+    places = places_of_levels(source)
+    rows = entries_of_levels(source)[places[number - 1]].rows if number <= len(places) else ("",)
+    width, height = len(rows[0]), len(rows)
+    return width * height if max(width, height) <= MOST_SIDE and width * height <= MOST_CELLS else 0
+
+
+def may_begin_with(entry: Entry, count: int) -> bool:
+    """Whether a session may begin in a level of so many cells. None is to be drawn for others: each row is as wide as the first, so that few letters of a
+    stranger's would draw more than any memory holds."""
+    return 0 < count == count_drawn(entry.source, first_level(entry))
 
 
 def wins_of(run: Run) -> int:

@@ -6,7 +6,7 @@ from typing import Dict, Iterator, NamedTuple, Optional, Tuple, Union
 from saxtegun.commands import ORDERS, Refused, cut, plural
 from saxtegun.explanations import input_told
 from saxtegun.levels import Labels, read_cells, sets_of
-from saxtegun.levelsets import drawn_start
+from saxtegun.levelsets import drawn_start, may_begin_with
 from saxtegun.lines import Run, runs_in
 from saxtegun.sessions import Entry, Sessions
 
@@ -102,11 +102,11 @@ def start_fault(entry: Entry, run: Run, tests: Tests) -> Optional[str]:
     cells = read_cells(run.frames[0].level, labels)
     if cells is None:
         return None
-    shown = tuple(sets_of(cells, labels))
-    if shown == drawn_start(entry, tests.order):
+    shown = tuple(sets_of(cells, labels)) if may_begin_with(entry, len(cells)) else None
+    if shown is not None and shown == drawn_start(entry, tests.order):
         return None
     other = ORDERS[1 - ORDERS.index(tests.order)]
-    if shown == drawn_start(entry, other):
+    if shown is not None and shown == drawn_start(entry, other):
         return f"session {run.number} was played in the order {other}, as its first frame shows, and not in the order {tests.order}"
     return f"session {run.number} doesn't begin with the level that its source draws: it was played over another source" if tests.is_drawn else None
 

@@ -64,7 +64,7 @@ def module_told(folder: Path) -> str:
 def version_of_node(node: str) -> str:
     """The version that Node tells; nothing where it tells none."""
     try:
-        told = subprocess.run([node, "--version"], stdin=subprocess.DEVNULL, stdout=subprocess.PIPE, stderr=subprocess.DEVNULL, check=False).stdout
+        told = subprocess.run([node, "--version"], stdin=subprocess.DEVNULL, stdout=subprocess.PIPE, stderr=subprocess.DEVNULL, env=of_our_own(), check=False).stdout
     except OSError:
         return ""
     found = re.match(rb"v(\d+\.\d+\.\d+)", told)
@@ -82,11 +82,22 @@ class Player(NamedTuple):
     told: str
 
 
+def whole_path() -> str:
+    """The entries of the path that are whole: what else there is depends on the folder, which may be a stranger's."""
+    return os.pathsep.join(filter(os.path.isabs, os.environ.get("PATH", os.defpath).split(os.pathsep)))
+
+
 def on_path(name: str) -> Optional[str]:
-    """A program on the path, of which the entries count that are whole: what else there is depends on the folder, which may be a stranger's."""
-    entries = os.environ.get("PATH", os.defpath).split(os.pathsep)
-    found = shutil.which(name, path=os.pathsep.join(filter(os.path.isabs, entries)))
+    """A program on the path, of which the entries count that are whole."""
+    found = shutil.which(name, path=whole_path())
     return found if found and os.path.isabs(found) else None
+
+
+def of_our_own() -> Dict[str, str]:
+    """The environment of Node where our own functions play, and of our own ./replay: what these call is looked for where the path is whole, or else where
+    programs are by rule, and nothing is read first that a variable names, since a folder of a stranger's may have it."""
+    names = {name: value for name, value in os.environ.items() if not name.startswith("NODE_") and name not in ("BASH_ENV", "ENV")}
+    return {**names, "PATH": whole_path() or os.defpath}
 
 
 def not_taken(name: str) -> str:
@@ -112,11 +123,17 @@ def in_node() -> Player:
     return Player([node, str(REPLAY_IN_NODE)], f"no program is built here; {module_told(RELEASED)}, plays in Node {version}")
 
 
+def is_in_node(words: Sequence[str]) -> bool:
+    """Whether our own functions play in Node where a program is called so."""
+    return list(words[1:2]) in ([str(REPLAY_IN_NODE)], [str(STAGES_IN_NODE)])
+
+
 def environment_of(words: Sequence[str]) -> Optional[Dict[str, str]]:
     """The environment in which a program is called: where our own functions play in Node, with the name of the released module; None for what there is. No other
     program is told of that module, since another release's functions, or those of a candidate, would take it for their own."""
-    is_ours = list(words[1:2]) in ([str(REPLAY_IN_NODE)], [str(STAGES_IN_NODE)])
-    return {**os.environ, "SAXTEGUN_MODULE": str(RELEASED / MODULE)} if is_ours else None
+    if is_in_node(words):
+        return {**of_our_own(), "SAXTEGUN_MODULE": str(RELEASED / MODULE)}
+    return of_our_own() if os.path.realpath(words[0]) == os.path.realpath(BUILDS) else None
 
 
 def player() -> Player:
@@ -134,7 +151,7 @@ def choose() -> List[str]:
 
 def file_that_plays(words: Sequence[str]) -> Path:
     """The file that decides what is shown where a program is called so: the module where that plays in Node, and the program where ./replay calls it."""
-    if environment_of(words) is not None:
+    if is_in_node(words):
         return RELEASED / MODULE
     return BUILT if words[0] == str(BUILDS) and BUILT.is_file() else Path(words[0])
 

@@ -173,6 +173,9 @@ class Coverage:
                 self.judge(trial, [next(found) for _ in trial.entries])
             done += len(batch)
             progress(done, len(trials))
+        if not self.tried:
+            # an answer would read as if each line were noticed
+            raise Refused(f"no line was left out: {'without any of them the rest is refused' if trials else 'no source that is played has a rule or a win line'}")
 
 
 def main(given: Namespace) -> int:
