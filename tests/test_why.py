@@ -271,6 +271,21 @@ class Programs(unittest.TestCase):
             self.assertEqual(programs.environment_of(words)["SAXTEGUN_MODULE"], str(programs.RELEASED / programs.MODULE))
 
 
+class OfOneName(OnSessions):
+    """Sessions of which another has the name are asked for by their numbers."""
+
+    def test_each_is_asked_for_by_its_number(self):
+        again = json.dumps([["a", ["", [], ""]], ["b", ["", [], ""]], ["a", ["", [1], ""]]])
+        sessions = sessions_in("s.json", again)
+        self.assertRaisesRegex(Refused, r"^--session 'a' fits 2 sessions of s\.json: a \(--number 0\), a \(--number 2\)$", why.entry_named, sessions, "a")
+        self.assertIs(why.entry_at(sessions, 2), sessions.entries[2])
+        path = self.write("s.json", again)
+        self.assert_refused(run("why", path, "--number", "2", "--input", "7", "--program", "/bin/true"), "a has 1 input, counted from 0")
+        self.assert_refused(run("why", path, "--number", "3", "--program", "/bin/true"), "has no session 3: 3 sessions, counted from 0")
+        for words in (("--number", "-1"), ("--number", "a"), ("--number", "1", "--session", "b"), ()):
+            self.assertEqual(run("why", path, *words).status, 2)
+
+
 class InWords(unittest.TestCase):
     def test_groups_and_loops_are_told_by_their_lines(self):
         source = GAME.replace("RULE", "startloop\n[ crate ] -> [ crate ]\n[ player ] -> [ player ]\nendloop\nlate [ crate ] -> [ crate ]\n+ [ player ] -> [ player ]")

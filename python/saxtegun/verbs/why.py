@@ -38,7 +38,7 @@ from saxtegun.stage_divergence import Side, divergence_told
 from saxtegun.stages import STOPS, Stop, lines_and_stages, stages_and_firings_of, stages_of
 from saxtegun.texts import over, read_game, read_named, say_others, split_files
 
-USAGE = "why [GAME.txt] SESSIONS.json --session NAME [--input K] [--firings] [--old OTHER.txt] [options]"
+USAGE = "why [GAME.txt] SESSIONS.json (--session NAME | --number N) [--input K] [--firings] [--old OTHER.txt] [options]"
 START = "start"
 # So many names of sessions are told.
 NAMES_TOLD = 8
@@ -53,9 +53,18 @@ def input_in(word: str) -> int:
     return int(word) + 1
 
 
+def number_in(word: str) -> int:
+    """The number of a session that a word names."""
+    if not re.fullmatch("[0-9]{1,9}", word):
+        raise ArgumentTypeError("must be the number of a session, from 0")
+    return int(word)
+
+
 def add_words(words: ArgumentParser) -> None:
     words.add_argument("files", metavar="FILE", nargs="+", help="a game's text (a first file that doesn't end with .json), and a sessions file")
-    words.add_argument("--session", metavar="NAME", required=True, help="the session: its name, or a pattern ('level 2*') that fits no other")
+    asked = words.add_mutually_exclusive_group(required=True)
+    asked.add_argument("--session", metavar="NAME", help="the session: its name, or a pattern ('level 2*') that fits no other")
+    asked.add_argument("--number", metavar="N", type=number_in, help="the session by its number in the file, from 0: another may have its name")
     words.add_argument("--input", metavar="K", type=input_in, help=f"the input, from 0, or {START} (where it stopped, or its last step)")
     words.add_argument("--old", metavar="OTHER.txt", help="name the first stage at which this text of the game and the one at hand part")
     words.add_argument("--firings", action="store_true", help="show inside each group or loop each rule that changed a cell, pass by pass")
@@ -79,8 +88,15 @@ def entry_named(sessions: Sessions, name: str) -> Entry:
     if len(found) == 1:
         return found[0]
     known = found or sessions.entries
-    names = ", ".join(cut(it.name) for it in known[:NAMES_TOLD]) + (", .." if len(known) > NAMES_TOLD else "")
+    names = ", ".join(f"{cut(it.name)} (--number {it.number})" for it in known[:NAMES_TOLD]) + (", .." if len(known) > NAMES_TOLD else "")
     raise Refused(f"--session {cut(name)!r} fits {plural(len(found), 'session') if found else 'no session'} of {sessions.path}: {names or 'it has none'}")
+
+
+def entry_at(sessions: Sessions, number: int) -> Entry:
+    """The session of a number. Refused where there are fewer."""
+    if number >= len(sessions.entries):
+        raise Refused(f"{sessions.path} has no session {number}: {plural(len(sessions.entries), 'session')}, counted from 0")
+    return sessions.entries[number]
 
 
 def asked_by(given: Namespace) -> Asked:
@@ -89,7 +105,7 @@ def asked_by(given: Namespace) -> Asked:
         raise Refused("name one sessions file, and before it at most a game's text")
     game = read_game(path)
     sessions = over(read_sessions(files[0]), game)
-    entry = entry_named(sessions, given.session)
+    entry = entry_named(sessions, given.session) if given.number is None else entry_at(sessions, given.number)
     say_others("why", sessions._replace(entries=[entry]), game)
     of_game = game.path if game and entry.source == game.source else ""
     return Asked(entry, sessions, Text(entry.source, of_game, given.order), engine_of(given))
