@@ -179,14 +179,14 @@ class Compare(OnEngines):
     def test_where_an_engine_hangs_late_is_looked_for_no_longer_than_may_be_explained(self):
         """Each look takes all the time of a session, so what is left of the whole is what the last of them has."""
         self.sessions(*([[3, 1, "undo", "undo", "undo", *([3, 1] * 500)]] * 3))
-        shown, budget = io.StringIO(), Budget(2.5)
-        words = ["saxtegun", "compare", "--engines", str(self.engine("none")), str(self.engine("hang", True)), str(self.room / "sessions.json"), "--timeout", "1"]
+        shown, budget = io.StringIO(), Budget(7.5)
+        words = ["saxtegun", "compare", "--engines", str(self.engine("none")), str(self.engine("hang", True)), str(self.room / "sessions.json"), "--timeout", "3"]
         begin = monotonic()
         with unittest.mock.patch("saxtegun.engines.EXPLAINING", budget), unittest.mock.patch("sys.argv", words), contextlib.redirect_stdout(shown):
             self.assertEqual(command_line.main(), 1)
-        # each session is played twice at most, and then 2.5 s for all of them
-        self.assertLess(monotonic() - begin, 15)
-        told = f"has no answer: not answered in 1 s; behind which input is {NOT_LOOKED_AT}"
+        # each session is played twice at most, and then 7.5 s for all of them
+        self.assertLess(monotonic() - begin, 45)
+        told = f"has no answer: not answered in 3 s; behind which input is {NOT_LOOKED_AT}"
         self.assertEqual([it.split(": hang-true ")[1] for it in shown.getvalue().splitlines()[:-1]], [told] * 3)
 
     def test_a_line_that_is_none_is_told_with_its_text(self):

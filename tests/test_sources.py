@@ -59,6 +59,7 @@ class Sources(unittest.TestCase):
     def test_a_level_drawn_by_its_letters_is_the_level_again(self):
         for name, entry, run, order in sessions_of_cases():
             game = game_of(entry.source)
+            layers = {it.name: it.layer for it in game.objects}
             for frame in run.frames:
                 labels = Labels()
                 cells = read_cells(frame.level, labels)
@@ -67,7 +68,9 @@ class Sources(unittest.TestCase):
                 for row, letters in zip(rows, drawn or []):
                     for label, letter in zip(row, letters):
                         with self.subTest(name):
-                            self.assertEqual(set(labels.names[label]) - game.grounds, set(game.members(letter.lower())) - game.grounds)
+                            # of two members in one layer the last named stands
+                            standing = {layers[it]: it for it in game.members(letter.lower())}
+                            self.assertEqual(set(labels.names[label]) - game.grounds, set(standing.values()) - game.grounds)
 
     def test_a_level_is_loaded_for_each_win_and_no_more_than_there_are(self):
         for name, entry, run, _ in sessions_of_cases():
