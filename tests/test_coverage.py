@@ -1,10 +1,12 @@
 """`saxtegun coverage`: on the example with rules that nothing can need, and with what all need."""
 import json
+import time
 import tracemalloc
 import unittest
 import unittest.mock
 from argparse import Namespace
 
+from test_processes import SLOW, Programs
 from test_test import RULE, OfAGame
 from tool import plays, run
 from saxtegun.commands import Refused
@@ -96,6 +98,22 @@ class Memory(unittest.TestCase):
         # two of each source are played at once, of one text; a source has 90 KB, and all sources without a rule would have 180 MB
         self.assertLess(self.most, 2 * (coverage.MOST_LETTERS + len(source) + 1))
         self.assertLess(peak, 50_000_000)
+
+
+class Time(Programs):
+    def test_no_more_lines_are_left_out_than_there_is_time_for(self):
+        """All would take a minute. What is told is of those that were."""
+        sessions = self.write("s.json", json.dumps([["a", ["RULES\n" + "[ a ] -> [ b ]\n" * 60, [], "a:0,"]]]))
+        for within, out, why in (
+            ("6", r"(.*, line \d+: no session notices it: \[ a \] -> \[ b \]\n)+\d+ lines? left out in turn: \d+ that no session notices\n", r"there is no whole answer: [45]\d lines"),
+            ("0.01", "", "no line was left out: 60 lines"),
+        ):
+            begin = time.monotonic()
+            answer = run("coverage", sessions, "--within", within, "--program", self.program(SLOW))
+            self.assertLess(time.monotonic() - begin, 30)
+            self.assertEqual(answer.status, 2)
+            self.assertRegex(answer.out, f"^{out}$")
+            self.assertRegex(answer.errors, f"^saxtegun coverage: {why} were not tried in {within} s; --within gives more time\n$")
 
 
 @plays

@@ -33,6 +33,17 @@ for number, (name, (source, inputs, level, *more)) in enumerate(entries):
         print(json.dumps({{"at": at, "frame": at, "kind": kind, "level": level, "session": number}}, separators=(",", ":")))
     print(json.dumps({{"close": "passed", "frames": len(kinds), "name": name, "session": number}}, separators=(",", ":")))
 """
+# Takes half a second for each session, which differs.
+SLOW = f"""#!{sys.executable}
+import json, sys, time
+for number, entry in enumerate(json.load(open(sys.argv[-1], encoding="utf-8"))):
+    time.sleep(0.5)
+    kinds = ["start", *("move" if isinstance(it, int) else it for it in entry[1][1])]
+    for at, kind in enumerate(kinds):
+        print(json.dumps({{"at": at, "frame": at, "kind": kind, "level": "b:0,", "session": number}}))
+    print(json.dumps({{"close": "differs", "frames": len(kinds), "name": entry[0], "session": number}}))
+sys.exit(1)
+"""
 LEVEL = "background:0,\n"
 # What a program may do wrong that is called to play; `exec` keeps what it starts from being left behind.
 WRONG = {

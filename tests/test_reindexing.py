@@ -1,10 +1,11 @@
 """`saxtegun accept --reindex`: recordings of levels that have moved pass again, and nothing else is changed."""
 import json
+import time
 import tracemalloc
 import unittest
 import unittest.mock
 
-from test_processes import PLAYER, Programs
+from test_processes import PLAYER, SLOW, Programs
 from test_test import OfAGame
 from tool import plays, run
 from saxtegun import reindexing
@@ -160,6 +161,15 @@ class Time(Programs):
             self.assertIn("accept: session 1, slow", answer.errors)
             self.assertIn("not answered in 1 s", answer.errors)
         self.assertEqual(run("accept", sessions, "--only", "quick", "--reindex", "--program", self.program(PLAYER), "--timeout", "1").status, 0)
+
+    def test_no_more_levels_are_played_at_once_than_there_is_time_for(self):
+        """Sixty would take half a minute."""
+        sessions = self.write("s.json", json.dumps([["a", ["LEVELS\n" + "a\n\n" * 61, [], "a:0,"]]]))
+        begin = time.monotonic()
+        answer = run("accept", sessions, "--reindex", "--within", "2", "--program", self.program(SLOW))
+        self.assertLess(time.monotonic() - begin, 20)
+        self.assertEqual(answer.status, 0, answer.errors)
+        self.assertRegex(answer.errors, r"session 0, a: passes in no level of the \d+ that were tried; [3-6]\d more were not tried, so its index 0 stays\n")
 
 
 if __name__ == "__main__":

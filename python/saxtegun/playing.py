@@ -7,14 +7,15 @@ import subprocess
 import tempfile
 from argparse import Namespace
 from contextlib import contextmanager
+from math import inf
 from time import monotonic
-from typing import Iterator, List, NamedTuple, Optional, Sequence
+from typing import IO, Iterator, List, NamedTuple, Optional, Sequence
 
 from saxtegun.commands import Refused, cut, plural
 from saxtegun.files import read_lines
 from saxtegun.lines import SESSION, UNANSWERED, Run, frame_of, line_of
 from saxtegun.mismatches import ALL_BUT_ORDER, Tests, read_runs
-from saxtegun.processes import Unanswered, room_for_now, watched
+from saxtegun.processes import Ran, Unanswered, room_for_now, watched
 from saxtegun.programs import has_played, program_words
 from saxtegun.reasons import break_of
 from saxtegun.sessions import MOST_BYTES, MOST_ENTRIES, Entry, Sessions, written_entry
@@ -39,10 +40,14 @@ FIRST_BATCH = 64
 QUICK = 0.25
 
 
+class Late(Refused):
+    """The time for all that is played is over."""
+
+
 class Engine(NamedTuple):
     """How sessions are played: in which order of cells, by how many workers (None: as many as the program takes), with which program (None: ours),
     how many seconds each has (None: as many as it takes), what is tested of what the program writes, whether ours may be built first, and whether games are
-    played without their clock, by the ticks that were recorded. `stages` is the program that tells stages (None: ours)."""
+    played without their clock, by the ticks that were recorded. `stages` is the program that tells stages (None: ours), and `end` when all playing ends."""
 
     order: str = "columns"
     workers: Optional[int] = None
@@ -52,6 +57,7 @@ class Engine(NamedTuple):
     may_build: bool = True
     has_ticks: bool = False
     stages: Optional[str] = None
+    end: float = inf
 
     def words(self) -> List[str]:
         return [*program_words(self.program, self.may_build), "--order", self.order, *(["--workers", str(self.workers)] if self.workers else [])]
@@ -81,12 +87,23 @@ def refusal(said: str, path: str, entries: Sequence[Entry] = ()) -> str:
     return f"{path} was not played: {REFUSALS[match[1]].format(number=named)}{where} ({line})"
 
 
+def watched_in_time(words: Sequence[str], output: IO[bytes], engine: Engine, seconds: Optional[float]) -> Ran:
+    """Runs a program to its end, or so many seconds, but not longer than all playing lasts."""
+    left = engine.end - monotonic()
+    try:
+        return watched(words, output, subprocess.DEVNULL, seconds if left == inf else min(left, seconds or left))
+    except Unanswered:
+        if monotonic() < engine.end:
+            raise
+        raise Late("the time is over") from None
+
+
 def play_file(path: str, lines: str, engine: Engine, of: Optional[Sessions] = None, seconds: Optional[float] = None) -> int:
     """Plays a sessions file, and leaves its lines in a file; the status of the program, 0 or 1. Refused where there is no whole output."""
     words = [*engine.words(), path]
     try:
         with open(lines, "wb") as file:
-            ran = watched(words, file, subprocess.DEVNULL, seconds)
+            ran = watched_in_time(words, file, engine, seconds)
     except OSError as why:
         raise Refused(f"{lines} can't be written: {why.strerror}") from None
     if ran.status not in (0, 1):

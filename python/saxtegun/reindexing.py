@@ -8,13 +8,13 @@ from typing import Dict, Iterator, List, NamedTuple, Optional, Sequence
 from saxtegun.commands import cut, plural
 from saxtegun.levelsets import entries_of_levels
 from saxtegun.lines import UNANSWERED
-from saxtegun.playing import Engine, runs_played
+from saxtegun.playing import Engine, Late, runs_played
 from saxtegun.sessions import Entry, Sessions
 
 # So many sessions are played at once, and for so many levels a recording is tried.
 MOST_AT_ONCE = 5_000
 MOST_LEVELS = 1_000
-# So many at first, then twice as many where that took less than so many seconds, and in all so many seconds.
+# So many at first, or fewer where playing is slow; then twice as many where that took less than so many seconds, and in all so many seconds.
 FIRST_AT_ONCE, QUICK = 64, 1.0
 WITHIN = 600.0
 # So many indices are told.
@@ -92,34 +92,44 @@ def places_of(entry: Entry) -> Places:
     return Places(others[:MOST_LEVELS], max(0, len(others) - MOST_LEVELS))
 
 
-def batches_of(tried: Iterator[Entry]) -> Iterator[List[Entry]]:
-    """Entries in batches, of which the next is larger where one was quick: between two it is seen whether there is time left."""
-    size = FIRST_AT_ONCE
+def first_size(took: float) -> int:
+    """How many are played at first, where one took so many seconds."""
+    return max(1, int(min(FIRST_AT_ONCE, QUICK / took))) if took else FIRST_AT_ONCE
+
+
+def batches_of(tried: Iterator[Entry], size: int) -> Iterator[List[Entry]]:
+    """Entries in batches, at first of this size, of which the next is larger where one was quick, and else smaller: of one that isn't answered in time nothing
+    is known."""
     for batch in iter(lambda: list(islice(tried, size)), []):
         begin = monotonic()
         yield batch
-        size = min(2 * size, MOST_AT_ONCE) if monotonic() - begin < QUICK else max(size // 2, FIRST_AT_ONCE)
+        size = min(2 * size, MOST_AT_ONCE) if monotonic() - begin < QUICK else max(size // 2, 1)
 
 
 def reindexed(entries: Sequence[Entry], of: Sessions, engine: Engine, seconds: float = WITHIN) -> List[Found]:
     """For recordings that don't pass the indices with which they do; no other has a line. Behind so many seconds no more levels are tried, since recordings times
     levels may be very many."""
-    end = monotonic() + seconds
+    begin = monotonic()
+    bounded = engine._replace(end=begin + seconds)
     if not entries:
         return []
     # frames aren't kept: of a recording that is tried in many levels they would be many
     runs = {it.number: run._replace(frames=[]) for run, it in zip(runs_played(entries, of, engine), entries)}
+    took = (monotonic() - begin) / len(entries)
     failed = [it for it in entries if runs[it.number].close != "passed"]
     late = {it.number: str(runs[it.number].cause) for it in failed if runs[it.number].close == UNANSWERED}
     places = {it.number: Places([], 0) if it.number in late else places_of(it) for it in failed}
     closes: Dict[int, Dict[str, List[int]]] = {it.number: {"passed": [], UNANSWERED: []} for it in failed}
     tried = (it._replace(index=index) for it in failed for index in places[it.number].tried)
     count = {it.number: 0 for it in failed}
-    for batch in batches_of(tried):
-        for run, it in zip(runs_played(batch, of, engine), batch):
-            closes[it.number].setdefault(run.close, []).append(it.index)
-            count[it.number] += 1
-        if monotonic() > end:
+    for batch in batches_of(tried, first_size(took)):
+        try:
+            for run, it in zip(runs_played(batch, of, bounded), batch):
+                closes[it.number].setdefault(run.close, []).append(it.index)
+                count[it.number] += 1
+        except Late:
+            break
+        if monotonic() > bounded.end:
             break
     places = {number: it.first(count[number]) for number, it in places.items()}
     return [found_of(it, closes[it.number], places[it.number], late.get(it.number, "")) for it in failed]

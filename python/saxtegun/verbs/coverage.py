@@ -7,7 +7,8 @@ plays the suite again.
 
 A session notices that a line is gone if it closes differently; with a win line
 also if it wins differently. The lines of a game whose sessions are all refused
-are not tried, nor are lines without which the rest is refused.
+are not tried, nor are lines without which the rest is refused. Behind 600
+seconds, or --within N, no more lines are left out.
 
 Exit status: 0 each line is noticed by some session, 1 some line by none, 2
 there is no whole answer."""
@@ -15,30 +16,34 @@ from __future__ import annotations
 
 import sys
 from argparse import ArgumentParser, Namespace
+from time import monotonic
 from typing import Dict, Iterable, Iterator, List, NamedTuple, Optional, Set, Tuple
 
-from saxtegun.commands import Refused, add_playing, add_ticks, cut, plural, printable
+from saxtegun.commands import Refused, add_playing, add_ticks, cut, plural, printable, seconds_in
 from saxtegun.explanations import source_told
 from saxtegun.files import guard_output
 from saxtegun.games import game_of
 from saxtegun.levelsets import wins_of
 from saxtegun.lines import UNANSWERED, Run
 from saxtegun.omissions import Omissions
-from saxtegun.playing import engine_of, runs_played
+from saxtegun.playing import Late, engine_of, runs_played
 from saxtegun.sessions import Entry, Sessions, read_sessions
 from saxtegun.solutions import MOST_INPUTS, ONE_MORE
 from saxtegun.sources import Line
 from saxtegun.texts import GameText, over, read_game, say_others
 
-USAGE = "coverage [GAME.txt] SESSIONS.json [--order rows|columns] [--workers N]"
-# So much is played at once.
+USAGE = "coverage [GAME.txt] SESSIONS.json [--within SECONDS] [--order rows|columns] [--workers N]"
+# So much is played at once, and so many lines are left out at first; then twice as many where that took less than so many seconds, and in all so many.
 MOST_LETTERS = 2_000_000
 MOST_ENTRIES = 5_000
+FIRST_AT_ONCE, QUICK = 1, 1.0
+WITHIN = 600.0
 Signature = Tuple[object, ...]
 
 
 def add_words(words: ArgumentParser) -> None:
     words.add_argument("files", metavar="[GAME.txt] SESSIONS.json", nargs="+")
+    words.add_argument("--within", metavar="SECONDS", type=seconds_in, default=WITHIN, help=f"leave out no more lines behind so many seconds ({WITHIN:g})")
     add_playing(words)
     add_ticks(words)
 
@@ -77,15 +82,17 @@ def played_in(trials: List[Trial]) -> List[Entry]:
 
 
 def batches(trials: Iterable[Trial]) -> Iterator[List[Trial]]:
-    """The trials in parts, each of which is played at once."""
+    """The trials in parts, each of which is played at once: of one that isn't answered in time nothing is known."""
     batch: List[Trial] = []
-    letters, count = 0, 0
+    letters, count, size = 0, 0, FIRST_AT_ONCE
     for trial in trials:
         batch.append(trial)
         letters += sum(len(trial.source) + len(it.level) + 4 * len(it.inputs) for it in trial.entries)
         count += len(trial.entries)
-        if letters > MOST_LETTERS or count > MOST_ENTRIES:
+        if letters > MOST_LETTERS or count > MOST_ENTRIES or len(batch) == size:
+            begin = monotonic()
             yield batch
+            size = 2 * size if monotonic() - begin < QUICK else max(len(batch) // 2, 1)
             batch, letters, count = [], 0, 0
     if batch:
         yield batch
@@ -118,11 +125,12 @@ class Coverage:
         self.sessions, self.given, self.text = sessions, given, text
         self.before: Dict[int, Tuple[Signature, Signature]] = {}
         self.unnoticed: List[Trial] = []
-        self.tried, self.alone = 0, 0
+        self.tried, self.alone, self.left = 0, 0, 0
+        self.engine = engine_of(given)
 
     def signatures(self, entries: List[Entry]) -> List[Tuple[Signature, Signature]]:
         """For each session how it closes, and how it wins. What the sessions show isn't kept."""
-        runs: Iterator[Run] = runs_played([it for entry in entries for it in (entry, longer(entry))], self.sessions, engine_of(self.given)) if entries else iter(())
+        runs: Iterator[Run] = runs_played([it for entry in entries for it in (entry, longer(entry))], self.sessions, self.engine) if entries else iter(())
         return [(closing_of(one), winning_of(more)) for one, more in zip(runs, runs)]
 
     def trials(self) -> List[Trial]:
@@ -166,16 +174,25 @@ class Coverage:
 
     def run(self) -> None:
         trials = self.trials()
-        done = 0
+        self.left = len(trials)
+        self.engine = self.engine._replace(end=monotonic() + getattr(self.given, "within", WITHIN))
         for batch in batches(trials):
-            found = iter(self.signatures(played_in(batch)))
+            try:
+                found = iter(self.signatures(played_in(batch)))
+            except Late:
+                break
             for trial in batch:
                 self.judge(trial, [next(found) for _ in trial.entries])
-            done += len(batch)
-            progress(done, len(trials))
+            self.left -= len(batch)
+            progress(len(trials) - self.left, len(trials))
         if not self.tried:
             # an answer would read as if each line were noticed
-            raise Refused(f"no line was left out: {'without any of them the rest is refused' if trials else 'no source that is played has a rule or a win line'}")
+            whole = "without any of them the rest is refused" if trials else "no source that is played has a rule or a win line"
+            raise Refused(f"no line was left out: {self.left_told() or whole}")
+
+    def left_told(self) -> str:
+        """How many lines were not left out, since the time was over, or nothing."""
+        return f"{plural(self.left, 'line')} {'was' if self.left == 1 else 'were'} not tried in {self.given.within:g} s; --within gives more time" if self.left else ""
 
 
 def main(given: Namespace) -> int:
@@ -193,4 +210,6 @@ def main(given: Namespace) -> int:
     alone = f", {plural(coverage.alone, 'line')} can't be left out alone" if coverage.alone else ""
     games = f" in {plural(len(sources), 'source')}" if len(sources) > 1 else ""
     print(f"{plural(coverage.tried, 'line')} left out in turn: {len(coverage.unnoticed)} that no session notices{games}{alone}")
+    if coverage.left:
+        raise Refused(f"there is no whole answer: {coverage.left_told()}")
     return 1 if coverage.unnoticed else 0
