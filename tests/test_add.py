@@ -49,6 +49,17 @@ class DayOfAdding(OfAGame):
         self.assertEqual(run("add", self.suite, "--anyway", stdin=self.console(0, 4).encode()).status, 0)
         self.assertEqual(len(json.loads(self.suite.read_text(encoding="utf-8"))), 3)
 
+    def test_what_the_program_would_not_read_spoils_no_file(self):
+        """Half a letter in what is ignored makes a whole file no JSON."""
+        before = self.suite.read_bytes()
+        name, body = self.whole[0]
+        for entry in ([name, [*body[:4], "\ud800"]], [name, body, "by \udc00"]):
+            answer = run("add", self.suite, stdin=json.dumps(entry).encode())
+            self.assertEqual((answer.status, self.suite.read_bytes()), (2, before))
+            self.assertIn("skipped a recording with a fault: a text of it holds half a letter", answer.errors)
+            self.assertEqual(run("testdata", self.write("console.txt", json.dumps(entry))).status, 2)
+            self.assertEqual(run("test", self.game, self.write_entries([entry], "half.json")).status, 2)
+
     def test_where_nothing_is_found_nothing_is_changed(self):
         before = self.suite.read_bytes()
         for text, what in (("hello", "standard input: it has no recording: "), ("", "standard input: it is empty: ")):

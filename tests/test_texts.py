@@ -10,8 +10,8 @@ from random import Random
 from day import OnSessions
 from test_test import RULE, OfAGame
 from tool import TOP, environment, plays, run
-from saxtegun.commands import cut
-from saxtegun.sessions import Entry, fault_of, is_nearly_demand
+from saxtegun.commands import Refused, cut
+from saxtegun.sessions import Entry, fault_of, is_nearly_demand, sessions_in
 from saxtegun.texts import GameText, remedy
 
 STUCK = "[ > Player | Crate ] -> [ Player | Crate ]"
@@ -170,6 +170,22 @@ class Demands(unittest.TestCase):
             self.assertEqual(fault_of(["a", body, it]), f"its further element that is {told} holds 'solved', and would demand nothing")
         for it in ("solved", "by hand", "", "so", "salad", "1716.5", "love", "told you", True, None, 0, [], {}, [["slved"]], {"by": ["hand"]}):
             self.assertIsNone(fault_of(["a", body, it]), it)
+
+    def test_what_is_no_json_for_the_program_is_refused_where_it_is_ignored_too(self):
+        """Two lists stand around what follows the body, and three around what follows the index; a member is read though another has its name."""
+        half, deep = "a text of it holds half a letter", "its lists and objects are more than 127 deep"
+        for text, what in (
+            ('"\\ud800"', half), ('["\\udc00\\ud800"]', half), ('{"\\ud800":1}', half), ('{"a":"\\udc00"}', half), ('{"a":"\\udc00","a":1}', half), ('"\\ud83d\\ude00"', ""),
+            ("[" * 124 + "]" * 124, ""), ('{"a":' * 124 + "1" + "}" * 124, ""), ("[" * 126 + "]" * 126, deep), ('{"a":' * 126 + "1" + "}" * 126, deep), ('{"a":' + "[" * 125 + "]" * 125 + ',"a":1}', deep),
+        ):  # fmt: skip
+            for entry in (f'["a",["",[],""],{text}]', f'["a",["",[],"",0,{text}]]'):
+                if what:
+                    self.assertRaisesRegex(Refused, f"^s.json, session 0, line 1: {what}", sessions_in, "s.json", f"[{entry}]")
+                else:
+                    self.assertEqual(len(sessions_in("s.json", f"[{entry}]").entries), 1)
+        deepest = "[" * 125 + "]" * 125
+        self.assertEqual(len(sessions_in("s.json", f'[["a",["",[],""],{deepest}]]').entries), 1)
+        self.assertRaisesRegex(Refused, deep, sessions_in, "s.json", f'[["a",["",[],"",0,{deepest}]]]')
 
     def test_what_is_nearly_the_word_is_so_by_its_letters_in_their_order(self):
         """What difflib finds so alike, and not much else."""

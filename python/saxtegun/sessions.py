@@ -5,7 +5,7 @@ import json
 import os
 import re
 from fnmatch import fnmatchcase
-from itertools import combinations, islice
+from itertools import chain, combinations, islice
 from math import isinf
 from typing import Any, Dict, Iterator, List, Mapping, NamedTuple, NoReturn, Optional, Sequence, Tuple, Union
 
@@ -14,6 +14,9 @@ from saxtegun.files import MARK, TooLong, read_text
 
 SPACE = re.compile(r"[ \t\n\r]*")
 LONE_SURROGATE = re.compile("[\ud800-\udfff]")
+HALF = "a text of it holds half a letter (a lone surrogate)"
+# So many lists and objects stand in one another at most in JSON that is read.
+MOST_DEEP = 127
 WORDS = ("undo", "restart", "tick")
 # What a sessions file holds at most.
 MOST_BYTES = 16_777_216
@@ -70,9 +73,15 @@ def whole_number(word: str) -> Union[int, float]:
     return int(word) if word != "-0" else any_number(word)
 
 
+def members_of(pairs: List[Tuple[str, Any]]) -> Dict[Any, Any]:
+    """An object, which nothing here needs. Where two members have one name, their names and values are numbered: none is lost that the program reads."""
+    members = dict(pairs)
+    return members if len(members) == len(pairs) else dict(enumerate(chain.from_iterable(pairs)))
+
+
 READER = json.JSONDecoder(parse_constant=no_number)
 # What refuses all numbers that the program refuses, where they stand for the first time; what an entry doesn't need isn't handed on to the program.
-CAREFUL = json.JSONDecoder(parse_constant=no_number, parse_float=any_number, parse_int=whole_number)
+CAREFUL = json.JSONDecoder(parse_constant=no_number, parse_float=any_number, parse_int=whole_number, object_pairs_hook=members_of)
 
 
 def after_space(text: str, at: int) -> int:
@@ -134,6 +143,26 @@ def is_nearly_demand(value: Any) -> bool:
     return value != DEMAND and (DEMAND in lower or (pattern is not None and pattern.search(lower) is not None))
 
 
+def is_too_deep(value: Any, most: int) -> bool:
+    """Whether in a list or an object more than so many stand in one another."""
+    level = [value]
+    for _ in range(most):
+        level = [it for one in level for it in (one if isinstance(one, list) else one.values()) if isinstance(it, (list, dict))]
+        if not level:
+            return False
+    return True
+
+
+def ignored_fault(elements: List[Any], most: int) -> Optional[str]:
+    """What of elements that the program ignores it would not read, or None. `most` is how deep they may be."""
+    for it in elements:
+        if any(LONE_SURROGATE.search(text) for text in texts_in(it)):
+            return HALF
+        if isinstance(it, (list, dict)) and is_too_deep(it, most):
+            return f"its lists and objects are more than {MOST_DEEP} deep"
+    return None
+
+
 def demand_fault(elements: List[Any]) -> Optional[str]:
     """What is nearly a demand among the further elements of an entry, or None."""
     for it in elements:
@@ -156,7 +185,10 @@ def fault_of(entry: Any) -> Optional[str]:
     if len(body) > 3 and not (body[3] is None or is_number(body[3], 2**64 - 1)):
         return "its index is no whole number"
     if any(LONE_SURROGATE.search(it) for it in (entry[0], body[0], body[2])):
-        return "a text of it holds half a letter (a lone surrogate)"
+        return HALF
+    ignored = ignored_fault(body[4:], MOST_DEEP - 3) or ignored_fault(entry[2:], MOST_DEEP - 2)
+    if ignored:
+        return ignored
     if any(it == DEMAND or is_nearly_demand(it) for it in body[4:]):
         return f"its second list holds {DEMAND!r} or nearly that, which would demand nothing there: it stands behind that list"
     return demand_fault(entry[2:])
