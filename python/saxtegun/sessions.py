@@ -75,8 +75,8 @@ def whole_number(word: str) -> Union[int, float]:
 
 def members_of(pairs: List[Tuple[str, Any]]) -> Dict[Any, Any]:
     """An object, which nothing here needs. Where two members have one name, their names and values are numbered: none is lost that the program reads."""
-    members = dict(pairs)
-    return members if len(members) == len(pairs) else dict(enumerate(chain.from_iterable(pairs)))
+    members: Dict[Any, Any] = dict(pairs)
+    return members if len(members) == len(pairs) else {number: it for number, it in enumerate(chain.from_iterable(pairs))}
 
 
 READER = json.JSONDecoder(parse_constant=no_number)
