@@ -52,6 +52,14 @@ class Sizes(OnSessions):
             file.truncate(size)
         return path
 
+    def test_a_page_is_not_written_behind_the_text_of_the_game(self):
+        game, sessions = self.write("game.txt", "title a\n"), self.write("s.json", "[]")
+        for verb, *words in (("report", sessions), ("explain", sessions), ("accept", sessions), ("junit", sessions, sessions)):
+            with open(game, "ab") as output:
+                ran = subprocess.run([sys.executable, TOP / "saxtegun", verb, *words, "--game", game], stdout=output, stderr=subprocess.PIPE, env=environment())
+            self.assertEqual((ran.returncode, game.read_text()), (2, "title a\n"), verb)
+            self.assertIn(f"standard output is {game}, which is read".encode(), ran.stderr)
+
     def test_a_file_that_is_too_long_is_not_read(self):
         sessions, text, whole = self.long("s.json", MOST_BYTES + 1), self.long("t.txt", 2**26 + 1), self.long("w.json", 2**30 + 1)
         for verb, *words in (("test", sessions), ("explain", sessions), ("report", sessions), ("accept", sessions), ("coverage", sessions)):

@@ -127,7 +127,7 @@ def main(given: Namespace) -> int:
     if given.in_place and given.sessions == "-":
         raise Refused("--in-place needs a file, and standard input is none")
     if not given.in_place:
-        guard_output(given.sessions, *([given.lines] if given.lines else []))
+        guard_output(given.sessions, *(it for it in (given.lines, given.game) if it))
     else:
         guard_places(given.sessions)
     game = read_game(given.game)

@@ -55,7 +55,7 @@ def add_words(words: ArgumentParser) -> None:
 
 
 def main(given: Namespace) -> int:
-    guard_output(given.sessions, *([given.lines] if given.lines else []))
+    guard_output(given.sessions, *(it for it in (given.lines, given.game) if it))
     game = read_game(given.game)
     sessions = over(read_sessions(given.sessions), game)
     say_others("explain", sessions, game)

@@ -37,7 +37,7 @@ def add_words(words: ArgumentParser) -> None:
 def main(given: Namespace) -> int:
     if len(given.files) > 2:
         raise Refused("name one or two files: the lines, or the sessions and then the lines")
-    guard_output(*given.files)
+    guard_output(*given.files, *([given.game] if given.game else []))
     game = read_game(given.game)
     sessions = over(read_sessions(given.files[0]), game) if len(given.files) == 2 else None
     if sessions:

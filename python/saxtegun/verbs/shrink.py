@@ -197,7 +197,7 @@ def main(given: Namespace) -> int:
     programs = Programs(engine_at(given.one, engine), engine_at(given.other, engine), tuple(tellers_of(given)))
     found = first_that_parts(programs, chosen(sessions, [given.name]))
     if found is None:
-        print(f"{given.one} and {given.other} show the same")
+        print(printable(f"{given.one} and {given.other} show the same"))
         return 1
     begin = monotonic()
     entry, tried = shrunk(programs, started_with(programs, found), found.way, told_progress, given.within)
@@ -213,5 +213,5 @@ def main(given: Namespace) -> int:
     if written_as != folder:
         say(f"shrink: {folder} has come to be there meanwhile: the case is written as {written_as}")
     sizes = [f"{plural(len(it.inputs), 'input')} and {plural(len(it.source), 'letter')} of source" for it in (found.entry, entry)]
-    print(f"from {sizes[0]} to {sizes[1]}, {plural(tried, 'session')} played; the case is {written_as}")
+    print(printable(f"from {sizes[0]} to {sizes[1]}, {plural(tried, 'session')} played; the case is {written_as}"))
     return 0
