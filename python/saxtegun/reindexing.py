@@ -14,8 +14,8 @@ from saxtegun.sessions import Entry, Sessions
 # So many sessions are played at once, and for so many levels a recording is tried.
 MOST_AT_ONCE = 5_000
 MOST_LEVELS = 1_000
-# So many at first, or fewer where playing is slow; then twice as many where that took less than so many seconds, and in all so many seconds.
-FIRST_AT_ONCE, QUICK = 64, 1.0
+# So many at first, or fewer where playing is slow; then twice as many where that took less than so many seconds, or this share of all, and in all so many.
+FIRST_AT_ONCE, QUICK, SHARES = 64, 1.0, 20
 WITHIN = 600.0
 # So many indices are told.
 MOST_TOLD = 10
@@ -92,18 +92,18 @@ def places_of(entry: Entry) -> Places:
     return Places(others[:MOST_LEVELS], max(0, len(others) - MOST_LEVELS))
 
 
-def first_size(took: float) -> int:
-    """How many are played at first, where one took so many seconds."""
-    return max(1, int(min(FIRST_AT_ONCE, QUICK / took))) if took else FIRST_AT_ONCE
+def first_size(took: float, quick: float) -> int:
+    """How many are played at first, where one took so many seconds, and so many are quick."""
+    return max(1, int(min(FIRST_AT_ONCE, quick / took))) if took else FIRST_AT_ONCE
 
 
-def batches_of(tried: Iterator[Entry], size: int) -> Iterator[List[Entry]]:
+def batches_of(tried: Iterator[Entry], size: int, quick: float) -> Iterator[List[Entry]]:
     """Entries in batches, at first of this size, of which the next is larger where one was quick, and else smaller: of one that isn't answered in time nothing
     is known."""
     for batch in iter(lambda: list(islice(tried, size)), []):
         begin = monotonic()
         yield batch
-        size = min(2 * size, MOST_AT_ONCE) if monotonic() - begin < QUICK else max(size // 2, 1)
+        size = min(2 * size, MOST_AT_ONCE) if monotonic() - begin < quick else max(size // 2, 1)
 
 
 def reindexed(entries: Sequence[Entry], of: Sessions, engine: Engine, seconds: float = WITHIN) -> List[Found]:
@@ -122,7 +122,8 @@ def reindexed(entries: Sequence[Entry], of: Sessions, engine: Engine, seconds: f
     closes: Dict[int, Dict[str, List[int]]] = {it.number: {"passed": [], UNANSWERED: []} for it in failed}
     tried = (it._replace(index=index) for it in failed for index in places[it.number].tried)
     count = {it.number: 0 for it in failed}
-    for batch in batches_of(tried, first_size(took)):
+    quick = max(QUICK, seconds / SHARES)
+    for batch in batches_of(tried, first_size(took, quick), quick):
         try:
             for run, it in zip(runs_played(batch, of, bounded), batch):
                 closes[it.number].setdefault(run.close, []).append(it.index)

@@ -33,10 +33,11 @@ from saxtegun.sources import Line
 from saxtegun.texts import GameText, over, read_game, say_others
 
 USAGE = "coverage [GAME.txt] SESSIONS.json [--within SECONDS] [--order rows|columns] [--workers N]"
-# So much is played at once, and so many lines are left out at first; then twice as many where that took less than so many seconds, and in all so many.
+# So much is played at once, and so many lines are left out at first; then twice as many where that took less than so many seconds, or
+# this share of all, and in all so many.
 MOST_LETTERS = 2_000_000
 MOST_ENTRIES = 5_000
-FIRST_AT_ONCE, QUICK = 1, 1.0
+FIRST_AT_ONCE, QUICK, SHARES = 1, 1.0, 20
 WITHIN = 600.0
 Signature = Tuple[object, ...]
 
@@ -81,7 +82,7 @@ def played_in(trials: List[Trial]) -> List[Entry]:
     return entries
 
 
-def batches(trials: Iterable[Trial]) -> Iterator[List[Trial]]:
+def batches(trials: Iterable[Trial], quick: float = QUICK) -> Iterator[List[Trial]]:
     """The trials in parts, each of which is played at once: of one that isn't answered in time nothing is known."""
     batch: List[Trial] = []
     letters, count, size = 0, 0, FIRST_AT_ONCE
@@ -92,7 +93,7 @@ def batches(trials: Iterable[Trial]) -> Iterator[List[Trial]]:
         if letters > MOST_LETTERS or count > MOST_ENTRIES or len(batch) == size:
             begin = monotonic()
             yield batch
-            size = 2 * size if monotonic() - begin < QUICK else max(len(batch) // 2, 1)
+            size = 2 * size if monotonic() - begin < quick else max(len(batch) // 2, 1)
             batch, letters, count = [], 0, 0
     if batch:
         yield batch
@@ -175,8 +176,9 @@ class Coverage:
     def run(self) -> None:
         trials = self.trials()
         self.left = len(trials)
-        self.engine = self.engine._replace(end=monotonic() + getattr(self.given, "within", WITHIN))
-        for batch in batches(trials):
+        within = getattr(self.given, "within", WITHIN)
+        self.engine = self.engine._replace(end=monotonic() + within)
+        for batch in batches(trials, max(QUICK, within / SHARES)):
             try:
                 found = iter(self.signatures(played_in(batch)))
             except Late:
