@@ -8,6 +8,8 @@ import { causeOf, framesOf, gameOf, isPlayed, shownOf, sourceOf } from "./replay
 import { clocksOf, countOfOthers, rowsOf, runWithFrames, runsOfNow, sessionOf } from "./suite.mjs";
 import { hasClock, isRefusedForClock } from "./ticks.mjs";
 
+const MOST_NOTES = 50; // that are told of a game
+
 const upper = (text) => `${text[0].toUpperCase()}${text.slice(1)}.`;
 
 // Why the text isn't played, { sentence, line }, or null.
@@ -56,6 +58,12 @@ export const visitTold = (unreadable, isCut) => (unreadable === 0 && !isCut ? nu
 export function keepingTold(isKept) {
   const told = isKept === null ? "This browser has not kept your last changes yet. Wait, or save your work as files." : isKept ? "What you work on stays in this browser; save it as files." : "This browser keeps nothing for a page from the disk: save your work as files.";
   return `Nothing leaves this machine. ${told}`;
+}
+
+// What is told of how a game is drawn otherwise than it draws itself.
+export function notesTold({ notes }) {
+  const more = notes.length - MOST_NOTES;
+  return notes.length === 0 ? "" : `${[...notes.slice(0, MOST_NOTES), ...(more > 0 ? [`and ${plural(more, "more note")}`] : [])].join("; ")}.`;
 }
 
 // What stands above the level: { text, close }.
