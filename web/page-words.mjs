@@ -51,8 +51,13 @@ export function clockTold(state) {
 const UNREADABLE = "What this browser kept of an earlier visit can't be read by this page. It stays where it is.";
 const NO_ROOM = "This browser had no room for all that was changed just before the page was left: an older file, or less to put back, may be here.";
 
+const WAITING = "What closed tabs left waits, since no more can be put back here: open this page in another tab to go on with it.";
+
 // What is said of what was kept of earlier visits, or null.
-export const visitTold = (unreadable, isCut) => (unreadable === 0 && !isCut ? null : [...(unreadable > 0 ? [UNREADABLE] : []), ...(isCut ? [NO_ROOM] : [])].join(" "));
+export function visitTold({ unreadable, isCut, waiting }) {
+  const told = [...(unreadable > 0 ? [UNREADABLE] : []), ...(isCut ? [NO_ROOM] : []), ...(waiting > 0 ? [WAITING] : [])];
+  return told.length === 0 ? null : told.join(" ");
+}
 
 // What is promised of where the work is: whether the browser kept it, or null where that takes long.
 export function keepingTold(isKept) {
