@@ -328,26 +328,34 @@ function placeOfNumber(lines, end) {
   return at;
 }
 
-/** The lines of a part, its sessions numbered from this number on. */
-export function numbered(lines, first) {
-  if (first === 0) return lines;
-  const pieces = [], encoder = new TextEncoder();
-  let size = 0;
-  const add = piece => {
-    pieces.push(piece);
-    size += piece.length;
-  };
-  let begin = 0;
+/** The numbers of the sessions that lines have at their ends, each a line: the place of it, that of its end, and itself. */
+function* numbersIn(lines) {
   for (let end = lines.indexOf(0x0a); end >= 0; end = lines.indexOf(0x0a, end + 1)) {
     const at = placeOfNumber(lines, end);
     let number = 0;
     for (let k = at; k < end - 1; k++) number = number * 10 + lines[k] - 0x30;
+    yield [at, end - 1, number];
+  }
+}
+
+/** The lines of a part, its sessions numbered from this number on. Of so many lines nothing is held but their bytes. */
+export function numbered(lines, first) {
+  if (first === 0) return lines;
+  let size = lines.length;
+  for (const [at, end, number] of numbersIn(lines)) size += String(number + first).length - (end - at);
+  const whole = new Uint8Array(size), encoder = new TextEncoder();
+  let begin = 0, to = 0;
+  const add = piece => {
+    whole.set(piece, to);
+    to += piece.length;
+  };
+  for (const [at, end, number] of numbersIn(lines)) {
     add(lines.subarray(begin, at));
-    add(encoder.encode(String(number + first)));
-    begin = end - 1;
+    to += encoder.encodeInto(String(number + first), whole.subarray(to)).written;
+    begin = end;
   }
   add(lines.subarray(begin));
-  return joined(pieces, size);
+  return whole;
 }
 
 function joined(pieces, size = pieces.reduce((sum, piece) => sum + piece.length, 0)) {
@@ -360,12 +368,20 @@ function joined(pieces, size = pieces.reduce((sum, piece) => sum + piece.length,
   return whole;
 }
 
-/** The answer for a file whose parts were answered so. */
-function joinedAnswer(parts, answers) {
+/** The answer for a part, its sessions numbered from this number on. */
+function numberedAnswer(answer, first) {
+  try {
+    return { ...answer, lines: numbered(answer.lines, first) };
+  } catch (error) {
+    return refused(faultOf(error));
+  }
+}
+
+/** The answer for a file whose parts were answered so, their sessions numbered through. */
+function joinedAnswer(answers) {
   const passed = answers.every(answer => answer.passed);
   try {
-    const lines = joined(answers.map((answer, k) => numbered(answer.lines, parts[k].first)));
-    return { status: passed ? 0 : 1, passed, lines, fault: null };
+    return { status: passed ? 0 : 1, passed, lines: joined(answers.map(answer => answer.lines)), fault: null };
   } catch (error) {
     return refused(faultOf(error));
   }
@@ -408,11 +424,11 @@ class Thread {
     this.#answer(refused(fault));
   }
 
-  async ask(file, order) {
+  async ask({ file, first }, order) {
     if (this.#isGone) return refused('broken');
     return new Promise(settle => {
       this.#settle = settle;
-      this.#worker.postMessage({ file, order });
+      this.#worker.postMessage({ file, first, order });
     });
   }
 
@@ -445,7 +461,7 @@ class Crew {
       this.#workers.push(worker);
       while (next < parts.length && !isRefused && !this.#isEnded) {
         const at = next++;
-        answers[at] = await worker.ask(parts[at].file, order);
+        answers[at] = await worker.ask(parts[at], order);
         isRefused ||= answers[at].fault !== null;
         done += parts[at].sessions;
         if (!isRefused) progress(done, total);
@@ -467,15 +483,15 @@ async function playWhole(crew, file, order, workers, progress) {
   const parts = partsOf(file, workers * PARTS_OF_A_WORKER) ?? whole;
   const answers = await crew.play(parts, order, workers, progress);
   const fault = answers.find(answer => answer.fault !== null)?.fault;
-  if (fault === undefined) return joinedAnswer(parts, answers);
+  if (fault === undefined) return joinedAnswer(answers);
   if (parts.length === 1 || fault === 'memory' || fault === 'broken') return refused(fault);
   // the first fault of a part need not be that of the file
   return (await crew.play(whole, order, 1, () => {}))[0];
 }
 
-/** What a worker does: it answers each file that it is handed. */
-function serve(engine, { file, order }, post) {
-  const answer = engine.replay(file, { order });
+/** What a worker does: it answers each file that it is handed, and numbers the sessions, which may have many lines. */
+function serve(engine, { file, first, order }, post) {
+  const answer = numberedAnswer(engine.replay(file, { order }), first);
   post(answer, [answer.lines.buffer]);
 }
 

@@ -3,7 +3,7 @@
 import { at, fill, make, plural, readable } from "./elements.mjs";
 import { levelsOf } from "./game.mjs";
 import { LevelDrawn } from "./level-drawn.mjs";
-import { clockTold, faultOfText, othersTold, ownTold, putBackTold, statusOf, stepTold, tabTold, verdictOf } from "./page-words.mjs";
+import { clockTold, faultOfText, notesTold, othersTold, ownTold, putBackTold, statusOf, stepTold, tabTold, verdictOf } from "./page-words.mjs";
 import { say, tell } from "./saying.mjs";
 import { StagesPanel } from "./stages-panel.mjs";
 import { chosenStage, stagesNow } from "./staging.mjs";
@@ -85,7 +85,7 @@ export class Drawn {
     if (!levels.some((level) => level.index === index)) options.unshift(new Option(`from entry ${index} on`, index, false, true));
     fill(at("levels"), options);
     say("title", game.title);
-    say("notes", game.notes.length > 0 ? `${game.notes.join("; ")}.` : "");
+    say("notes", notesTold(game));
   }
 
   drawRecording(state) {

@@ -44,11 +44,30 @@ function endless(text) {
   return isTooLong ? text : withoutEnd(text.replaceAll("\r\n", "\n"));
 }
 
-// The name of a recording: its own; or the title with the level, where it has none or the title, as the editor writes it.
-export function ownName({ name, source, index }) {
-  const { title } = new Game(source), level = 1 + entriesOfLevels(source).slice(0, index).filter((rows) => rows.length > 0).length;
-  return WITHOUT_NAME.includes(name) || fold(name) === fold(title) ? `${title}, level ${level}` : name;
+// The titles of texts and the numbers of their levels, each text read once, since many recordings may be of one.
+class Titles {
+  constructor() {
+    this.known = new Map();
+  }
+
+  // A text by { title, numbers }: of each entry of LEVELS the number of the level that is there, or comes next.
+  of(source) {
+    if (!this.known.has(source)) {
+      const numbers = [1];
+      for (const rows of entriesOfLevels(source)) numbers.push(numbers.at(-1) + (rows.length > 0));
+      this.known.set(source, { title: new Game(source).title, numbers });
+    }
+    return this.known.get(source);
+  }
+
+  // The name of a recording: its own; or the title with the level, where it has none or the title, as the editor writes it.
+  nameOf({ name, source, index }) {
+    const { title, numbers } = this.of(source), level = numbers[index] ?? numbers.at(-1);
+    return WITHOUT_NAME.includes(name) || fold(name) === fold(title) ? `${title}, level ${level}` : name;
+  }
 }
+
+export const ownName = (recording) => new Titles().nameOf(recording);
 
 // Names of which no two are alike. Each keeps the number that it got last, so that many of one name aren't counted anew.
 class Names {
@@ -104,11 +123,11 @@ class Known {
 // What of some recordings is added to the entries of a file, under names that no other has, and how many are there already: { added, known }. Those of
 // the text at hand follow it.
 export function toAdd(recordings, entries, text) {
-  const known = new Known(entries.map((it) => ({ ...it, source: it.source || text }))), names = new Names(entries.map(({ name }) => name)), added = [];
+  const known = new Known(entries.map((it) => ({ ...it, source: it.source || text }))), names = new Names(entries.map(({ name }) => name)), titles = new Titles(), added = [];
   for (const it of recordings) {
     const whole = { ...it, source: it.source || text };
     if (!known.take(whole)) continue;
-    added.push({ ...it, name: names.free(ownName(whole)), source: known.isSameText(whole.source, text) ? "" : it.source });
+    added.push({ ...it, name: names.free(titles.nameOf(whole)), source: known.isSameText(whole.source, text) ? "" : it.source });
   }
   return { added, known: recordings.length - added.length };
 }

@@ -16,6 +16,7 @@ const PIXELS = /^[0-9.]+$/;
 const ROWS = 5; // of a sprite, each of as many pixels
 const MOST_COLOURS = 10; // a pixel is a digit, so no further colour is drawn
 const SWITCHES = new Map(Object.entries({ noaction: 4, noundo: "undo", norestart: "restart" })); // words of the prelude that switch a key off
+const MOST_LEVELS = 1024; // to choose from: no game that is played has more entries of LEVELS
 const MOST_LETTERS = 200; // of a text of a stranger that is read in a line among others
 const NAMES_GONE_THROUGH = 500_000; // are gone through to find what all others stand for: far more than in a game that is played
 
@@ -242,5 +243,5 @@ export function entriesOfLevels(source) {
 // The levels to choose from: the number of each, from 1, the entry of LEVELS that it is, and its sides.
 export function levelsOf(source) {
   const entries = entriesOfLevels(source).map((rows, index) => ({ index, width: [...(rows[0] ?? "")].length, height: rows.length }));
-  return entries.filter((entry) => entry.height > 0).map((entry, place) => ({ number: place + 1, ...entry }));
+  return entries.filter((entry) => entry.height > 0).slice(0, MOST_LEVELS).map((entry, place) => ({ number: place + 1, ...entry }));
 }

@@ -1,6 +1,6 @@
 // Keeps what is worked on between visits, in the browser's own storage on this machine. Each tab keeps its own, so none overwrites another's.
 import { forgetNote, namesNoted, noted, noteDown } from "./notes.mjs";
-import { FIRST, formerVisit, isFree, newName, noteLeaving, noteName } from "./visits.mjs";
+import { FIRST, formerVisit, giveBack, isFree, newName, noteLeaving, noteName } from "./visits.mjs";
 
 const DATABASE = "saxtegun", STORE = "kept";
 const PATIENCE = 5000; // milliseconds that a page that was left may take to be gone
@@ -66,8 +66,9 @@ export class Store {
     this.entries = [...own, ...others.sort((one, other) => timeOf(other) - timeOf(one))].filter(isThere);
   }
 
-  // Goes on with those entries that were read; all others stay as they are.
+  // Goes on with those entries that were read; all others stay as they are, for other tabs.
   async goOn(names) {
+    this.left.filter((name) => !names.includes(name)).forEach(giveBack);
     this.left = this.left.filter((name) => names.includes(name));
     const own = this.entries.find(({ name }) => name === this.name && names.includes(name));
     if (own === undefined) {

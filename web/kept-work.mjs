@@ -92,17 +92,28 @@ function leftBy({ text, work, file, isUnsaved, past, example }) {
   return Object.keys(own).length === 0 ? past : [...past, own];
 }
 
-// What other tabs left, but for what a state has itself, as a copy of one that isn't gone does.
-function leftBeside(others, state) {
-  const textOf = (lost) => textOfValue(keptLoss(lost)), there = new Set(others.length > 0 ? leftBy(state).map(textOf) : []);
-  return others.flatMap(leftBy).filter((lost) => !there.has(textOf(lost)));
+// What another tab left, but for what a state has itself, as a copy of one that isn't gone does.
+function leftBeside(other, state) {
+  const textOf = (lost) => textOfValue(keptLoss(lost)), there = new Set(leftBy(state).map(textOf));
+  return leftBy(other).filter((lost) => !there.has(textOf(lost)));
 }
 
-// The state to begin with, of all entries that were kept: { state, read, unreadable, isCut }, where `read` are the names of those that it has in it, and
-// `isCut` is whether there was no room for all of one.
+// What other tabs left as it can be put back in a state, as long as there is room, and the names of those for which there is none.
+function takenBeside(others, state) {
+  const taken = [], waiting = [];
+  for (const { name, state: other } of others) {
+    const lost = leftBeside(other, state), room = MOST_PAST - state.past.length - taken.length;
+    if (lost.length > 0 && room <= 0) waiting.push(name);
+    else taken.push(...(lost.length > room ? lost.slice(-room) : lost));
+  }
+  return { taken, waiting };
+}
+
+// The state to begin with, of all entries that were kept: { state, read, unreadable, isCut, waiting }, where `read` are the names of those that it has in
+// it, `isCut` is whether there was no room for all of one, and `waiting` how many stay where they are, since there is no room to put them back.
 export function stateOfVisit(entries, example) {
   const found = entries.map((entry) => ({ ...entry, state: stateOfEntry(entry, example) })), readable = found.filter(({ state }) => state !== null);
-  const [first = beginning(example), ...others] = readable.map(({ state }) => state), past = [...leftBeside(others, first), ...first.past].slice(-MOST_PAST);
-  const isCut = readable.some(({ note }) => note?.isCut);
-  return { state: { ...first, past }, read: readable.map(({ name }) => name), unreadable: found.length - readable.length, isCut };
+  const [{ state } = { state: beginning(example) }, ...others] = readable, { taken, waiting } = takenBeside(others, state);
+  const read = readable.map(({ name }) => name).filter((name) => !waiting.includes(name)), isCut = readable.some(({ note }) => note?.isCut);
+  return { state: { ...state, past: [...taken, ...state.past] }, read, unreadable: found.length - readable.length, isCut, waiting: waiting.length };
 }

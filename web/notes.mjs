@@ -57,7 +57,7 @@ const isBehind = (note, value) => ((note.turn ?? 0) - (value.turn ?? 0) || (note
 
 // What the database has together with what was noted since; null where that is nothing.
 export function withNote(value, note) {
-  if (note === null || !isBehind(note, value)) return null;
+  if (note === null || !Array.isArray(note.past) || !isBehind(note, value)) return null;
   const again = new Set(note.past.map(textOfValue));
   return { ...value, ...note, past: [...(value.past ?? []).filter((lost) => !again.has(textOfValue(lost))), ...note.past] };
 }

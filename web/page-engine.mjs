@@ -101,6 +101,15 @@ class PlayerThread {
   }
 }
 
+// Hands an answer to the page, or that there is none where it is larger than may be handed over.
+function hand(answer) {
+  try {
+    globalThis.postMessage(answer);
+  } catch {
+    globalThis.postMessage(BROKEN);
+  }
+}
+
 // What the worker does: it answers whatever it is asked, also where it can't.
 export function servePlayer() {
   let engine = null;
@@ -112,7 +121,7 @@ export function servePlayer() {
   };
   globalThis.addEventListener("message", async ({ data }) => {
     if (data.module) engine = load(data.module);
-    else globalThis.postMessage(await answerTo(data).catch(() => BROKEN));
+    else hand(await answerTo(data).catch(() => BROKEN));
   });
 }
 

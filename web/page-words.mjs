@@ -8,6 +8,8 @@ import { causeOf, framesOf, gameOf, isPlayed, shownOf, sourceOf } from "./replay
 import { clocksOf, countOfOthers, rowsOf, runWithFrames, runsOfNow, sessionOf } from "./suite.mjs";
 import { hasClock, isRefusedForClock } from "./ticks.mjs";
 
+const MOST_NOTES = 50; // that are told of a game
+
 const upper = (text) => `${text[0].toUpperCase()}${text.slice(1)}.`;
 
 // Why the text isn't played, { sentence, line }, or null.
@@ -49,13 +51,24 @@ export function clockTold(state) {
 const UNREADABLE = "What this browser kept of an earlier visit can't be read by this page. It stays where it is.";
 const NO_ROOM = "This browser had no room for all that was changed just before the page was left: an older file, or less to put back, may be here.";
 
+const WAITING = "What closed tabs left waits, since no more can be put back here: open this page in another tab to go on with it.";
+
 // What is said of what was kept of earlier visits, or null.
-export const visitTold = (unreadable, isCut) => (unreadable === 0 && !isCut ? null : [...(unreadable > 0 ? [UNREADABLE] : []), ...(isCut ? [NO_ROOM] : [])].join(" "));
+export function visitTold({ unreadable, isCut, waiting }) {
+  const told = [...(unreadable > 0 ? [UNREADABLE] : []), ...(isCut ? [NO_ROOM] : []), ...(waiting > 0 ? [WAITING] : [])];
+  return told.length === 0 ? null : told.join(" ");
+}
 
 // What is promised of where the work is: whether the browser kept it, or null where that takes long.
 export function keepingTold(isKept) {
   const told = isKept === null ? "This browser has not kept your last changes yet. Wait, or save your work as files." : isKept ? "What you work on stays in this browser; save it as files." : "This browser keeps nothing for a page from the disk: save your work as files.";
   return `Nothing leaves this machine. ${told}`;
+}
+
+// What is told of how a game is drawn otherwise than it draws itself.
+export function notesTold({ notes }) {
+  const more = notes.length - MOST_NOTES;
+  return notes.length === 0 ? "" : `${[...notes.slice(0, MOST_NOTES), ...(more > 0 ? [`and ${plural(more, "more note")}`] : [])].join("; ")}.`;
 }
 
 // What stands above the level: { text, close }.

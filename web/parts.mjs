@@ -1,11 +1,5 @@
 // Sessions that are more than the engine takes in one file: they are played in parts, whose lines are joined as if they were one.
-const SESSION = /(?<="session":)[0-9]+(?=\}$)/gm;
-
-// The lines of a part, whose sessions are numbered from `first` on.
-function renumbered(lines, first) {
-  if (first === 0) return lines;
-  return new TextEncoder().encode(new TextDecoder().decode(lines).replace(SESSION, (number) => String(first + Number(number))));
-}
+import { numbered } from "../engine/saxtegun.mjs";
 
 function joinedBytes(pieces) {
   const whole = new Uint8Array(pieces.reduce((sum, piece) => sum + piece.length, 0));
@@ -29,7 +23,7 @@ export async function playedInParts(engine, parts, count, { order, signal, progr
     if (isWhole) return answer;
     signal.throwIfAborted();
     if (answer.fault !== null) return { fault: faultOfPart(answer.fault, first), lines: null };
-    pieces.push(renumbered(answer.lines, first));
+    pieces.push(numbered(answer.lines, first));
   }
   return { fault: null, lines: joinedBytes(pieces) };
 }

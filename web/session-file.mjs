@@ -43,12 +43,20 @@ function tight(bytes, [begin, end]) {
 // Where the elements of the list stand that a span of bytes is.
 const spansIn = (bytes, [begin, end]) => elementsOf(bytes.subarray(begin, end)).map(([one, other]) => tight(bytes, [begin + one, begin + other]));
 
-// The bytes with others in the place of a span.
-function spliced(bytes, [begin, end], piece) {
-  const whole = new Uint8Array(bytes.length - (end - begin) + piece.length);
-  whole.set(bytes.subarray(0, begin));
-  whole.set(piece, begin);
-  whole.set(bytes.subarray(end), begin + piece.length);
+// The bytes with others in the place of some spans, [[span, piece]] in their order.
+function spliced(bytes, changes) {
+  const whole = new Uint8Array(changes.reduce((size, [[begin, end], piece]) => size + piece.length - (end - begin), bytes.length));
+  let from = 0, to = 0;
+  const add = (piece) => {
+    whole.set(piece, to);
+    to += piece.length;
+  };
+  for (const [[begin, end], piece] of changes) {
+    add(bytes.subarray(from, begin));
+    add(piece);
+    from = end;
+  }
+  add(bytes.subarray(from));
   return whole;
 }
 
@@ -77,6 +85,49 @@ export function textOf(bytes, name, coding = "utf-8") {
 export function codingOf([first, second]) {
   if ((first === 0xff && second === 0xfe) || second === 0) return "utf-16le";
   return (first === 0xfe && second === 0xff) || first === 0 ? "utf-16be" : "utf-8";
+}
+
+const sizeOf = (text) => new TextEncoder().encode(text).length;
+
+// The texts of games as the engine gets them, each made once.
+class PlayedTexts {
+  constructor(played) {
+    Object.assign(this, { played, known: new Map() });
+  }
+
+  // A text as it is played: { isSame, json, size }, where `isSame` is whether it stays as it is.
+  of(source) {
+    if (!this.known.has(source)) {
+      const text = this.played(source), json = JSON.stringify(text);
+      this.known.set(source, { isSame: text === source, json, size: sizeOf(json) });
+    }
+    return this.known.get(source);
+  }
+
+  // What a file has of an entry, before its text, that, and behind it.
+  piecesOf({ name, source, inputs, level, index }, game) {
+    return [`[${JSON.stringify(name)},[`, this.of(source || game).json, `,${JSON.stringify([inputs, level, index]).slice(1)}]`];
+  }
+
+  // The bytes of these pieces, with the comma behind them.
+  sizeOf({ source }, game, [before, , behind]) {
+    return sizeOf(before) + this.of(source || game).size + sizeOf(behind) + 1;
+  }
+}
+
+// Consecutive sessions as a file of their own, from a number on.
+class Part {
+  constructor(first) {
+    Object.assign(this, { first, sessions: [] });
+  }
+
+  take(pieces) {
+    this.sessions.push(pieces);
+  }
+
+  get bytes() {
+    return new TextEncoder().encode(`[${this.sessions.map((pieces) => pieces.join("")).join(",")}]`);
+  }
 }
 
 export class SessionFile {
@@ -108,22 +159,20 @@ export class SessionFile {
   }
 
   // The file as it is played, with a game's text in the place of empty ones, and each text as the engine gets it: as few files as the engine takes,
-  // [{ first, bytes }] with the number of the first session in each.
+  // [{ first, bytes }] with the number of the first session in each. The bytes are made once they are asked for, since a text may be that of many sessions.
   partsOver(game, played = (source) => source) {
-    if (this.entries.every(({ source }) => source !== "" && played(source) === source)) return [{ first: 0, bytes: this.bytes }];
-    const parts = [];
-    let texts = [], first = 0, size = 2;
-    const end = (next) => {
-      parts.push({ first, bytes: new TextEncoder().encode(`[${texts.join(",")}]`) });
-      [texts, first, size] = [[], next, 2];
-    };
-    this.entries.forEach(({ name, source, inputs, level, index }, number) => {
-      const text = JSON.stringify([name, [played(source || game), inputs, level, index]]), length = new TextEncoder().encode(text).length + 1;
-      if (texts.length > 0 && size + length > MOST_BYTES) end(number);
-      texts.push(text);
+    const texts = new PlayedTexts(played), parts = [];
+    if (this.entries.every(({ source }) => source !== "" && texts.of(source).isSame)) return [{ first: 0, bytes: this.bytes }];
+    let size = Infinity;
+    this.entries.forEach((entry, number) => {
+      const pieces = texts.piecesOf(entry, game), length = texts.sizeOf(entry, game, pieces);
+      if (size + length > MOST_BYTES) {
+        parts.push(new Part(number));
+        size = 2;
+      }
+      parts.at(-1).take(pieces);
       size += length;
     });
-    end(this.entries.length);
     return parts;
   }
 
@@ -137,7 +186,7 @@ export class SessionFile {
   }
 
   changedBy(span, piece) {
-    return new SessionFile(this.name, spliced(this.bytes, span, piece));
+    return new SessionFile(this.name, spliced(this.bytes, [[span, piece]]));
   }
 
   // The file with other recorded levels, [[number, level]].
@@ -152,14 +201,9 @@ export class SessionFile {
 
   // The file with another value at a place of the lists of some sessions, [[number, value]].
   withParts(place, changes) {
-    let file = this;
-    const spans = this.spans();
-    // from the last one on, so that the spans of those before stay
-    for (const [number, value] of [...changes].sort(([one], [other]) => other - one)) {
-      const body = spansIn(file.bytes, spans[number])[1];
-      file = { bytes: spliced(file.bytes, spansIn(file.bytes, body)[place], encoded(value)) };
-    }
-    return new SessionFile(this.name, file.bytes);
+    const spans = this.spans(), sorted = [...changes].sort(([one], [other]) => one - other);
+    const at = ([number]) => spansIn(this.bytes, spansIn(this.bytes, spans[number])[1])[place];
+    return new SessionFile(this.name, spliced(this.bytes, sorted.map((change) => [at(change), encoded(change[1])])));
   }
 
   // The file with one more session at its end.

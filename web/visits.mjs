@@ -4,6 +4,8 @@ const LEFT = "saxtegun-page-left"; // what a tab notes as it leaves the page, wh
 const CUT = "cut"; // what it notes where there was no room for all that was changed
 export const FIRST = "work"; // how names begin, and where earlier pages kept theirs
 
+const releases = new Map(); // by a name that is this tab's what gives it back
+
 export const newName = () => `${FIRST} ${Date.now().toString(36)} ${Math.random().toString(36).slice(2)}`;
 
 // Whether no tab with this name is open; the name is this tab's then, as long as that is open. Where the browser has no locks none is.
@@ -13,11 +15,14 @@ export function isFree(name, patience = 0) {
     const options = patience > 0 ? { signal: AbortSignal.timeout(patience) } : { ifAvailable: true };
     const take = (lock) => {
       settle(lock !== null);
-      return lock === null ? undefined : new Promise(() => {});
+      return lock === null ? undefined : new Promise((release) => releases.set(name, release));
     };
     navigator.locks.request(`saxtegun ${name}`, options, take).catch(() => settle(false));
   });
 }
+
+// Gives a name back, so that another tab may have it.
+export const giveBack = (name) => releases.get(name)?.();
 
 // The name that this tab had before a reload, whether it left the page since, and whether it had no room for its last changes; no name where there is none.
 export function formerVisit() {

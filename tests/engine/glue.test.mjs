@@ -2,6 +2,7 @@
 import assert from 'node:assert/strict';
 import { existsSync, readFileSync, readdirSync } from 'node:fs';
 import test from 'node:test';
+import { Worker } from 'node:worker_threads';
 import { elementsOf, load, numbered, parse, partsOf } from '../../engine/saxtegun.mjs';
 import { attack } from './hostile.mjs';
 
@@ -220,4 +221,15 @@ test('lines are numbered', () => {
   assert.equal(textOf(numbered(bytesOf(lines), 81)), '{"session":81}\n{"name":"\\"session\\":3}","session":100}\n');
   assert.equal(numbered(new Uint8Array(0), 5).length, 0);
   for (const line of ['{}\n', '{"session":}\n', '{"session":1} \n', '1}\n', '\n']) assert.throws(() => numbered(bytesOf(line), 1));
+});
+
+test('many lines are numbered in little memory beside their own', async () => {
+  const url = new URL('../../engine/saxtegun.mjs', import.meta.url).href;
+  const code = `import('${url}').then(({ numbered }) => {
+    const lines = new TextEncoder().encode('{"session":9}\\n'.repeat(400_000));
+    require('worker_threads').parentPort.postMessage(numbered(lines, 1).length);
+  })`;
+  const worker = new Worker(code, { eval: true, resourceLimits: { maxOldGenerationSizeMb: 24, maxYoungGenerationSizeMb: 8 } });
+  const size = await new Promise((settle, refuse) => worker.on('message', settle).on('error', refuse));
+  assert.equal(size, 15 * 400_000);
 });

@@ -10,6 +10,7 @@ import { findingsIn } from '../../web/console.mjs';
 import { likelyTold } from '../../web/differences.mjs';
 import { rowsInWords } from '../../web/cells.mjs';
 import { Game } from '../../web/game.mjs';
+import { SessionFile } from '../../web/session-file.mjs';
 import { lineOf, linesOf, trimmed } from '../../web/source.mjs';
 
 const HEAD = 'OBJECTS\nBackground .\nblack\nPlayer p\nwhite\n';
@@ -38,6 +39,20 @@ function propertyInRules(size) {
   assert.equal(likelyTold({ source, game: new Game(source), inputs: [], frames: [] }), null);
 }
 
+// Adds as many recordings as the text that they are of has levels.
+function recordingsOfOneText(size) {
+  const text = `${HEAD}LEVELS\n${'p\n\n'.repeat(size)}`;
+  toAdd(Array.from({ length: size }, (_, index) => ({ name: '', source: '', inputs: [], level: '', index })), [], text);
+}
+
+const sessionsOf = size => new SessionFile('f.json', new TextEncoder().encode(JSON.stringify(Array.from({ length: size }, () => ['', ['x', [], '']]))));
+
+// Lets as many sessions follow a text.
+function sessionsThatFollow(size) {
+  const numbers = Array.from({ length: size }, (_, number) => number);
+  assert.ok(sessionsOf(size).withoutSources(numbers).entries.every(({ source }) => source === ''));
+}
+
 // Tells in words a level of as many cells as each has names.
 function inWords(size) {
   const names = Array.from({ length: size }, (_, k) => `a${k}`);
@@ -58,6 +73,8 @@ const READINGS = {
   'letters that draw nothing': [5000, size => told('BadGlyph', LETTERS.slice(0, size).join(''), 'LEVELS\n')],
   'recordings of texts of their own': [2000, size => toAdd(Array.from({ length: size }, (_, index) => ({ name: 'one', source: `title ${index}`, inputs: [], level: '', index })), [], 'title x\r\n'.repeat(20 * size))],
   'recordings of one name': [2000, size => toAdd(Array.from({ length: size }, (_, index) => ({ name: 'one name', source: '', inputs: [], level: '', index })), [], '')],
+  'recordings of one text': [500, recordingsOfOneText],
+  'sessions that follow a text': [4000, sessionsThatFollow],
   'brackets': [20_000, size => linesOf(`${'('.repeat(size)}${')'.repeat(size)}\n${HEAD}`)],
 };
 

@@ -17,9 +17,9 @@ class Visit {
   static async of() {
     const visit = new Visit();
     visit.store = await Store.open();
-    const { state, read, unreadable, isCut } = stateOfVisit(visit.store.entries, GAME);
+    const { state, read, ...it } = stateOfVisit(visit.store.entries, GAME);
     await visit.store.goOn(read);
-    Object.assign(visit, { state, told: visitTold(unreadable, isCut || visit.store.isCut), kept: [] });
+    Object.assign(visit, { state, told: visitTold({ ...it, isCut: it.isCut || visit.store.isCut }), kept: [] });
     visit.keep(state);
     return visit;
   }
@@ -225,4 +225,24 @@ test("keys that wait are kept", async () => {
 test("the page promises what it says once all is kept", () => {
   const page = readFileSync(new URL("../../web/playground.html", import.meta.url), "utf-8");
   assert.ok(page.includes(`<p id="promise" role="status">${keepingTold(true)}</p>`));
+});
+
+test("what a closed tab left waits for a tab of its own where no more can be put back", async () => {
+  const browser = new OneTab(), past = Array.from({ length: 60 }, (_, number) => ({ text: `title old ${number}` }));
+  const left = { ...beginning(GAME), text: "title left", past: [{ text: "title before" }] };
+  browser.database.entries.set("work full", keptOf({ ...beginning(GAME), text: "title full", past }, false));
+  browser.database.entries.set("work left", { ...keptOf(left, false), kept: 1 });
+  const visit = await Visit.of();
+  await visit.written();
+  assert.deepEqual([visit.state.text, visit.state.past.length, browser.database.entries.has("work left")], ["title full", 60, true]);
+  assert.match(visit.told, /^What closed tabs left waits/);
+  // a tab that is opened beside this one may have it
+  assert.deepEqual([...browser.locks.held].includes("saxtegun work left"), false);
+  const almost = stateOfVisit([{ name: "one", value: keptOf({ ...beginning(GAME), text: "title full", past: past.slice(1) }, false) }, { name: "other", value: keptOf(left, false) }], GAME);
+  assert.deepEqual([almost.read, almost.waiting, almost.state.past.length, almost.state.past[0]], [["one", "other"], 0, 60, { text: "title left" }]);
+});
+
+test("a note that is none takes no work away", () => {
+  const value = keptOf({ ...beginning(GAME), text: "title mine" }, false);
+  for (const note of [{ turn: 9, past: 5 }, { turn: 9 }, 5, "text", [], {}]) assert.equal(stateOfVisit([{ name: "one", value, note }], GAME).state.text, "title mine");
 });

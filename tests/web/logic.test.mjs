@@ -47,6 +47,14 @@ test("a sessions file is read", () => {
   assert.deepEqual(file.partsOver("the game").map(({ first, bytes }) => [first, textOf(bytes)]), [[0, '[["one",["source",[0,"undo"],"a:0,",1]],["two",["the game",[],"b:0,",0]]]']]);
 });
 
+test("a text that many sessions are played over is made ready once", () => {
+  const entries = Array.from({ length: 300 }, (_, number) => [`s${number}`, ["", [], "b:0,", 0]]), file = new SessionFile("f.json", bytesOf(JSON.stringify(entries)));
+  let asked = 0;
+  const parts = file.partsOver("a game", (text) => `${text}${asked += 1}`);
+  assert.equal(asked, 1);
+  assert.deepEqual(JSON.parse(textOf(parts[0].bytes)), entries.map(([name, [, ...others]]) => [name, ["a game1", ...others]]));
+});
+
 test("a file is played in as few parts as the engine takes, and their lines are joined", async () => {
   const entries = Array.from({ length: 300 }, (_, number) => [`s${number}`, ["", [], "b:0,", 0]]), file = new SessionFile("f.json", bytesOf(JSON.stringify(entries))), game = "x".repeat(150_000);
   const parts = file.partsOver(game), counts = parts.map(({ bytes }) => JSON.parse(textOf(bytes)).length);

@@ -4,12 +4,13 @@ import test from "node:test";
 import { Animation, WON, paceOf, scenesOf } from "../../web/animating.mjs";
 import { rowsInWords } from "../../web/cells.mjs";
 import { cut, readable } from "../../web/elements.mjs";
+import { Game, levelsOf } from "../../web/game.mjs";
 import { fileNameOf } from "../../web/handing.mjs";
 import { swipeOf } from "../../web/keys.mjs";
 import { messagesAt, messagesOf } from "../../web/messages.mjs";
 import { framesOf } from "../../web/replaying.mjs";
 import { beginning, edited, fromLevel, lookedAt, pressed, ticked, withGame } from "../../web/work.mjs";
-import { clockTold, statusOf, verdictOf } from "../../web/page-words.mjs";
+import { clockTold, notesTold, statusOf, verdictOf } from "../../web/page-words.mjs";
 import { SessionFile } from "../../web/session-file.mjs";
 import { withOtherFile } from "../../web/filing.mjs";
 import { rowsOf, sessionOpened } from "../../web/suite.mjs";
@@ -49,6 +50,16 @@ message the end
 `;
 // The same with two cells more, where an action and then each tick take the player one step on.
 const TICKING = FALLING.replace("RULES\n", "RULES\n[ action Player ] -> [ right Player ] again\n[ stationary Player ] -> [ right Player ] again\n").replaceAll("p.g", "p...g");
+
+test("of levels and notes no more are shown than a page bears", () => {
+  assert.equal(levelsOf(`LEVELS\n${"p\n\n".repeat(1024)}`).length, 1024);
+  assert.equal(levelsOf(`LEVELS\n${"p\n\n".repeat(3000)}`).length, 1024);
+  const told = (count) => notesTold(new Game(`OBJECTS\n${Array.from({ length: count }, (_, number) => `o${number}\nc${number}\n`).join("")}`));
+  assert.equal(told(0), "");
+  assert.equal(told(1), "its colour c0 is drawn as grey.");
+  assert.match(told(50), /; its colour c49 is drawn as grey\.$/);
+  assert.match(told(3000), /; its colour c49 is drawn as grey; and 2950 more notes\.$/);
+});
 
 test("the messages of LEVELS stand between its levels", () => {
   assert.deepEqual(messagesOf(FALLING), ["first (of all)", null, "second", "third", null, "the end"]);

@@ -75,7 +75,8 @@ class Locks {
       return take(null);
     }
     this.held.add(name);
-    return take({ name });
+    await take({ name });
+    return this.held.delete(name);
   }
 }
 
