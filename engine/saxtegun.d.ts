@@ -9,7 +9,8 @@ export interface Answer {
   /**
    * Why the file was refused, and else null: `not-json`, `bad-entry N`, `bad-level N`, `too-many` as docs/sessions.md has them; `memory`, where memory was
    * refused; `broken`, where the module stopped at a fault, its own or that of what it was built by, or a worker could not be started; `no-stages`, where
-   * stages or firings were asked of an older module, which gives none; `no-descriptions`, where a description was.
+   * stages or firings were asked of an older module, which gives none; `no-descriptions`, where a description was; `no-open-sessions`, where a session was to
+   * be opened. Of an open session also `not-open`, `too-many-inputs` and `too-few-inputs`.
    */
   fault: string | null;
 }
@@ -129,6 +130,31 @@ export interface Block {
   loop: boolean;
 }
 
+/** The items that came with the last input of an open session, as their lines have them. Where there is a fault, there are none. */
+export interface Moved {
+  frames: Frame[];
+  close: Close | null;
+  fault: string | null;
+}
+
+/**
+ * A session that is kept open. It shows what the session of its inputs shows, whatever was called before. A call with a fault leaves it as it was, but for
+ * `broken`, and `memory` of lines that no room could be had for: they close all open sessions of the engine.
+ */
+export interface OpenSession {
+  /** The inputs that it was given so far. */
+  readonly inputs: Session['inputs'];
+  readonly isOpen: boolean;
+  /** Gives it inputs, one after another; with none it tells once more what came with the last. */
+  give(inputs: Session['inputs']): Moved;
+  /** Goes back to where it had so many inputs. That plays no more inputs than lie behind a level that was kept, of which there are the more the nearer. */
+  back(count: number): Moved;
+  /** Another session that was given the same. */
+  copy(): { session: OpenSession | null; fault: string | null };
+  /** Gives its memory back. Later calls are answered by `not-open`. */
+  close(): void;
+}
+
 export interface WorkerOptions extends Options {
   /** How many workers play at once, 1 to 64; where it is left out, one fewer than there are processors. */
   workers?: number;
@@ -160,6 +186,10 @@ export interface Engine {
   description(source: string | ArrayBuffer | ArrayBufferView): { description: Description | null; fault: string | null };
   /** The same as bytes of JSON. The status of an answer is 0 or 2. */
   descriptionOf(source: string | ArrayBuffer | ArrayBufferView): Answer;
+  /** Whether the module keeps sessions open. */
+  readonly hasOpenSessions: boolean;
+  /** Opens a session, and gives it its inputs: what came with the last of them, or with its start. There is no session where there is a fault, or it is refused. */
+  open(session: Session, options?: Options): Moved & { session: OpenSession | null };
   /** Plays a file in workers of its own, cut into files of consecutive sessions. The answer is that of `replay`. */
   replayInWorkers(text: string | ArrayBuffer | ArrayBufferView, options?: WorkerOptions): Promise<Answer>;
 }

@@ -2,7 +2,7 @@
 // it is used, and saxtegun.d.ts what each function takes and gives.
 
 /** The kinds of faults by their numbers, and the orders of the cells of a level. */
-const FAULTS = ['', 'memory', 'not-json', 'bad-entry', 'bad-level', 'too-many'];
+const FAULTS = ['', 'memory', 'not-json', 'bad-entry', 'bad-level', 'too-many', 'not-open', 'too-many-inputs', 'too-few-inputs'];
 const ORDERS = { rows: 0, columns: 1 };
 
 const MOST_BYTES = 16_777_216;
@@ -16,10 +16,15 @@ const LARGE = 1024 * MIB;
 /** The bytes of lines of which frames or stages are made; those of more would take a page's memory. */
 const MOST_OF_FRAMES = 512 * MIB;
 const OUTCOME_BYTES = 24;
+/** The bytes of the place that holds an instance's open sessions, all zero at first. */
+const HELD_BYTES = 24;
+/** The inputs that are no presses, and the bytes by which an open session is given them. */
+const WORDS = new Map([['undo', 5], ['restart', 6], ['tick', 7]]);
 const MOST_WORKERS = 64;
 const PARTS_OF_A_WORKER = 8;
 const WORKER = 'saxtegun-worker';
-const STAGES = 'saxtegun_stages', FIRINGS = 'saxtegun_firings', DESCRIPTION = 'saxtegun_description'; // exports that older modules don't have
+// exports that older modules don't have
+const STAGES = 'saxtegun_stages', FIRINGS = 'saxtegun_firings', DESCRIPTION = 'saxtegun_description', OPEN = 'saxtegun_open';
 const MOST_NUMBER = 0xffff_ffff; // that the module is told; no file has so many sessions or inputs
 
 const isNode = typeof process === 'object' && typeof process.versions?.node === 'string';
@@ -67,12 +72,22 @@ function smallNumberOf(number) {
   return Math.min(number, MOST_NUMBER);
 }
 
+/** The bytes of inputs, each a number from 0 to 4 or a word. */
+function bytesOfInputs(inputs) {
+  return Uint8Array.from(inputs, input => {
+    const byte = Number.isInteger(input) && input >= 0 && input <= 4 ? input : WORDS.get(input);
+    if (byte === undefined) throw new TypeError('an input is a number from 0 to 4, "undo", "restart" or "tick"');
+    return byte;
+  });
+}
+
 const fileOfOne = ({ source, inputs, level = '', index = 0 }) => JSON.stringify([['', [source, inputs, level, index]]]);
 
 /** An instance of the module, with the room into which it writes lines. */
 class Instance {
   #exports;
   #room = { at: 0, size: 0 };
+  #held = null;
 
   constructor(module) {
     this.#exports = new WebAssembly.Instance(module).exports;
@@ -108,10 +123,49 @@ class Instance {
     return answer;
   }
 
-  /** What a call has left in the memory. */
-  #answer(outcome, count) {
+  /**
+   * Calls a function that opens or moves a session: { number, lines, fault }. Lines for which the room was too small are asked for once more, by giving
+   * the session no inputs.
+   */
+  askOpen(bytes, call) {
+    this.#held ??= this.#takeZeros(HELD_BYTES);
+    const input = this.#take(bytes.length), outcome = this.#take(OUTCOME_BYTES);
+    if (!input.at || !outcome.at || !this.#held.at || !this.#room.at) throw new RangeError('no room for a call');
+    new Uint8Array(this.#exports.memory.buffer, input.at, input.size).set(bytes);
+    let count = Number(call(this.#exports, this.#held.at, input, this.#room, outcome.at));
+    const { entry } = this.#said(outcome.at);
+    if (count > this.#room.size) {
+      this.#exports.give_back_room(this.#room.at);
+      this.#room = this.#take(count);
+      if (!this.#room.at) throw new RangeError('no room for lines');
+      count = Number(this.#exports.saxtegun_give(this.#held.at, entry, input.at, 0n, this.#room.at, BigInt(this.#room.size), outcome.at));
+    }
+    const { lines, fault } = this.#answer(outcome.at, count);
+    this.#exports.give_back_room(input.at);
+    this.#exports.give_back_room(outcome.at);
+    return { number: entry, lines, fault };
+  }
+
+  close(number) {
+    this.#exports.saxtegun_close(this.#held.at, number);
+  }
+
+  #takeZeros(size) {
+    const room = this.#take(size);
+    if (room.at) new Uint8Array(this.#exports.memory.buffer, room.at, size).fill(0);
+    return room;
+  }
+
+  /** What an outcome says. */
+  #said(outcome) {
     const words = new DataView(this.#exports.memory.buffer, outcome, OUTCOME_BYTES);
     const [status, kind, entry] = [0, 8, 16].map(at => Number(words.getBigUint64(at, true)));
+    return { status, kind, entry };
+  }
+
+  /** What a call has left in the memory. */
+  #answer(outcome, count) {
+    const { status, kind, entry } = this.#said(outcome);
     if (status === 2) {
       const fault = FAULTS[kind];
       return refused(fault.startsWith('bad-') ? `${fault} ${entry}` : fault);
@@ -122,11 +176,102 @@ class Instance {
   }
 }
 
+/** The open sessions of one instance. Where a call does not come back none of them is open any more. */
+class Shelf {
+  #instance;
+
+  constructor(module) {
+    this.#instance = new Instance(module);
+  }
+
+  get isBroken() {
+    return this.#instance === null;
+  }
+
+  /** What a call answers: { number, frames, close, fault }. */
+  ask(bytes, call) {
+    if (this.isBroken) return { number: -1, frames: [], close: null, fault: 'broken' };
+    try {
+      const { number, lines, fault } = this.#instance.askOpen(bytes, call);
+      return { number, ...framesOf({ lines, fault }) };
+    } catch (error) {
+      this.#instance = null;
+      return { number: -1, frames: [], close: null, fault: faultOf(error) };
+    }
+  }
+
+  close(number) {
+    this.#instance?.close(number);
+  }
+}
+
+const NO_BYTES = new Uint8Array(0);
+
+/** A session that is kept open. It has the inputs that it was given; a call with a fault leaves it as it was, but that `broken` closes it. */
+class OpenSession {
+  #shelf;
+  #number;
+  #inputs;
+
+  constructor(shelf, number, inputs = []) {
+    this.#shelf = shelf;
+    this.#number = number;
+    this.#inputs = inputs;
+  }
+
+  get inputs() {
+    return [...this.#inputs];
+  }
+
+  get isOpen() {
+    return this.#number !== null && !this.#shelf.isBroken;
+  }
+
+  give(inputs) {
+    const bytes = bytesOfInputs(inputs);
+    const answer = this.#ask(bytes, (exports, held, input, room, outcome) =>
+      exports.saxtegun_give(held, this.#number, input.at, BigInt(input.size), room.at, BigInt(room.size), outcome));
+    if (answer.fault === null) this.#inputs = this.#inputs.concat(inputs);
+    return answer;
+  }
+
+  back(count) {
+    const stay = smallNumberOf(count);
+    const answer = this.#ask(NO_BYTES, (exports, held, _, room, outcome) =>
+      exports.saxtegun_back(held, this.#number, stay, room.at, BigInt(room.size), outcome));
+    if (answer.fault === null) this.#inputs = this.#inputs.slice(0, count);
+    return answer;
+  }
+
+  copy() {
+    const { number, fault } = this.#asked(NO_BYTES, (exports, held, _, room, outcome) => {
+      exports.saxtegun_copy(held, this.#number, outcome);
+      return 0;
+    });
+    return { session: fault === null ? new OpenSession(this.#shelf, number, this.#inputs) : null, fault };
+  }
+
+  close() {
+    if (this.isOpen) this.#shelf.close(this.#number);
+    this.#number = null;
+  }
+
+  #asked(bytes, call) {
+    return this.#number === null ? { number: -1, frames: [], close: null, fault: 'not-open' } : this.#shelf.ask(bytes, call);
+  }
+
+  #ask(bytes, call) {
+    const { frames, close, fault } = this.#asked(bytes, call);
+    return { frames, close, fault };
+  }
+}
+
 /** The engine in the thread that calls it. An instance whose call did not come back is never called again. */
 class Engine {
   #module;
   #worker;
   #instance = null;
+  #shelf = null;
 
   constructor(module, worker) {
     this.#module = module;
@@ -143,6 +288,25 @@ class Engine {
     const number = numberOf(order), first = inputOf(from);
     return framesOf(this.#ask(fileOfOne(session), (exports, input, room, outcome) =>
       exports.saxtegun_frames(input.at, BigInt(input.size), number, first, room.at, BigInt(room.size), outcome)));
+  }
+
+  get hasOpenSessions() {
+    return this.#has(OPEN);
+  }
+
+  open(session, { order = 'columns' } = {}) {
+    const number = numberOf(order), file = bytesOf(fileOfOne({ ...session, inputs: [] }));
+    if (!this.#has(OPEN)) return notOpened('no-open-sessions');
+    if (file === null) return notOpened('not-json');
+    if (this.#shelf === null || this.#shelf.isBroken) this.#shelf = new Shelf(this.#module);
+    const shelf = this.#shelf, opened = shelf.ask(file, (exports, held, input, room, outcome) =>
+      exports.saxtegun_open(held, input.at, BigInt(input.size), number, 0, room.at, BigInt(room.size), outcome));
+    if (opened.fault !== null || opened.close.close === 'refused') return { ...notOpened(opened.fault), close: opened.close };
+    const its = new OpenSession(shelf, opened.number);
+    if (session.inputs.length === 0) return { session: its, frames: opened.frames, close: opened.close, fault: null };
+    const given = its.give(session.inputs);
+    if (given.fault !== null) its.close();
+    return { ...given, session: given.fault === null ? its : null };
   }
 
   #has(asked) {
@@ -217,6 +381,8 @@ class Engine {
     }
   }
 }
+
+const notOpened = fault => ({ session: null, frames: [], close: null, fault });
 
 async function bytesAt(url) {
   if (isNode && url.protocol === 'file:') return (await import('node:fs/promises')).readFile(url);

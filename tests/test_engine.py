@@ -135,6 +135,26 @@ class TheStages(OnStages):
         self.assertEqual(self.tell("0", "1", module=self.room / "empty.wasm"), (2, "", "no-stages\n"))
 
 
+@unittest.skipUnless(NODE, "there is no node")
+class OpenSessions(unittest.TestCase):
+    """Tests the glue of open sessions, without a module and over the one that is built; the second name begins with Engine, by which ./check finds it."""
+
+    def pass_the_glue(self, **module):
+        ran = subprocess.run([NODE, "--test", "--test-reporter=tap", OWN / "open.test.mjs"], env={**os.environ, **module}, stdout=subprocess.PIPE, stderr=subprocess.STDOUT, check=False)
+        self.assertEqual(ran.returncode, 0, ran.stdout.decode(errors="replace"))
+
+    def test_the_glue_without_a_module(self):
+        self.pass_the_glue(SAXTEGUN_MODULE="/nonexistent/module.wasm")
+
+
+@unittest.skipUnless(NODE and IS_BUILT, "there is no node, or the module is not built")
+class EngineOpenSessions(OpenSessions):
+    """The same over the module."""
+
+    def test_the_glue(self):
+        self.pass_the_glue()
+
+
 @unittest.skipUnless(NODE and IS_BUILT, "there is no node, or the module is not built")
 class EngineStages(OnStages, OnCases):
     """The stages that the module gives; the name begins with Engine, by which ./check finds it."""

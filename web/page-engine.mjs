@@ -1,17 +1,17 @@
 // The engine in the page: the module that stands in it, played in workers alone, so that the page answers whatever a game does.
 import { load } from "../engine/saxtegun.mjs";
 import { at } from "./elements.mjs";
+import { KeptOpen, ONE_MORE } from "./kept-open.mjs";
 import { MOST_INPUTS } from "./session-file.mjs";
 import { playedText } from "./ticks.mjs";
 
-// The last win shows no frame of its own; with one more input that runs no rule, play that is over shows it.
-const ONE_MORE = "undo";
 export const PLAYER = "saxtegun-player"; // the name of the workers that play for the page
 
 const FEW = 131_072; // bytes of a sessions file that one worker plays
 const SOON = 400; // milliseconds that it may take for it
 const MOMENT = 30; // milliseconds for which inputs are looked through before it is told what came of it
 const GRACE = 100; // milliseconds that a worker has to end what isn't wanted any more
+const IDLE = 200; // milliseconds without a question, after which a session is opened for the keys that may come
 
 // The module, which stands in the page compressed.
 async function moduleBytes() {
@@ -110,18 +110,26 @@ function hand(answer) {
   }
 }
 
-// What the worker does: it answers whatever it is asked, also where it can't.
+// What the worker does: it answers whatever it is asked, also where it can't. Behind what it played it keeps a session open, to which a key is given alone.
 export function servePlayer() {
-  let engine = null;
+  let engine = null, open = null, timer = 0;
   const answerTo = async ({ wanted, staged, covered, bytes, order }) => {
     const module = await engine;
-    if (wanted) return playedBy(module, wanted);
+    if (wanted) return (await open).played(wanted) ?? playedBy(module, wanted);
     if (staged) return stagesBy(module, staged);
     return covered ? actedBy(module, covered) : module.replay(bytes, { order });
   };
+  const follow = (wanted) => open.then((kept) => kept.follow(wanted)).catch(() => {});
   globalThis.addEventListener("message", async ({ data }) => {
-    if (data.module) engine = load(data.module);
-    else hand(await answerTo(data).catch(() => BROKEN));
+    clearTimeout(timer);
+    if (data.module) {
+      engine = load(data.module);
+      open = engine.then((module) => new KeptOpen(module));
+      open.catch(() => {});
+      return;
+    }
+    hand(await answerTo(data).catch(() => BROKEN));
+    if (data.wanted) timer = setTimeout(follow, IDLE, data.wanted);
   });
 }
 

@@ -2,6 +2,7 @@
 import { existsSync, readFileSync } from "node:fs";
 import { load } from "../../engine/saxtegun.mjs";
 import { keptOf, stateOfVisit } from "../../web/kept-work.mjs";
+import { KeptOpen } from "../../web/kept-open.mjs";
 import { actedBy, playedBy, stagesBy } from "../../web/page-engine.mjs";
 import { Runner } from "../../web/running.mjs";
 import { beginning } from "../../web/work.mjs";
@@ -22,8 +23,13 @@ export function closesOf(entries, order) {
 
 export class Bench {
   constructor(state = beginning(GAME)) {
-    const [stages, acted] = [stagesBy, actedBy].map((answer) => async (wanted) => answer(module, wanted));
-    this.engine = { play: async (wanted) => playedBy(module, wanted), stages, acted, playAll: async (bytes, { order }) => module.replay(bytes, { order }) };
+    const [stages, acted] = [stagesBy, actedBy].map((answer) => async (wanted) => answer(module, wanted)), open = new KeptOpen(module);
+    const play = async (wanted) => {
+      const answer = open.played(wanted) ?? playedBy(module, wanted);
+      open.follow(wanted);
+      return answer;
+    };
+    this.engine = { play, stages, acted, playAll: async (bytes, { order }) => module.replay(bytes, { order }) };
     this.begin(state);
   }
 

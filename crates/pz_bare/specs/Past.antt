@@ -13,6 +13,16 @@ given_back (Middle changes) grid = restored (changes_seen grid changes.items) gr
 given_back (Large changes) grid = restored (changes_seen grid changes.items) grid
 given_back (Whole level) grid = level.value.grid
 
+-- what a way keeps, wherever its memory lies: changes of one, two or four words a cell, or the whole older level
+abbrev pub Kept : Type 0
+Kept = Option (List (Change 1)) × (Option (List (Change 2)) × (Option (List (Change 4)) × Option Grid))
+
+abbrev pub kept_in : Older → Kept
+kept_in (Small changes) = (Some changes.items, (None, (None, None)))
+kept_in (Middle changes) = (None, (Some changes.items, (None, None)))
+kept_in (Large changes) = (None, (None, (Some changes.items, None)))
+kept_in (Whole level) = (None, (None, (None, Some level.value.grid)))
+
 -- the changes are exactly the cells in which an older level of the same size differs
 pub record AreChangesTo (N : ℕ) (grid older : Grid) (changes : List (Change N)) : Type 0 where
   pub size : SameSize grid older

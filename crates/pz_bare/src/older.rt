@@ -1,7 +1,7 @@
 //! The way back from a level to the one before it.
 
-ghost use Rattle.std.specs.Prelude.{◌≡◌, IfOk, OnOk, OnErr, All};
-ghost use Rattle.pz_bare.specs.Past.{given_back, Leads, IsFor};
+ghost use Rattle.std.specs.Prelude.{◌≡◌, IfOk, OnOk, OnErr, All, map};
+ghost use Rattle.pz_bare.specs.Past.{given_back, kept_in, Leads, IsFor};
 ghost use Rattle.pz_sheet.specs.Changes.{changes_seen, IsChangeOf, restored};
 ghost use Rattle.pz_sheet.specs.Grid.{SameSize};
 
@@ -102,4 +102,29 @@ impl BareLevel {
             _ => unreachable!(),
         }
     }
+}
+
+impl Older {
+    /// A copy of the way. Err: memory was refused.
+    fn copy(&self, alloc: Global) -> Result<Older, AllocError>
+        ensures { IfOk result (λ way. kept_in way ≡ kept_in self.now) }
+    {
+        Ok(match self {
+            Older::Small(changes) => Older::Small(Vec::from_slice(alloc, changes)?),
+            Older::Middle(changes) => Older::Middle(Vec::from_slice(alloc, changes)?),
+            Older::Large(changes) => Older::Large(Vec::from_slice(alloc, changes)?),
+            Older::Whole(level) => Older::Whole(Box::new(alloc, level.copy()?)?),
+        })
+    }
+}
+
+/// Copies of the ways. Err: memory was refused.
+pub(crate) fn copied(alloc: Global, ways: &[Older]) -> Result<Vec<Older>, AllocError>
+    ensures { IfOk result (λ copies. map kept_in copies.items ≡ map kept_in ways.now) }
+{
+    let mut copies = Vec::with_capacity(alloc, ways.len())?;
+    for way in ways {
+        copies.push(way.copy(alloc)?)?;
+    }
+    Ok(copies)
 }

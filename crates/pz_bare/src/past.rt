@@ -1,9 +1,9 @@
 //! The past of a session.
 
-ghost use Rattle.std.specs.Prelude.{◌≡◌, ◌<◌, List, [], ◌∷◌, ◌++◌, OnOk, OnErr, MatchOption, drop, vec_len, vec_capacity};
+ghost use Rattle.std.specs.Prelude.{◌≡◌, ◌<◌, List, [], ◌∷◌, ◌++◌, IfOk, OnOk, OnErr, MatchOption, drop, vec_len, vec_capacity};
 
 use crate::BareLevel;
-use crate::older::Older;
+use crate::older::{Older, copied};
 use std::alloc::{AllocError, Global};
 use std::marker::Model;
 
@@ -44,6 +44,18 @@ impl Past {
             newest: None,
             before: Vec::new(alloc),
         }
+    }
+
+    /// A copy. Err: memory was refused.
+    pub fn copy(&self) -> Result<Past, AllocError>
+        ensures { IfOk result (λ past. past ≡ self.now) }
+    {
+        let before = copied(*self.before.allocator(), &self.before)?;
+        let newest = match &self.newest {
+            Some(newest) => Some(newest.copy()?),
+            None => None,
+        };
+        Ok(Past { newest, before })
     }
 
     /// Forgets all levels.

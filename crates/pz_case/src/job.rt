@@ -48,4 +48,16 @@ impl Job {
     {
         &self.cases[number]
     }
+
+    /// The case of a number, counted from 0, if there is one. The others are dropped.
+    pub fn into_case(self, number: usize) -> Option<Case>
+        ensures { result ≡ slice_get self number }
+    {
+        let Job { mut cases } = self;
+        if number < cases.len() {
+            Some(cases.swap_remove(number))
+        } else {
+            None
+        }
+    }
 }

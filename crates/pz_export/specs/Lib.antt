@@ -1,3 +1,6 @@
 pub mod Outcome
 pub mod Lines
 pub mod Description
+pub mod Inputs
+pub mod Held
+pub mod Open

@@ -1,9 +1,13 @@
 //! The engine for a host that isn't written in Rattle: functions with the calling convention of C, from the bytes of a file of sessions to
-//! the lines of their recording, and from a source to its description.
+//! the lines of their recording, from a source to its description, and sessions that are
+//! kept open.
 #![tactic(auto)]
 
 pub mod description;
+pub mod held;
+pub mod inputs;
 pub mod lines;
+pub mod open;
 pub mod outcome;
 #[cfg(test)]
 mod tests;

@@ -16,7 +16,7 @@ use pz_stages::file::stages;
 use std::alloc::Global;
 
 /// The order that a host asks for.
-fn order_of(number: u32) -> Order
+pub(crate) fn order_of(number: u32) -> Order
     ensures { result ≡ order_of number }
 {
     if number == 0 {
@@ -27,7 +27,7 @@ fn order_of(number: u32) -> Order
 }
 
 /// Puts bytes at the beginning of a room, if they fit.
-fn begin_with(room: &mut [u8], bytes: &[u8])
+pub(crate) fn begin_with(room: &mut [u8], bytes: &[u8])
     ensures { room.new ≡ begun_with bytes.now room.old }
 {
     let count = bytes.len();

@@ -1,8 +1,11 @@
 //! What a host sees.
 
 use crate::description::saxtegun_description;
+use crate::held::Held;
 use crate::lines::{saxtegun_firings, saxtegun_frames, saxtegun_lines, saxtegun_stages};
+use crate::open::{saxtegun_back, saxtegun_close, saxtegun_copy, saxtegun_give, saxtegun_open};
 use crate::outcome::{Outcome, played};
+use std::alloc::Global;
 use std::test::Fail;
 
 /// A walk of two steps against a wall, which passes by rows alone.
@@ -225,5 +228,119 @@ fn describes_no_bytes_that_are_no_text(rt: HostRuntime) -> Result<(), Fail> {
     assert!(rt; count == 0);
     assert!(rt; outcome.status == 2 && outcome.fault == 2 && outcome.entry == 0);
     assert!(rt; room.iter().all(|byte| *byte == 7));
+    Ok(())
+}
+
+/// Of the lines of the walk those that come with its start, with one step, and with a second.
+const AT_START: &str = concat!(
+    "{\"at\":0,\"frame\":0,\"kind\":\"start\",\"level\":\"background wall:0,background player:1,background:2,\\n0,0,0,\\n\",\"session\":0}\n",
+    "{\"close\":\"differs\",\"frames\":1,\"name\":\"walk\",\"session\":0}\n",
+);
+
+const AT_ONE: &str = concat!(
+    "{\"at\":1,\"frame\":1,\"kind\":\"move\",\"level\":\"background wall:0,background:1,background player:2,\\n0,0,0,\\n\",\"session\":0}\n",
+    "{\"close\":\"passed\",\"frames\":2,\"name\":\"walk\",\"session\":0}\n",
+);
+
+/// A host that keeps sessions open, with room for so many bytes of lines.
+#[derive(Drop)]
+struct Host {
+    held: Held,
+    room: Vec<u8>,
+    outcome: Outcome,
+}
+
+impl Host {
+    fn new(alloc: Global, size: usize) -> Result<Host, Fail> {
+        Ok(Host {
+            held: Held::none(),
+            room: vec![in alloc; 7; size]?,
+            outcome: played(false),
+        })
+    }
+
+    fn open(&mut self, alloc: Global) -> usize {
+        let file = WALK.as_bytes();
+        let room = self.room.as_mut_slice();
+        saxtegun_open(alloc, &mut self.held, file, 0, 0, room, &mut self.outcome)
+    }
+
+    fn give(&mut self, alloc: Global, number: u32, inputs: &[u8]) -> usize {
+        let room = self.room.as_mut_slice();
+        saxtegun_give(
+            alloc,
+            &mut self.held,
+            number,
+            inputs,
+            room,
+            &mut self.outcome,
+        )
+    }
+
+    fn back(&mut self, number: u32, inputs: u32) -> usize {
+        let room = self.room.as_mut_slice();
+        saxtegun_back(&mut self.held, number, inputs, room, &mut self.outcome)
+    }
+
+    /// Whether the last call was carried out for the session of a number, with these lines.
+    fn told(&self, count: usize, number: u64, lines: &str) -> bool {
+        let says = self.outcome.status == 0 && self.outcome.fault == 0;
+        says && self.outcome.entry == number
+            && count == lines.len()
+            && self.room.starts_with(lines.as_bytes())
+    }
+
+    /// Whether the last call was refused by this fault.
+    fn refused(&self, count: usize, fault: u64) -> bool {
+        count == 0 && self.outcome.status == 2 && self.outcome.fault == fault
+    }
+}
+
+#[test]
+fn keeps_a_session_open(rt: HostRuntime) -> Result<(), Fail> {
+    let mut host = Host::new(rt.alloc(), 1000)?;
+    let count = host.open(rt.alloc());
+    assert!(rt; host.told(count, 0, AT_START));
+    let count = host.give(rt.alloc(), 0, &[3]);
+    assert!(rt; host.told(count, 0, AT_ONE));
+    let count = host.back(0, 0);
+    assert!(rt; host.told(count, 0, AT_START));
+    let count = host.give(rt.alloc(), 0, &[3, 3]);
+    assert!(rt; host.told(count, 0, LAST_LINES));
+    Ok(())
+}
+
+#[test]
+fn asks_again_where_the_room_is_too_small(rt: HostRuntime) -> Result<(), Fail> {
+    let mut host = Host::new(rt.alloc(), AT_ONE.len() - 1)?;
+    assert!(rt; host.open(rt.alloc()) == AT_START.len());
+    assert!(rt; host.give(rt.alloc(), 0, &[3]) == AT_ONE.len());
+    assert!(rt; host.room.iter().all(|byte| *byte == 7));
+    host.room.push(7)?;
+    let count = host.give(rt.alloc(), 0, &[]);
+    assert!(rt; host.told(count, 0, AT_ONE));
+    Ok(())
+}
+
+#[test]
+fn refuses_what_is_not_open(rt: HostRuntime) -> Result<(), Fail> {
+    let mut host = Host::new(rt.alloc(), 1000)?;
+    let count = host.give(rt.alloc(), 0, &[3]);
+    assert!(rt; host.refused(count, 6));
+    host.open(rt.alloc());
+    saxtegun_copy(&mut host.held, 0, &mut host.outcome);
+    assert!(rt; host.told(0, 1, ""));
+    assert!(rt; saxtegun_close(&mut host.held, 0));
+    assert!(rt; !saxtegun_close(&mut host.held, 0));
+    let count = host.give(rt.alloc(), 0, &[]);
+    assert!(rt; host.refused(count, 6));
+    saxtegun_copy(&mut host.held, 0, &mut host.outcome);
+    assert!(rt; host.refused(0, 6));
+    let count = host.give(rt.alloc(), 1, &[8]);
+    assert!(rt; host.refused(count, 9));
+    let count = host.back(1, 1);
+    assert!(rt; host.refused(count, 8));
+    let count = host.give(rt.alloc(), 1, &[3]);
+    assert!(rt; host.told(count, 1, AT_ONE));
     Ok(())
 }

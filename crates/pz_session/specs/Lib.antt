@@ -19,3 +19,4 @@ pub use Rattle.pz_job.specs.Job
 pub use Rattle.pz_level_text.specs.Equality
 pub use Rattle.pz_level_text.specs.LevelNames
 pub use Rattle.pz_level_text.specs.LevelText
+pub mod Standing

@@ -17,6 +17,7 @@ use crate::chain::{Frame, PlayFault, Shown};
 use crate::labelled::Labelled;
 use crate::level_texts::equals;
 use crate::place::{put, put_aside, put_before};
+use crate::standing::Standing;
 use crate::turn::is_idle;
 use bitflags::Flags;
 use pz_bare::BareLevel;
@@ -445,6 +446,83 @@ impl<'a> Board<'a> {
         ensures { result ≡ self.now.is_over }
     {
         self.is_over
+    }
+}
+
+/// What is kept of a board while nothing is played.
+impl<'a> Board<'a> {
+    ghost use Rattle.pz_session.specs.Board.{IsOneGame};
+    ghost use Rattle.pz_session.specs.Standing.{state_at, stood_in};
+
+    /// Where the session stands between two inputs.
+    pub fn leave(self) -> Standing
+        ensures stood { result ≡ stood_in self.entry }
+        ensures game { IsOneGame self.entry }
+    {
+        let Board {
+            alloc: _,
+            game: _,
+            program: _,
+            order: _,
+            recorded: _,
+            entry,
+            level,
+            target,
+            past,
+            before,
+            differs: _,
+            spare,
+            is_over,
+            texts: _texts,
+            labelled: _,
+        } = self;
+        drop(before);
+        drop(spare);
+        Standing {
+            entry,
+            level,
+            target,
+            past,
+            is_over,
+        }
+    }
+
+    /// The session that stands there.
+    pub fn resume(
+        alloc: Global,
+        game: &'a Game,
+        program: &'a Program,
+        order: Order,
+        recorded: &'a Recorded,
+        standing: Standing,
+    ) -> Board<'a>
+        requires { IsOneGame (state_at game.now program.now order recorded.now standing) }
+        ensures { result ≡ state_at game.now program.now order recorded.now standing }
+    {
+        let Standing {
+            entry,
+            level,
+            target,
+            past,
+            is_over,
+        } = standing;
+        Board {
+            alloc,
+            game,
+            program,
+            order,
+            recorded,
+            entry,
+            level,
+            target,
+            past,
+            before: None,
+            differs: None,
+            spare: None,
+            is_over,
+            texts: TextWriter::new(alloc, game, order),
+            labelled: Labelled::Nothing,
+        }
     }
 }
 

@@ -10,6 +10,7 @@ mod place;
 mod player;
 pub mod run;
 mod stage;
+pub mod standing;
 mod tape;
 mod turn;
 

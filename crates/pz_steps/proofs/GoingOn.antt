@@ -65,7 +65,7 @@ inputs_lead (suc count) taken (input ∷ inputs) from state is = next (λ middle
             ∙ ap (λ (frames : Frames). record { shown = frames; close = end.close }) (sym (append_assoc shown later.0 end.shown)),
       )
 
-numbered_append : (n : ℕ) (frames more : Frames) → numbered n (frames ++ more) ≡ numbered n frames ++ numbered (n + length frames) more
+pub numbered_append : (n : ℕ) (frames more : Frames) → numbered n (frames ++ more) ≡ numbered n frames ++ numbered (n + length frames) more
 unfolding numbered
 numbered_append n [] more = ap (λ (m : ℕ). numbered m more) (omega arith)
 numbered_append n (f ∷ frames) more =

@@ -1,0 +1,5 @@
+pub mod Opening
+pub mod Keeping
+pub mod Chains
+pub mod Moving
+pub mod Keeps

@@ -1,0 +1,68 @@
+// A session that the player's worker keeps open behind what it played last, so that a key costs a press and not the whole recording.
+import { isPlayOf } from "./replaying.mjs";
+import { MOST_INPUTS } from "./session-file.mjs";
+import { playedText } from "./ticks.mjs";
+
+// The last win shows no frame of its own; with one more input that runs no rule, play that is over shows it.
+export const ONE_MORE = "undo";
+
+// How many inputs two lists begin with that are the same.
+function sharedBy(one, other) {
+  const most = Math.min(one.length, other.length);
+  let count = 0;
+  while (count < most && one[count] === other[count]) count += 1;
+  return count;
+}
+
+export class KeptOpen {
+  constructor(engine) {
+    Object.assign(this, { engine, of: null, session: null });
+  }
+
+  // What one more input led to, as `playedBy` tells it; null where no open session stands before it, or the engine gave no answer.
+  played(wanted) {
+    const { inputs, from } = wanted;
+    if (from === 0 || from !== inputs.length || !this.isOpenFor(wanted) || !this.isAt(inputs.slice(0, -1))) return null;
+    const { frames, close, fault } = this.session.give(inputs.slice(-1));
+    if (fault !== null) return this.leave();
+    return { frames, cause: close.cause ?? null, isSolved: this.isOver(inputs) };
+  }
+
+  // Goes to where a recording ends, for the keys that may come.
+  follow({ source, index, order, isTicked, inputs }) {
+    if (!this.engine.hasOpenSessions) return;
+    if (!this.isOpenFor({ source, index, order, isTicked })) {
+      this.leave();
+      const { session } = this.engine.open({ source: playedText(source, isTicked), index, inputs }, { order });
+      Object.assign(this, { session, of: { source, index, order, isTicked } });
+    }
+    if (this.session !== null) this.isAt(inputs);
+  }
+
+  isOpenFor(wanted) {
+    return this.session !== null && this.session.isOpen && isPlayOf(this.of, wanted);
+  }
+
+  // Whether the open session has come to where it has these inputs.
+  isAt(inputs) {
+    const had = this.session.inputs, shared = sharedBy(had, inputs);
+    const answers = [shared < had.length ? this.session.back(shared) : null, shared < inputs.length ? this.session.give(inputs.slice(shared)) : null];
+    const isThere = answers.every((answer) => answer === null || answer.fault === null);
+    if (!isThere) this.leave();
+    return isThere;
+  }
+
+  // Whether play is over behind these inputs: one input more would show the last win.
+  isOver(inputs) {
+    if (inputs.length >= MOST_INPUTS) return false;
+    const { frames, fault } = this.session.give([ONE_MORE]);
+    if (fault === null) this.session.back(inputs.length);
+    return frames.at(-1)?.kind === "over";
+  }
+
+  leave() {
+    this.session?.close();
+    this.session = null;
+    return null;
+  }
+}
