@@ -11,7 +11,7 @@ const FEW = 131_072; // bytes of a sessions file that one worker plays
 const SOON = 400; // milliseconds that it may take for it
 const MOMENT = 30; // milliseconds for which inputs are looked through before it is told what came of it
 const GRACE = 100; // milliseconds that a worker has to end what isn't wanted any more
-const IDLE = 200; // milliseconds without a question, after which a session is opened for the keys that may come
+const IDLE = 200; // milliseconds without a question, after which a session is opened for the keys that may come; behind a key it is opened at once
 
 // The module, which stands in the page compressed.
 async function moduleBytes() {
@@ -129,7 +129,7 @@ export function servePlayer() {
       return;
     }
     hand(await answerTo(data).catch(() => BROKEN));
-    if (data.wanted) timer = setTimeout(follow, IDLE, data.wanted);
+    if (data.wanted) timer = setTimeout(follow, data.wanted.from > 0 ? 0 : IDLE, data.wanted);
   });
 }
 
