@@ -165,6 +165,9 @@ class Programs(InAFreshClone):
                     status, out, errors = self.called("lines", self.empty, *named, path=path, folder=strange)
                     self.assertEqual((status, out), (0, f"built --order columns {self.empty}\n"), errors)
                     self.assertFalse((self.room / "ran").exists())
+                ran = subprocess.run([self.top / "replay", self.empty], cwd=strange, env={"PATH": path, "BASH_ENV": "./setup", "CDPATH": "."}, stdout=subprocess.PIPE, stderr=subprocess.PIPE)
+                self.assertEqual((ran.returncode, ran.stdout.decode()), (0, f"built {self.empty}\n"), ran.stderr)
+                self.assertFalse((self.room / "ran").exists())
 
     def test_node_reads_nothing_of_a_folder_before_our_functions(self):
         self.release()

@@ -25,7 +25,7 @@ export class KeptOpen {
     if (from === 0 || from !== inputs.length || !this.isOpenFor(wanted) || !this.isAt(inputs.slice(0, -1))) return null;
     const { frames, close, fault } = this.session.give(inputs.slice(-1));
     if (fault !== null) return this.leave();
-    return { frames, cause: close.cause ?? null, isSolved: this.isOver(inputs) };
+    return { frames, cause: close.cause ?? null, isSolved: this.isOver(wanted, frames) };
   }
 
   // Goes to where a recording ends, for the keys that may come.
@@ -52,12 +52,15 @@ export class KeptOpen {
     return isThere;
   }
 
-  // Whether play is over behind these inputs: one input more would show the last win.
-  isOver(inputs) {
-    if (inputs.length >= MOST_INPUTS) return false;
-    const { frames, fault } = this.session.give([ONE_MORE]);
+  // Whether play is over behind these inputs, of which the last showed these frames. A last win shows none, but behind ticks of `again` others may stand
+  // before it; then one input more tells, which is taken back.
+  isOver({ source, inputs }, frames) {
+    const last = frames.at(-1)?.kind;
+    if (last === "over" || inputs.length >= MOST_INPUTS) return last === "over";
+    if (last !== undefined && !/again/i.test(source)) return false;
+    const { frames: more, fault } = this.session.give([ONE_MORE]);
     if (fault === null) this.session.back(inputs.length);
-    return frames.at(-1)?.kind === "over";
+    return more.at(-1)?.kind === "over";
   }
 
   leave() {

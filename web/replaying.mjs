@@ -45,6 +45,14 @@ export const takenOf = (state) => (isAtEnd(state) ? state.work.inputs.length : f
 
 // ---- what is played
 
+// The state with the frames of a beginning of what was played, where that is what is worked on now: nothing is to be played for it.
+export function cutToPlayed(state) {
+  const { work: { index, inputs }, order, isTicked, played } = state, taken = inputs.length;
+  if (!isPlayOf(played, { source: sourceOf(state), index, order, isTicked }) || played.cause !== null || taken >= played.inputs.length || !isSameList(played.inputs.slice(0, taken), inputs)) return state;
+  const isSolved = played.frames.some(({ at, kind }) => at === taken + 1 && kind === "over");
+  return { ...state, played: { ...played, inputs, frames: played.frames.filter(({ at }) => at <= taken), isSolved } };
+}
+
 // What the engine is wanted to play: all of the recording, or one more input behind what is looked at. Null where nothing is.
 export function wantedPlay(state) {
   if (state.isHeld) return null;

@@ -5,7 +5,7 @@ import { isSameList } from "./past.mjs";
 import { framesOf, isAtEnd, isPlayed, sourceOf } from "./replaying.mjs";
 import { refusalTold } from "./session-file.mjs";
 import { isFailure } from "./session-list.mjs";
-import { hasClock, isRefusedForClock } from "./ticks.mjs";
+import { clocks, isRefusedForClock } from "./ticks.mjs";
 import { withWork } from "./work.mjs";
 
 // ---- how all sessions closed
@@ -28,19 +28,36 @@ export const runWithFrames = ({ lines, runs }, number) => ({ ...runs[number], fr
 // Whether a session has a text of its own that isn't the one at hand.
 export const isOther = (state, number) => ![ "", state.text ].includes(state.file.entries[number].source);
 
+const CLOCKS = new WeakMap(); // for each file what is known of the texts of its sessions: { text, isWithClock }
+
+// Tells of a text of a session whether it has a clock; each is read once while the file and the text at hand stay the same.
+function clockOf({ file, text }) {
+  if (file === null) return clocks();
+  if (CLOCKS.get(file)?.text !== text) CLOCKS.set(file, { text, isWithClock: clocks() });
+  return CLOCKS.get(file).isWithClock;
+}
+
 // How many sessions are refused since their games have a clock, or are played without it.
 export function clocksOf(state) {
   if (state.isTicked) return rowsOf(state).filter((row) => row.isTicked).length;
-  return (runsOfNow(state) ?? []).filter(({ cause }, number) => isRefusedForClock(state.file.entries[number].source || state.text, cause)).length;
+  const isWithClock = clockOf(state);
+  return (runsOfNow(state) ?? []).filter(({ cause }, number) => isRefusedForClock(state.file.entries[number].source || state.text, cause, isWithClock)).length;
 }
 
 export const countOfOthers = (state) => (state.file?.entries ?? []).filter((_, number) => isOther(state, number)).length;
 
+const ROWS = new WeakMap(); // what is listed in a state, which never changes
+
 // What is listed of each session.
 export function rowsOf(state) {
-  const runs = runsOfNow(state), { partings = null } = state.comparison ?? {};
+  if (!ROWS.has(state)) ROWS.set(state, madeRows(state));
+  return ROWS.get(state);
+}
+
+function madeRows(state) {
+  const runs = runsOfNow(state), { partings = null } = state.comparison ?? {}, isWithClock = clockOf(state);
   return (state.file?.entries ?? []).map(({ name, source }, number) => ({
-    isTicked: state.isTicked && hasClock(source || state.text),
+    isTicked: state.isTicked && isWithClock(source || state.text),
     name, close: runs?.[number].close ?? null, frames: runs?.[number].count ?? null, parting: partings?.[number] ?? null, isLookedAt: isSeen(state, number), isOther: isOther(state, number),
   }));
 }

@@ -3,18 +3,24 @@
 import { cutAtSpace, fold, linesOf, trimmed } from "./source.mjs";
 
 const CLOCK = "realtime_interval";
-const MOST_KNOWN = 64;
-const known = new Map(); // whether a text has a clock
 
 const clockLinesOf = (source) => linesOf(source).filter(({ section, text }) => section === "prelude" && fold(cutAtSpace(text)[0]) === CLOCK);
 
-// Whether a game has a clock.
+let asked = { source: "", isThere: false }; // the text of which it was asked last
+
+// Whether a game has a clock. A text without the word has none, and is not read.
 export function hasClock(source) {
-  if (!known.has(source)) {
-    if (known.size >= MOST_KNOWN) known.clear();
-    known.set(source, clockLinesOf(source).length > 0);
-  }
-  return known.get(source);
+  if (asked.source !== source) asked = { source, isThere: fold(source).includes(CLOCK) && clockLinesOf(source).length > 0 };
+  return asked.isThere;
+}
+
+// The same for the texts of many sessions, each read once.
+export function clocks(isThere = hasClock) {
+  const known = new Map();
+  return (source) => {
+    if (!known.has(source)) known.set(source, isThere(source));
+    return known.get(source);
+  };
 }
 
 // The text of a game without its clock. All other lines keep their numbers.
@@ -31,4 +37,4 @@ export function withoutClock(source) {
 export const playedText = (source, isTicked) => (isTicked ? withoutClock(source) : source);
 
 // Whether a game is refused for its clock.
-export const isRefusedForClock = (source, cause) => (cause ?? "").startsWith("OutsideProfile:") && hasClock(source);
+export const isRefusedForClock = (source, cause, isWithClock = hasClock) => (cause ?? "").startsWith("OutsideProfile:") && isWithClock(source);

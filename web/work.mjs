@@ -4,7 +4,7 @@ import { levelsOf } from "./game.mjs";
 import { messagesAt } from "./messages.mjs";
 import { behindAll, remembering } from "./past.mjs";
 import { firstFrom } from "./recording.mjs";
-import { framesOf, gameOf, isAtEnd, isPlayed, sourceOf, takenOf } from "./replaying.mjs";
+import { cutToPlayed, framesOf, gameOf, isAtEnd, isPlayed, sourceOf, takenOf } from "./replaying.mjs";
 import { MOST_INPUTS } from "./session-file.mjs";
 
 export const RECORDED_ORDER = "columns"; // the one of the published level texts, in which `saxtegun test` plays
@@ -95,7 +95,7 @@ export function withWork(state, work, more = {}) {
 export function cutBack(state) {
   const { inputs } = state.work;
   if (state.queue.length > 0) return { ...state, queue: state.queue.slice(0, -1) };
-  return inputs.length === 0 ? state : withWork(state, { ...state.work, inputs: inputs.slice(0, isAtEnd(state) ? -1 : takenOf(state)) });
+  return inputs.length === 0 ? state : cutToPlayed(withWork(state, { ...state.work, inputs: inputs.slice(0, isAtEnd(state) ? -1 : takenOf(state)) }));
 }
 
 export const named = (state, name) => ({ ...state, work: { ...state.work, name } });

@@ -12,6 +12,7 @@ import { rowsInWords } from '../../web/cells.mjs';
 import { Game } from '../../web/game.mjs';
 import { SessionFile } from '../../web/session-file.mjs';
 import { lineOf, linesOf, trimmed } from '../../web/source.mjs';
+import { clocks } from '../../web/ticks.mjs';
 
 const HEAD = 'OBJECTS\nBackground .\nblack\nPlayer p\nwhite\n';
 const LETTERS = Array.from({ length: 20_000 }, (_, k) => String.fromCharCode(0x4e00 + k));
@@ -159,4 +160,10 @@ test('a piece is read again and again, however often it stands there', () => {
   for (const [before, piece, behind, count] of ROUNDS) {
     assert.equal(findingsIn(before + piece.repeat((10 * LONG) / piece.length) + behind).found.length, count, before + piece);
   }
+});
+
+test('a text that many sessions have is looked through once for a clock, however many others stand between', () => {
+  const asked = [], isWithClock = clocks((source) => asked.push(source) > 0), texts = Array.from({ length: 130 }, (_, k) => `${k}`);
+  for (let turn = 0; turn < 50; turn += 1) for (const text of texts) isWithClock(text);
+  assert.deepEqual(asked, texts);
 });
