@@ -10,13 +10,13 @@ import { listen } from "./listening.mjs";
 import { PLAYER, servePlayer, startEngine } from "./page-engine.mjs";
 import { Runner } from "./running.mjs";
 import { Refusal, SessionFile } from "./session-file.mjs";
-import { following, isFailure } from "./session-list.mjs";
+import { isFailure } from "./session-list.mjs";
 import { RECORDINGS, comparedWithLines, filed, savedAs, withOtherFile, withRecordings } from "./filing.mjs";
 import { framesOf, isAtEnd, shownOf } from "./replaying.mjs";
 import { keepingTold, visitTold } from "./page-words.mjs";
 import { say } from "./saying.mjs";
 import { linePointedAt, lookedAtActed, stageChosen } from "./staging.mjs";
-import { rowsOf, sessionOpened } from "./suite.mjs";
+import { sessionOpened } from "./suite.mjs";
 import { RECORDED_ORDER, edited, inOrder, lookedAt, lookedAtInput, pressed, released, withGame } from "./work.mjs";
 
 const FRAME_PAUSE = 160; // milliseconds between two frames when playing
@@ -87,8 +87,7 @@ class Playground {
 
   // Opens the next session that is listed, or the next failure.
   openNext(step, isFailureWanted) {
-    const rows = rowsOf(this.state), numbers = this.page.list.numbers.filter((number) => !isFailureWanted || isFailure(rows[number]));
-    const number = following(numbers, this.state.work.opened, step);
+    const number = this.page.list.next(step, (row) => !isFailureWanted || isFailure(row));
     if (number !== null) this.act(sessionOpened, number);
   }
 
