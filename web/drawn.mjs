@@ -45,8 +45,8 @@ export class Drawn {
     this.changes = new Changes();
   }
 
-  get stage() {
-    return this.level.stage;
+  get boards() {
+    return this.level.boards;
   }
 
   draw(state, doing, isBusy) {
@@ -57,7 +57,7 @@ export class Drawn {
     when("fault", [state.played, state.text, isNow], () => this.panel.showFault(faultOfText(state)));
     when("levels", [sourceOf(state), state.work.index], () => this.drawLevels(state));
     when("recording", [frames, shown, state.work.inputs, state.played], () => this.drawRecording(state));
-    when("level", [frames, shown, state.order, state.suite, state.comparison, state.file, state.work, isStage && state.staging.came, chosenStage(state), window.innerWidth, window.innerHeight, at("stage").clientWidth], () => this.level.draw(state));
+    when("level", [frames, shown, state.order, state.suite, state.comparison, state.file, state.work, isStage && state.staging.came, chosenStage(state), at("stage").clientWidth], () => this.level.draw(state));
     when("likely", [sourceOf(state), state.work, state.suite, state.played, state.file], () => this.level.drawLikely(state));
     when("stages", [state.staging.isOpen, stagesNow(state), chosenStage(state)], () => this.stages.draw(state));
     when("acted", [state.staging, state.played, shown, state.work, state.order, state.text, doing.coverage], () => this.stages.drawActed(state, doing.coverage, this.panel));

@@ -2,7 +2,7 @@
 // the next (work.mjs, suite.mjs), which is drawn (drawn.mjs), played (running.mjs) and kept (keeping.mjs).
 import { Animation } from "./animating.mjs";
 import { Drawn } from "./drawn.mjs";
-import { at, json } from "./elements.mjs";
+import { at, isMotionReduced, json } from "./elements.mjs";
 import { download, handed, takeFiles } from "./handing.mjs";
 import { keptOf, stateOfVisit } from "./kept-work.mjs";
 import { Store } from "./keeping.mjs";
@@ -32,7 +32,7 @@ class Playground {
       type: (text) => this.runner.type((now) => edited(now, text)),
     };
     this.page = new Drawn(acts);
-    this.animation = new Animation(() => this.runner.show(), () => matchMedia("(prefers-reduced-motion: reduce)").matches);
+    this.animation = new Animation(() => this.runner.show(), isMotionReduced);
     this.runner = new Runner(state, { engine, draw: (...words) => this.draw(...words), keep: (...words) => this.keep(...words) });
   }
 
@@ -147,7 +147,6 @@ async function start() {
   const page = new Playground(state, engine, store);
   listen(page);
   takeFiles((name, bytes) => page.take(name, bytes), (why) => page.refuse(why), (coming) => page.runner.during(coming));
-  window.addEventListener("resize", () => page.runner.show());
   page.runner.update((now) => (told === null ? now : { ...now, told: { text: told, close: null } }));
   document.body.inert = false;
   await page.runner.idle();

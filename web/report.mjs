@@ -83,9 +83,10 @@ const KEYS = {
   N: [null, null, () => openSession(list.next(-1, isFailure))],
   j: ["j, k", "the next session of the list, the one before", () => openSession(list.next(1))],
   k: [null, null, () => openSession(list.next(-1))],
-  "+": ["+, -, 0", "larger, smaller, as large as there is room", whenOpen(() => player.zoomBy(1))],
-  "-": [null, null, whenOpen(() => player.zoomBy(-1))],
-  0: [null, null, whenOpen(() => player.fit())],
+  "+": ["+, -, 0", "larger, smaller, as large as there is room", whenOpen(() => player.boards.zoomBy(1))],
+  "-": [null, null, whenOpen(() => player.boards.zoomBy(-1))],
+  0: [null, null, whenOpen(() => player.boards.fit())],
+  b: ["b", "both levels in one place, one after the other", whenOpen(() => player.boards.blink())],
   "/": ["/", "filter by name", () => at("filter").focus()],
 };
 
