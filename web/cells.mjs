@@ -1,17 +1,11 @@
 // The cells of a level in words, and those in which two levels differ as a list that is gone through one by one.
 import { at, fill, make, plural } from "./elements.mjs";
-import { heightOf, isDrawn, numberAt, placeOf } from "./levels.mjs";
+import { heightOf, isDrawn, numberAt } from "./levels.mjs";
 
 const MOST_LISTED = 300;
 
 // What stands in a cell, by the names of its objects.
 export const cellTold = (names) => (names.join(" ") || "nothing");
-
-// Where a cell stands, counted from 1.
-export function whereTold(level, number) {
-  const [column, row] = placeOf(level, number);
-  return `column ${column + 1}, row ${row + 1}`;
-}
 
 // What stands in the rows of a level, a sentence for each: cells that are alike beside one another are counted.
 export function rowsInWords(level, namesOf) {

@@ -1,5 +1,6 @@
 // Draws the state of the playground: draw(state, doing, isBusy) shows all of it, and nothing else changes what the page shows. It reads the state and never
 // changes it.
+import { CLOSES } from "./closes.mjs";
 import { at, fill, make, plural, readable } from "./elements.mjs";
 import { levelsOf } from "./game.mjs";
 import { LevelDrawn } from "./level-drawn.mjs";
@@ -15,6 +16,9 @@ import { framesOf, gameOf, isAtEnd, isPlayed, shownOf, sourceOf, takenOf } from 
 import { countOfOthers, differenceOf, rowsOf, runsOfNow, seenOf } from "./suite.mjs";
 
 const TABS = ["game", "sessions"];
+
+// How a session of the list closed, and what else is to be known of it.
+const toldOf = ({ close, parting, isLookedAt, isOther, isTicked }) => [close ?? "not played", parting && `diverges at frame ${parting.frame}`, isLookedAt && "seen", isOther && "another text", isTicked && "ticks as recorded"].filter(Boolean).join(", ");
 
 // Calls a function only where something of what it reads has changed.
 class Changes {
@@ -37,12 +41,12 @@ export class Drawn {
     this.level = new LevelDrawn();
     this.stages = new StagesPanel(acts);
     this.strip = new Strip(acts);
-    this.list = new SessionList(acts.open);
+    this.list = new SessionList({ open: acts.open, toldOf, toldOfCount: (listed) => `${listed} listed`, closes: [...CLOSES, "diverges"], always: CLOSES, elsewhere: "stage" });
     this.changes = new Changes();
   }
 
-  get stage() {
-    return this.level.stage;
+  get boards() {
+    return this.level.boards;
   }
 
   draw(state, doing, isBusy) {
@@ -53,7 +57,7 @@ export class Drawn {
     when("fault", [state.played, state.text, isNow], () => this.panel.showFault(faultOfText(state)));
     when("levels", [sourceOf(state), state.work.index], () => this.drawLevels(state));
     when("recording", [frames, shown, state.work.inputs, state.played], () => this.drawRecording(state));
-    when("level", [frames, shown, state.order, state.suite, state.comparison, state.file, state.work, isStage && state.staging.came, chosenStage(state), window.innerWidth, window.innerHeight, at("stage").clientWidth], () => this.level.draw(state));
+    when("level", [frames, shown, state.order, state.suite, state.comparison, state.file, state.work, isStage && state.staging.came, chosenStage(state), at("stage").clientWidth], () => this.level.draw(state));
     when("likely", [sourceOf(state), state.work, state.suite, state.played, state.file], () => this.level.drawLikely(state));
     when("stages", [state.staging.isOpen, stagesNow(state), chosenStage(state)], () => this.stages.draw(state));
     when("acted", [state.staging, state.played, shown, state.work, state.order, state.text, doing.coverage], () => this.stages.drawActed(state, doing.coverage, this.panel));

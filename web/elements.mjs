@@ -32,6 +32,8 @@ export const readable = (text) => text.replace(TURNING, (letter) => `\\u{${lette
 
 export const cut = (text, most) => readable(text.length > most ? `${text.slice(0, most)}\u2026` : text);
 
+export const isMotionReduced = () => matchMedia("(prefers-reduced-motion: reduce)").matches;
+
 export const plural = (count, word) => (count === 1 ? `1 ${word}` : `${count} ${word}s`);
 
 // Scrolls a box, and nothing around it, until an element in it is seen.

@@ -5,7 +5,7 @@ export const INPUT_KEYS = new Map(Object.entries({
 }));
 
 const MOVES = new Map(Object.entries({
-  "[": "back", "]": "on", Home: "first", End: "last", Backspace: "cut", p: "play", j: "next", k: "previous", n: "next-failure", N: "previous-failure", "+": "larger", "-": "smaller", 0: "fit", "{": "stage-back", "}": "stage-on",
+  "[": "back", "]": "on", Home: "first", End: "last", Backspace: "cut", p: "play", j: "next", k: "previous", n: "next-failure", N: "previous-failure", "+": "larger", "-": "smaller", 0: "fit", b: "blink", "{": "stage-back", "}": "stage-on",
 }));
 const SHIFTED = new Map(Object.entries({ ArrowLeft: "back", ArrowRight: "on", ArrowUp: "stage-back", ArrowDown: "stage-on" }));
 const SWIPE = 24; // pixels that a swipe has at least

@@ -1,20 +1,21 @@
 // The level in the middle: the frame that is looked at, beside what it is compared with, or the level behind the stage that is chosen.
+import { Boards } from "./boards.mjs";
 import { Ending } from "./comparing.mjs";
 import { likelyTold } from "./differences.mjs";
-import { readable } from "./elements.mjs";
+import { at, readable } from "./elements.mjs";
 import { Labels, readLevel } from "./level-text.mjs";
-import { differing } from "./levels.mjs";
+import { differing, isDrawn } from "./levels.mjs";
 import { toldOfLevel, unlikenessTold } from "./page-words.mjs";
 import { framesOf, gameOf, isPlayed, shownOf, sourceOf } from "./replaying.mjs";
 import { say } from "./saying.mjs";
-import { Stage } from "./stage.mjs";
+import { STAGE } from "./stage.mjs";
 import { chosenStage } from "./staging.mjs";
 import { stageShown } from "./stage-words.mjs";
 import { differenceOf, runsOfNow, sessionOf } from "./suite.mjs";
 
 export class LevelDrawn {
   constructor() {
-    this.stage = new Stage();
+    this.boards = new Boards(STAGE);
     this.look = null;
   }
 
@@ -29,21 +30,26 @@ export class LevelDrawn {
 
   draw(state) {
     const frame = framesOf(state)[shownOf(state)];
+    at("boards").classList.remove("stale");
     if (chosenStage(state) !== null) return this.drawStage(state);
     if (frame === undefined) return this.drawRefused(state);
     const labels = this.use(state), other = this.comparedWith(state);
     const ending = other && new Ending(frame.level, other.text, state.order, labels);
     const level = ending ? ending.reached : readLevel(frame.level, labels, state.order);
     const unread = level === null ? "This level can't be drawn: a name of an object in it holds a comma." : "";
-    this.stage.show({ level, other: ending?.recorded ?? null, framed: ending?.cells ?? [], caption: other && level ? "reached" : unread, otherCaption: other?.caption ?? "", told: readable(toldOfLevel(state)) });
+    const sides = [{ level, caption: other && level ? "reached" : unread, told: readable(toldOfLevel(state)) }];
+    if (isDrawn(ending?.recorded)) sides.push({ level: ending.recorded, caption: other.caption, told: other.caption });
+    this.boards.show(sides, ending?.cells ?? [], "beside");
     return say("difference", ending ? unlikenessTold(state, ending, other.isOfEngines) : "");
   }
 
   // Takes the look of the game at hand; the labels of its cells.
   use(state) {
     const source = sourceOf(state), game = gameOf(source);
-    if (this.look?.source !== source) this.look = { source, labels: new Labels() };
-    this.stage.use(game.look(), this.look.labels);
+    if (this.look?.source !== source) {
+      this.look = { source, labels: new Labels() };
+      this.boards.use(game.look(), this.look.labels.names);
+    }
     this.kept = { title: game.title, index: state.work.index };
     return this.look.labels;
   }
@@ -52,7 +58,7 @@ export class LevelDrawn {
   drawStage(state) {
     const labels = this.use(state), { text, before, headings, told } = stageShown(state);
     const level = readLevel(text, labels, state.order), changed = before === null ? [] : differing(readLevel(before, labels, state.order), level) ?? [];
-    this.stage.show({ level, other: null, framed: [], changed, headings, caption: readable(told), otherCaption: "", told: readable(`${toldOfLevel(state)}, ${told}`) });
+    this.boards.show([{ level, changed, headings, caption: readable(told), told: readable(`${toldOfLevel(state)}, ${told}`) }], []);
     return say("difference", "");
   }
 
@@ -67,12 +73,14 @@ export class LevelDrawn {
   drawRefused(state) {
     const { title } = gameOf(sourceOf(state));
     if (this.kept?.title === title && this.kept.index === state.work.index && sourceOf(state).trim() !== "") return this.drawKept();
-    this.stage.show({ level: null, other: null, framed: [], caption: "", otherCaption: "", told: "" });
+    this.boards.show([{ level: null, caption: "" }], []);
     return say("difference", "");
   }
 
   drawKept() {
-    this.stage.keep("as the last text showed it that could be played");
+    at("boards").classList.add("stale");
+    this.boards.sides[0].caption = "as the last text showed it that could be played";
+    this.boards.draw();
     say("difference", "");
   }
 }

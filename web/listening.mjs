@@ -12,7 +12,7 @@ function movesOf(page) {
   return {
     back: () => page.step(-1), on: () => page.step(1), first: () => page.step(-Infinity), last: () => page.step(Infinity), cut: () => page.act(cutBack), play: () => page.playFrames(),
     next: () => page.openNext(1, false), previous: () => page.openNext(-1, false), "next-failure": () => page.openNext(1, true), "previous-failure": () => page.openNext(-1, true),
-    larger: () => page.page.stage.zoomBy(1), smaller: () => page.page.stage.zoomBy(-1), fit: () => page.page.stage.fit(),
+    larger: () => page.page.boards.zoomBy(1), smaller: () => page.page.boards.zoomBy(-1), fit: () => page.page.boards.fit(), blink: () => page.page.boards.blink(),
     "stage-back": () => page.act(stageStepped, -1), "stage-on": () => page.act(stageStepped, 1),
   };
 }
@@ -70,7 +70,7 @@ function listenToSwipes(page) {
 
 function listenToButtons(page, moves) {
   const click = (id, act) => at(id).addEventListener("click", act);
-  for (const id of ["first", "back", "on", "last", "play", "cut", "smaller", "fit", "larger"]) click(id, moves[id]);
+  for (const id of ["first", "back", "on", "last", "play", "cut"]) click(id, moves[id]);
   click("put-back", () => page.act(putBack));
   click("new", () => page.act(begunAnew));
   click("example", () => page.takeGame(page.state.example));

@@ -2,7 +2,7 @@
 // the next (work.mjs, suite.mjs), which is drawn (drawn.mjs), played (running.mjs) and kept (keeping.mjs).
 import { Animation } from "./animating.mjs";
 import { Drawn } from "./drawn.mjs";
-import { at, json } from "./elements.mjs";
+import { at, isMotionReduced, json } from "./elements.mjs";
 import { download, handed, takeFiles } from "./handing.mjs";
 import { keptOf, stateOfVisit } from "./kept-work.mjs";
 import { Store } from "./keeping.mjs";
@@ -10,13 +10,13 @@ import { listen } from "./listening.mjs";
 import { PLAYER, servePlayer, startEngine } from "./page-engine.mjs";
 import { Runner } from "./running.mjs";
 import { Refusal, SessionFile } from "./session-file.mjs";
-import { following, isFailure } from "./session-list.mjs";
+import { isFailure } from "./session-list.mjs";
 import { RECORDINGS, comparedWithLines, filed, savedAs, withOtherFile, withRecordings } from "./filing.mjs";
 import { framesOf, isAtEnd, shownOf } from "./replaying.mjs";
 import { keepingTold, visitTold } from "./page-words.mjs";
 import { say } from "./saying.mjs";
 import { linePointedAt, lookedAtActed, stageChosen } from "./staging.mjs";
-import { rowsOf, sessionOpened } from "./suite.mjs";
+import { sessionOpened } from "./suite.mjs";
 import { RECORDED_ORDER, edited, inOrder, lookedAt, lookedAtInput, pressed, released, withGame } from "./work.mjs";
 
 const FRAME_PAUSE = 160; // milliseconds between two frames when playing
@@ -32,7 +32,7 @@ class Playground {
       type: (text) => this.runner.type((now) => edited(now, text)),
     };
     this.page = new Drawn(acts);
-    this.animation = new Animation(() => this.runner.show(), () => matchMedia("(prefers-reduced-motion: reduce)").matches);
+    this.animation = new Animation(() => this.runner.show(), isMotionReduced);
     this.runner = new Runner(state, { engine, draw: (...words) => this.draw(...words), keep: (...words) => this.keep(...words) });
   }
 
@@ -87,8 +87,7 @@ class Playground {
 
   // Opens the next session that is listed, or the next failure.
   openNext(step, isFailureWanted) {
-    const rows = rowsOf(this.state), numbers = this.page.list.numbers.filter((number) => !isFailureWanted || isFailure(rows[number]));
-    const number = following(numbers, this.state.work.opened, step);
+    const number = this.page.list.next(step, (row) => !isFailureWanted || isFailure(row));
     if (number !== null) this.act(sessionOpened, number);
   }
 
@@ -148,7 +147,6 @@ async function start() {
   const page = new Playground(state, engine, store);
   listen(page);
   takeFiles((name, bytes) => page.take(name, bytes), (why) => page.refuse(why), (coming) => page.runner.during(coming));
-  window.addEventListener("resize", () => page.runner.show());
   page.runner.update((now) => (told === null ? now : { ...now, told: { text: told, close: null } }));
   document.body.inert = false;
   await page.runner.idle();

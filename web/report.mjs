@@ -2,15 +2,19 @@
 import { addressOf, readAddress } from "./address.mjs";
 import { makeCopy } from "./copying.mjs";
 import { at, fill, json, make, plural, readable } from "./elements.mjs";
-import { SessionList, isFailure } from "./list.mjs";
 import { Player } from "./player.mjs";
+import { SessionList, isFailure } from "./session-list.mjs";
 
 const LATER = 200; // milliseconds after which the address follows
 
 const index = json("index");
 let writing = 0;
 
-const list = new SessionList(index.sessions, index.closes, (number) => { openSession(number); }, () => writeAddressSoon());
+const rows = index.sessions.map(([name, close, frames]) => ({ name, close, frames, parting: null }));
+const list = new SessionList({
+  open: (number) => openSession(number), refilter: () => writeAddressSoon(), toldOf: ({ close }) => close, closes: index.closes, always: [], areFailuresFirst: true, elsewhere: "filter",
+  toldOfCount: (listed, all) => (listed === all ? "Failures come first." : `${listed} of ${plural(all, "session")}`),
+});
 const player = new Player(index, () => writeAddressSoon());
 
 // ---- the address
@@ -55,7 +59,7 @@ function openSession(number, frame = null) {
 }
 
 function showResult() {
-  const failures = index.sessions.filter(isFailure).length;
+  const failures = rows.filter(isFailure).length;
   const all = plural(index.sessions.length, "session");
   if (index.result) at("result").textContent = index.result;
   else if (index.sessions.length === 0) at("result").textContent = "There are no sessions in this file.";
@@ -75,13 +79,14 @@ const KEYS = {
   End: [null, null, whenOpen(() => player.goTo(player.last))],
   p: ["p or space", "play, or pause", whenOpen(() => player.play())],
   " ": [null, null, whenOpen(() => player.play())],
-  n: ["n, N", "the next session that did not pass, the one before", () => openSession(list.beside(1, isFailure))],
-  N: [null, null, () => openSession(list.beside(-1, isFailure))],
-  j: ["j, k", "the next session of the list, the one before", () => openSession(list.beside(1))],
-  k: [null, null, () => openSession(list.beside(-1))],
-  "+": ["+, -, 0", "larger, smaller, as large as there is room", whenOpen(() => player.zoomBy(1))],
-  "-": [null, null, whenOpen(() => player.zoomBy(-1))],
-  0: [null, null, whenOpen(() => player.fit())],
+  n: ["n, N", "the next session that did not pass, the one before", () => openSession(list.next(1, isFailure))],
+  N: [null, null, () => openSession(list.next(-1, isFailure))],
+  j: ["j, k", "the next session of the list, the one before", () => openSession(list.next(1))],
+  k: [null, null, () => openSession(list.next(-1))],
+  "+": ["+, -, 0", "larger, smaller, as large as there is room", whenOpen(() => player.boards.zoomBy(1))],
+  "-": [null, null, whenOpen(() => player.boards.zoomBy(-1))],
+  0: [null, null, whenOpen(() => player.boards.fit())],
+  b: ["b", "both levels in one place, one after the other", whenOpen(() => player.boards.blink())],
   "/": ["/", "filter by name", () => at("filter").focus()],
 };
 
@@ -127,6 +132,7 @@ makeCopy(at("copy-inputs"), () => JSON.stringify(player.session.inputs));
 document.addEventListener("keydown", press, true);
 // what the address was changed to: meanwhile it may have followed what was shown before
 window.addEventListener("hashchange", (event) => showAddress(new URL(event.newURL).hash));
+list.show(rows, null);
 showResult();
 showFoot();
 showAddress(location.hash);

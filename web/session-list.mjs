@@ -1,97 +1,138 @@
-// The sessions of a file as a list, with how each closed.
-import { CLOSES, countOf, shapeOf } from "./closes.mjs";
-import { at, cut, make, makeButton, plural, reveal } from "./elements.mjs";
-import { windowAround } from "./recording.mjs";
+// The list of sessions on both pages: filtered by close and by name. Rows are there only where they can be seen, so it may be long.
+import { countOf, shapeOf } from "./closes.mjs";
+import { at, cut, make, makeButton, plural } from "./elements.mjs";
 
-const MOST_ROWS = 1000; // rows that stand in the list at once
-const LETTERS = 200; // of a name
+const ROW_HEIGHT = 30; // pixels of a row, as common.css has it
+const MORE_ROWS = 12; // rows beyond those that can be seen
+const LISTED_LETTERS = 200; // of a name
 
-// The rows that are listed: those of a close (or "all", "diverges") whose names have a text in them.
+const isOf = (row, close) => close === "all" || (close === "diverges" && row.parting !== null) || row.close === close;
+
+// The numbers of the rows of a close (or "all", "diverges") whose names have a text in them.
 export function listed(rows, close, text) {
   const wanted = text.toLowerCase();
-  const isWanted = (row) => close === "all" || (close === "diverges" ? row.parting !== null : row.close === close);
-  return rows.map((_, number) => number).filter((number) => isWanted(rows[number]) && rows[number].name.toLowerCase().includes(wanted));
+  return [...rows.keys()].filter((number) => isOf(rows[number], close) && rows[number].name.toLowerCase().includes(wanted));
 }
 
 // Whether a session needs a look: it did not pass, or diverges from the run that it is compared with.
 export const isFailure = (row) => row.parting !== null || (row.close !== null && row.close !== "passed");
 
-// The next of some numbers behind (or before) one that is open, round and round; null where there is none.
-export function following(numbers, open, step) {
-  if (numbers.length === 0) return null;
-  if (open === null) return step > 0 ? numbers[0] : numbers.at(-1);
-  const further = step > 0 ? numbers.find((number) => number > open) : numbers.findLast((number) => number < open);
-  return further ?? (step > 0 ? numbers[0] : numbers.at(-1));
+// The next of some numbers behind (or before) one that is open, round and round if that is wanted; null where there is none.
+export function following(numbers, open, step, { isRound = true, placeOf = (number) => number } = {}) {
+  const isFurther = (number) => (step > 0 ? placeOf(number) > placeOf(open) : placeOf(number) < placeOf(open));
+  const inOrder = step > 0 ? numbers : [...numbers].reverse(), further = open === null ? undefined : inOrder.find(isFurther);
+  return further ?? (isRound || open === null ? inOrder[0] : null) ?? null;
 }
 
 export class SessionList {
-  // open(number) opens a session. A row is { name, close (null: not played), frames, parting, isLookedAt, isOther }.
-  constructor(open) {
-    this.open = open;
-    this.rows = [];
-    this.close = "all";
-    this.current = null;
-    at("filter").addEventListener("input", () => this.showRows());
+  // A row is { name, close (null: not played), frames, parting }. `page` is what differs: open(number) opens a session, toldOf(row) tells how it closed,
+  // toldOfCount(listed, all) how many are listed, refilter() is called where a filter changes; `closes` have buttons, those of `always` also where there is
+  // none; with `areFailuresFirst` failures come first, and the next one isn't sought round and round. Where no row is left, `elsewhere` gets the focus.
+  constructor(page) {
+    Object.assign(this, { page, rows: [], order: [], shown: [], close: "all", current: null });
+    at("filter").addEventListener("input", () => this.filter());
+    at("rows").addEventListener("scroll", () => this.draw());
+    new ResizeObserver(() => this.draw()).observe(at("rows"));
+  }
+
+  get name() {
+    return at("filter").value;
   }
 
   show(rows, current) {
-    this.rows = rows;
-    this.current = current;
-    if (this.close === "diverges" && !rows.some((row) => row.parting !== null)) this.close = "all";
-    this.showCounts();
-    this.showRows();
+    Object.assign(this, { rows, current, order: this.ordered([...rows.keys()], rows) });
+    this.places = new Map(this.order.map((number, place) => [number, place]));
+    if (![...this.page.always, "all"].includes(this.close) && this.count(this.close) === 0) this.close = "all";
+    this.select();
   }
 
-  get numbers() {
-    return listed(this.rows, this.close, at("filter").value);
+  // Takes the filters of an address.
+  setFilters(close, name) {
+    this.close = this.page.closes.includes(close) ? close : "all";
+    at("filter").value = name ?? "";
+    this.select();
   }
 
-  count(close, told, count) {
-    const button = makeButton(close, "", () => {
-      this.close = close;
-      this.showCounts();
-      this.showRows();
-    });
-    if (CLOSES.includes(close)) button.append(shapeOf(close));
-    button.append(told);
+  // Marks the session that is open.
+  setCurrent(number) {
+    this.current = number;
+    this.reveal();
+  }
+
+  // The next session that is listed and wanted, or the one before; null where there is none.
+  next(step, isWanted = () => true) {
+    const isRound = !this.page.areFailuresFirst || !this.shown.includes(this.current);
+    return following(this.shown.filter((number) => isWanted(this.rows[number])), this.current, step, { isRound, placeOf: (number) => this.places.get(number) });
+  }
+
+  ordered(numbers, rows = this.rows) {
+    if (!this.page.areFailuresFirst) return numbers;
+    return [...numbers.filter((number) => isFailure(rows[number])), ...numbers.filter((number) => !isFailure(rows[number]))];
+  }
+
+  count(close) {
+    return this.rows.filter((row) => isOf(row, close)).length;
+  }
+
+  filter() {
+    this.select();
+    this.page.refilter?.();
+  }
+
+  select() {
+    this.shown = this.ordered(listed(this.rows, this.close, this.name));
+    at("list").style.height = `${this.shown.length * ROW_HEIGHT}px`;
+    at("listed").textContent = this.page.toldOfCount(this.shown.length, this.rows.length);
+    const closes = this.page.closes.filter((close) => this.page.always.includes(close) || close === this.close || this.count(close) > 0);
+    at("counts").replaceChildren(...["all", ...closes].map((close) => this.countButton(close, this.count(close))));
+    this.reveal();
+  }
+
+  countButton(close, count) {
+    const button = makeButton(close, "", () => { this.close = close; this.filter(); at("counts").querySelector(`.${close}`).focus(); });
+    button.append(...(close === "all" ? [plural(count, "session")] : [shapeOf(close), countOf(close, count)]));
     button.setAttribute("aria-pressed", String(close === this.close));
     button.disabled = count === 0 && close !== "all";
     return button;
   }
 
-  showCounts() {
-    const of = (close) => listed(this.rows, close, "").length;
-    const buttons = [this.count("all", plural(this.rows.length, "session"), this.rows.length), ...CLOSES.map((close) => this.count(close, countOf(close, of(close)), of(close)))];
-    const parting = of("diverges");
-    if (parting > 0) buttons.push(this.count("diverges", `${parting} ${parting === 1 ? "diverges" : "diverge"}`, parting));
-    at("counts").replaceChildren(...buttons);
+  // Scrolls to the session that is open, and draws what is seen then.
+  reveal() {
+    const box = at("rows"), place = this.shown.indexOf(this.current), hadFocus = at("list").contains(document.activeElement);
+    const isSeen = place * ROW_HEIGHT >= box.scrollTop && (place + 1) * ROW_HEIGHT <= box.scrollTop + box.clientHeight;
+    if (place >= 0 && !isSeen) box.scrollTop = place * ROW_HEIGHT - box.clientHeight / 2;
+    this.draw();
+    if (hadFocus) (at("list").querySelector('[tabindex="0"]') ?? at(this.page.elsewhere)).focus({ preventScroll: true });
   }
 
-  row(number) {
-    const { name, close, frames, parting, isLookedAt, isOther, isTicked } = this.rows[number];
-    const button = makeButton(close ?? "unplayed", "", () => this.open(number));
-    const told = [close ?? "not played", ...(parting === null ? [] : [`diverges at frame ${parting.frame}`]), ...(isLookedAt ? ["seen"] : []), ...(isOther ? ["another text"] : []), ...(isTicked ? ["ticks as recorded"] : [])].join(", ");
-    button.title = `${cut(name, LETTERS)}: ${told}`;
-    button.dataset.number = number;
-    const shape = close === null ? make("span", "shape", "") : shapeOf(close);
-    button.append(shape, make("span", "number", number), make("span", "label", cut(name, LETTERS) || "(no name)"), make("span", "close", told), make("span", "frames", frames ?? ""));
-    button.setAttribute("aria-current", String(number === this.current));
+  draw() {
+    const box = at("rows"), focused = document.activeElement?.dataset.number, first = Math.max(0, Math.floor(box.scrollTop / ROW_HEIGHT) - MORE_ROWS);
+    const shown = this.shown.slice(first, Math.ceil((box.scrollTop + box.clientHeight) / ROW_HEIGHT) + MORE_ROWS);
     // one of them is reached by Tab, and from there j and k lead on
-    button.tabIndex = number === this.reached ? 0 : -1;
-    const item = document.createElement("li");
-    item.append(button);
+    this.reached = shown.includes(this.current) ? this.current : shown[0];
+    at("list").replaceChildren(...shown.map((number, place) => this.item(number, first + place)));
+    if (focused !== undefined) at("list").querySelector(`[data-number="${focused}"]`)?.focus({ preventScroll: true });
+  }
+
+  item(number, place) {
+    const item = make("li", "", "");
+    item.style.top = `${place * ROW_HEIGHT}px`;
+    item.setAttribute("aria-setsize", this.shown.length);
+    item.setAttribute("aria-posinset", place + 1);
+    item.append(this.button(number));
     return item;
   }
 
-  showRows() {
-    const numbers = this.numbers, place = Math.max(0, numbers.indexOf(this.current));
-    const [first, behind] = windowAround(numbers.length, place, MOST_ROWS), hadFocus = at("list").contains(document.activeElement);
-    this.reached = numbers[place];
-    at("list").replaceChildren(...numbers.slice(first, behind).map((number) => this.row(number)));
-    const more = numbers.length - (behind - first);
-    at("more").textContent = more > 0 ? `${more} more: filter by name or by close` : `${numbers.length} listed`;
-    const current = at("list").querySelector('[aria-current="true"]');
-    if (current) reveal(at("list"), current);
-    if (hadFocus) (at("list").querySelector('[tabindex="0"]') ?? at("stage")).focus({ preventScroll: true });
+  button(number) {
+    const { name, close, frames } = this.rows[number], told = this.page.toldOf(this.rows[number]), called = cut(name, LISTED_LETTERS);
+    const button = makeButton(close ?? "unplayed", "", () => this.page.open(number)), count = make("span", "frames", frames || "");
+    button.title = `${called}: ${told}`;
+    button.dataset.number = number;
+    button.tabIndex = number === this.reached ? 0 : -1;
+    button.setAttribute("aria-current", String(number === this.current));
+    if (frames) count.title = plural(frames, "frame");
+    const shape = close === null ? make("span", "shape", "") : shapeOf(close);
+    button.append(make("span", "number", number), shape, make("span", "label", called || "(no name)"), make("span", "close", told), count);
+    return button;
   }
 }

@@ -229,7 +229,7 @@ test("keys mean inputs and moves, but not where something is typed", () => {
   assert.deepEqual(pressed("D"), { input: 3 });
   assert.deepEqual(pressed("."), { input: "tick" });
   for (const key of ["x", "c", "C", " ", "Enter"]) assert.deepEqual(pressed(key), { input: 4 }, key);
-  for (const [key, move] of [["+", "larger"], ["-", "smaller"], ["0", "fit"]]) assert.deepEqual(pressed(key), { move });
+  for (const [key, move] of [["+", "larger"], ["-", "smaller"], ["0", "fit"], ["b", "blink"]]) assert.deepEqual(pressed(key), { move });
   assert.deepEqual(pressed("ArrowLeft", "body", { shiftKey: true }), { move: "back" });
   assert.deepEqual(pressed("N", "body", { shiftKey: true }), { move: "previous-failure" });
   for (const [back, on] of [["{", "}"], ["ArrowUp", "ArrowDown"]]) assert.deepEqual([back, on].map((key) => pressed(key, "body", { shiftKey: true })), [{ move: "stage-back" }, { move: "stage-on" }]);

@@ -28,7 +28,8 @@
 
   const marks = () => [...at("strip").querySelectorAll("button")].map((mark) => mark.title.replace(/^input \d+: /, ""));
   const shown = () => ({ text: at("source").value, inputs: marks(), name: at("name").value });
-  const closesShown = () => [...at("list").querySelectorAll("button")].map((row) => row.className);
+  // The rows that stand in the list of so many sessions: those that can be seen, and some around them.
+  const rowsShown = (count) => [...at("list").querySelectorAll("button")].filter((row) => row.parentElement.getAttribute("aria-setsize") === String(count));
 
   const asked = (request) => new Promise((settle, refuse) => {
     request.onsuccess = () => settle(request.result);
@@ -149,8 +150,8 @@
           await later(0);
           const after = await keptNow();
           missing(before, after, kind, texts.example).forEach((what) => note(`lost: ${what}`));
-          const entries = entriesOf(after.file), closes = closesShown();
-          if (random(5) === 0 && closes.length === entries.length && !closes.includes("unplayed")) found.push({ entries, text: after.text, order: after.order, closes });
+          const entries = entriesOf(after.file), rows = rowsShown(entries.length), closes = rows.map((row) => row.className);
+          if (random(5) === 0 && !closes.includes("unplayed")) found.push({ entries: rows.map((row) => entries[row.dataset.number]), text: after.text, order: after.order, closes });
         } else if (random(6) === 0) await idle();
         if (wrong.length > known) log.push("!");
       }

@@ -1,5 +1,6 @@
 """What the playground shows in a browser: levels of all sizes, messages, ticks, refused texts, names of strangers. web/tests/playground runs these tests."""
 import json
+import time
 
 HEAD = "title Shown\nOBJECTS\nBackground .\nblack\nPlayer p\nwhite\nGoal g\nblue\nLEGEND\nCOLLISIONLAYERS\nBackground\nGoal\nPlayer\nRULES\n"
 WIN = "WINCONDITIONS\nAll Player on Goal\nLEVELS\n"
@@ -130,6 +131,25 @@ class Showing:
         self.browser.value("(document.querySelector('#list [tabindex=\"0\"]').focus(), 1)")
         self.press("j", "j")
         self.assertEqual(self.browser.value("document.activeElement.dataset.number"), "2")
+
+    def test_two_levels_blink_in_one_place(self):
+        told = lambda: [self.browser.value(it) for it in (text("level-caption"), shown("other"), "document.getElementById('blink').getAttribute('aria-pressed')")]
+        self.assertEqual(self.browser.value(shown("blink")), False)
+        self.hand_sessions("block-pushing.json", self.example)
+        self.browser.value("((it) => { window.captions = []; new MutationObserver(() => window.captions.push(it.textContent)).observe(it, { childList: true }); return 1; })(document.getElementById('level-caption'))")
+        self.press("b")
+        self.assertEqual(self.browser.until("window.captions.slice(0, 4)", ["reached", "recorded"] * 2, 10), ["reached", "recorded"] * 2)
+        self.assertEqual(told()[1:], [False, "true"])
+        self.click("#blink")
+        self.assertEqual(told(), ["reached", True, "false"])
+        # where motion is to be reduced each press shows the next
+        self.browser.value("(window.matchMedia = () => ({ matches: true }), 1)")
+        for wanted in (["reached", False, "true"], ["recorded", False, "true"], ["reached", True, "false"]):
+            self.press("b")
+            time.sleep(0.6)
+            self.assertEqual(told(), wanted)
+        self.press("b", "Home")
+        self.assertEqual(self.browser.value(shown("blink")), False)
 
     def test_a_level_is_told_in_words(self):
         self.open_game(MESSAGES)
