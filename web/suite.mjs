@@ -28,13 +28,13 @@ export const runWithFrames = ({ lines, runs }, number) => ({ ...runs[number], fr
 // Whether a session has a text of its own that isn't the one at hand.
 export const isOther = (state, number) => ![ "", state.text ].includes(state.file.entries[number].source);
 
-const CLOCKS = new WeakMap(); // for each file what is known of the texts of its sessions: { text, isWithClock }
+const CLOCKS_OF = new WeakMap(); // for each file what is known of the texts of its sessions: { text, isWithClock }
 
 // Tells of a text of a session whether it has a clock; each is read once while the file and the text at hand stay the same.
 function clockOf({ file, text }) {
   if (file === null) return clocks();
-  if (CLOCKS.get(file)?.text !== text) CLOCKS.set(file, { text, isWithClock: clocks() });
-  return CLOCKS.get(file).isWithClock;
+  if (CLOCKS_OF.get(file)?.text !== text) CLOCKS_OF.set(file, { text, isWithClock: clocks() });
+  return CLOCKS_OF.get(file).isWithClock;
 }
 
 // How many sessions are refused since their games have a clock, or are played without it.
@@ -46,12 +46,12 @@ export function clocksOf(state) {
 
 export const countOfOthers = (state) => (state.file?.entries ?? []).filter((_, number) => isOther(state, number)).length;
 
-const ROWS = new WeakMap(); // what is listed in a state, which never changes
+const LISTED_ROWS = new WeakMap(); // what is listed in a state, which never changes
 
 // What is listed of each session.
 export function rowsOf(state) {
-  if (!ROWS.has(state)) ROWS.set(state, madeRows(state));
-  return ROWS.get(state);
+  if (!LISTED_ROWS.has(state)) LISTED_ROWS.set(state, madeRows(state));
+  return LISTED_ROWS.get(state);
 }
 
 function madeRows(state) {

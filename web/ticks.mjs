@@ -6,12 +6,12 @@ const CLOCK = "realtime_interval";
 
 const clockLinesOf = (source) => linesOf(source).filter(({ section, text }) => section === "prelude" && fold(cutAtSpace(text)[0]) === CLOCK);
 
-let asked = { source: "", isThere: false }; // the text of which it was asked last
+let lastAsked = { source: "", isThere: false }; // the text of which it was asked last
 
 // Whether a game has a clock. A text without the word has none, and is not read.
 export function hasClock(source) {
-  if (asked.source !== source) asked = { source, isThere: fold(source).includes(CLOCK) && clockLinesOf(source).length > 0 };
-  return asked.isThere;
+  if (lastAsked.source !== source) lastAsked = { source, isThere: fold(source).includes(CLOCK) && clockLinesOf(source).length > 0 };
+  return lastAsked.isThere;
 }
 
 // The same for the texts of many sessions, each read once.

@@ -138,18 +138,25 @@ fn what_is_refused_is_told_and_is_not_open(rt: HostRuntime) -> Result<(), Fail> 
     Ok(())
 }
 
+/// So many inputs that step to the right and back in turn.
+fn steps(alloc: Global, count: usize) -> Result<Vec<Input>, Fail> {
+    let mut inputs = Vec::new(alloc);
+    for number in 0..count {
+        inputs.push(if number % 2 == 0 { RIGHT } else { Input::Undo })?;
+    }
+    Ok(inputs)
+}
+
 #[test]
 fn goes_back_to_any_of_many_inputs(rt: HostRuntime) -> Result<(), Fail> {
     let mut sessions = opened(rt.alloc())?;
-    let mut inputs = Vec::new(rt.alloc());
-    for number in 0..1000 {
-        inputs.push(if number % 2 == 0 { RIGHT } else { Input::Undo })?;
-    }
-    assert!(rt; sessions.give(0, &inputs).is_ok());
+    assert!(rt; sessions.give(0, &steps(rt.alloc(), 1000)?).is_ok());
     for count in [999, 998, 700, 641, 640, 639, 64, 63, 1] {
         let lines = sessions.back(0, count).map_err(|_| "not back")?;
         let mut other = opened(rt.alloc())?;
-        let wanted = other.give(0, &inputs[..count]).map_err(|_| "not given")?;
+        let wanted = other
+            .give(0, &steps(rt.alloc(), count)?)
+            .map_err(|_| "not given")?;
         assert!(rt; lines.as_slice() == wanted.as_slice());
     }
     Ok(())
