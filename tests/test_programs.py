@@ -169,6 +169,12 @@ class Programs(InAFreshClone):
                 self.assertEqual((ran.returncode, ran.stdout.decode()), (0, f"built {self.empty}\n"), ran.stderr)
                 self.assertFalse((self.room / "ran").exists())
 
+    def test_what_replay_builds_by_takes_no_module_of_a_folder(self):
+        shutil.copy(TOP / "replay", self.top)
+        self.put(self.top / "dev/build", '#!/bin/sh\necho "[${PYTHONPATH-}${PYTHONHOME-}]"\nexit 2\n')
+        ran = subprocess.run([self.top / "replay", self.empty], env={"PATH": "/usr/bin:/bin", "PYTHONPATH": ":/none", "PYTHONHOME": "."}, stdout=subprocess.PIPE, stderr=subprocess.PIPE)
+        self.assertEqual((ran.returncode, ran.stdout), (2, b"[]\n"))
+
     def test_node_reads_nothing_of_a_folder_before_our_functions(self):
         self.release()
         told = {"NODE_OPTIONS": "--require ./setup.cjs", "NODE_PATH": ".", "NODE_COMPILE_CACHE": "."}

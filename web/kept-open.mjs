@@ -25,7 +25,8 @@ export class KeptOpen {
     if (from === 0 || from !== inputs.length || !this.isOpenFor(wanted) || !this.isAt(inputs.slice(0, -1))) return null;
     const { frames, close, fault } = this.session.give(inputs.slice(-1));
     if (fault !== null) return this.leave();
-    return { frames, cause: close.cause ?? null, isSolved: this.isOver(wanted, frames) };
+    const isSolved = this.isOver(inputs.length, frames);
+    return isSolved === null ? this.leave() : { frames, cause: close.cause ?? null, isSolved };
   }
 
   // Goes to where a recording ends, for the keys that may come.
@@ -52,15 +53,15 @@ export class KeptOpen {
     return isThere;
   }
 
-  // Whether play is over behind these inputs, of which the last showed these frames. A last win shows none, but behind ticks of `again` others may stand
-  // before it; then one input more tells, which is taken back.
-  isOver({ source, inputs }, frames) {
-    const last = frames.at(-1)?.kind;
-    if (last === "over" || inputs.length >= MOST_INPUTS) return last === "over";
-    if (last !== undefined && !/again/i.test(source)) return false;
-    const { frames: more, fault } = this.session.give([ONE_MORE]);
-    if (fault === null) this.session.back(inputs.length);
-    return more.at(-1)?.kind === "over";
+  // Whether play is over behind so many inputs, of which the last showed these frames: a copy that is given one input more tells. Null where it can't.
+  isOver(count, frames) {
+    const isShown = frames.at(-1)?.kind === "over";
+    if (isShown || count >= MOST_INPUTS) return isShown;
+    const { session: copy } = this.session.copy();
+    if (copy === null) return null;
+    const { frames: more, fault } = copy.give([ONE_MORE]);
+    copy.close();
+    return fault === null ? more.at(-1)?.kind === "over" : null;
   }
 
   leave() {

@@ -121,7 +121,7 @@ export function servePlayer() {
   };
   const follow = (wanted) => open.then((kept) => kept.follow(wanted)).catch(() => {});
   globalThis.addEventListener("message", async ({ data }) => {
-    clearTimeout(timer);
+    if (data.wanted) clearTimeout(timer);
     if (data.module) {
       engine = load(data.module);
       open = engine.then((module) => new KeptOpen(module));

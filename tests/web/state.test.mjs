@@ -2,7 +2,9 @@
 import assert from "node:assert/strict";
 import test from "node:test";
 import { findingsIn } from "../../web/console.mjs";
+import { KeptOpen } from "../../web/kept-open.mjs";
 import { stateFrom, stateOfVisit } from "../../web/kept-work.mjs";
+import { playedBy } from "../../web/page-engine.mjs";
 import { faultOfText, othersTold, ownTold, putBackTold, statusOf, stepTold, tabTold, verdictOf } from "../../web/page-words.mjs";
 import { SessionFile } from "../../web/session-file.mjs";
 import { accepted, comparedWithLines, filed, followed, namesakeOf, removed, savedAs, withOtherFile, withRecordings } from "../../web/filing.mjs";
@@ -413,4 +415,40 @@ test("a text that its end makes too long to be played is not the one at hand", a
   const bench = { state: beginning(`${GAME}${"\n".repeat(2 ** 20)}`) };
   const { file } = withRecordings({ ...bench.state, file: SessionFile.empty("recordings.json") }, recordingsInText(ENTRY));
   assert.equal(file.entries[0].source, GAME);
+});
+
+// ---- the session that is kept open behind what was played
+
+const WON_BY_A_MOVE = "OBJECTS\nBackground .\nblack\nPlayer P\nwhite\nGoal O\nred\nLEGEND\nCOLLISIONLAYERS\nBackground\nGoal\nPlayer\nRULES\nWINCONDITIONS\nAll Player on Goal\nLEVELS\nP.O\nmessage done\n";
+
+it("the key that wins is told as such, and the message behind the last level is shown", async () => {
+  const bench = new Bench(beginning(WON_BY_A_MOVE));
+  await bench.act(pressed, 3);
+  assert.deepEqual([bench.state.played.isSolved, bench.state.messages], [false, []]);
+  await bench.act(pressed, 3);
+  assert.deepEqual([bench.state.played.isSolved, bench.state.messages, bench.state.told.text], [true, ["done"], "Solved: all levels are won."]);
+  await bench.act(cutBack);
+  assert.deepEqual([bench.state.work.inputs, bench.state.played.isSolved, framesOf(bench.state).length], [[3], false, 2]);
+});
+
+test("a key behind an open session leads to what playing all leads to", { skip: !module?.hasOpenSessions && "the module is not there, or keeps no session open" }, () => {
+  const kept = new KeptOpen(module), sources = [WON_BY_A_MOVE, GAME, GAME.replace("-> [ > Player | > Crate ]", "-> [ > Player | > Crate ] again")];
+  let seed = 78, compared = 0;
+  const random = (below) => {
+    seed = (Math.imul(seed, 1664525) + 1013904223) >>> 0;
+    return Math.floor((seed / 2 ** 32) * below);
+  };
+  for (let turn = 0; turn < 60; turn += 1) {
+    const base = { source: sources[random(sources.length)], index: 0, order: ["rows", "columns"][random(2)], isTicked: false };
+    let inputs = Array.from({ length: random(90) }, () => random(4));
+    kept.follow({ ...base, inputs });
+    for (let key = 0; key < 8; key += 1) {
+      inputs = [...inputs.slice(0, inputs.length - random(3)), [0, 1, 2, 3, 4, "undo", "restart", "tick"][random(8)]];
+      const wanted = { ...base, inputs, from: inputs.length }, answer = kept.played(wanted);
+      if (answer === null) continue;
+      assert.deepEqual(answer, playedBy(module, wanted));
+      compared += 1;
+    }
+  }
+  assert.ok(compared > 400, `${compared}`);
 });
