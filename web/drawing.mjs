@@ -71,7 +71,7 @@ function strokeFrame(context, level, number, size, inset, isWhole) {
 // Frames cells by two lines, a bright one and within it a dark one: one of them is seen on any ground.
 function frameCells(context, level, size, { cells, colour, isWhole = true, weight = 1 }) {
   const thickness = weight * Math.max(1, Math.round(size / 12));
-  context.lineWidth = thickness;
+  Object.assign(context, { lineWidth: thickness, lineJoin: "miter", lineCap: "butt" });
   for (const [line, inset] of [[colour, thickness / 2], [DARK, thickness * 1.5]]) {
     context.strokeStyle = line;
     for (const number of cells) strokeFrame(context, level, number, size, inset, isWhole);
