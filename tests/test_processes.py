@@ -339,7 +339,7 @@ class Done(unittest.TestCase):
                     env = {**os.environ, "PYTHONPATH": path}
                     ran = subprocess.run([sys.executable, "-B", str(TOP / "saxtegun"), "lines", "--help"], cwd=away, env=env, stdin=subprocess.DEVNULL, capture_output=True)
                     self.assertEqual((ran.returncode, ran.stderr), (0, b""))
-                    ran = subprocess.run([sys.executable, "-B", str(TOP / "dev/release"), "--verify", "none"], cwd=away, env=env, stdin=subprocess.DEVNULL, capture_output=True)
+                    ran = subprocess.run([sys.executable, "-B", str(TOP / "dev/release"), "--none"], cwd=away, env=env, stdin=subprocess.DEVNULL, capture_output=True)
                     self.assertEqual((ran.returncode, b"a stranger" in ran.stderr), (2, False), ran.stderr)
             # where it is called among Python's own modules these stay there
             ran = subprocess.run([sys.executable, "-B", str(TOP / "saxtegun"), "lines", "--help"], cwd=os.path.dirname(os.__file__), env={**os.environ, "PYTHONPATH": ":/none"}, capture_output=True)
