@@ -4,3 +4,4 @@ pub mod Description
 pub mod Inputs
 pub mod Held
 pub mod Open
+pub mod Solutions

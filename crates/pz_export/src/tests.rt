@@ -5,6 +5,7 @@ use crate::held::Held;
 use crate::lines::{saxtegun_firings, saxtegun_frames, saxtegun_lines, saxtegun_stages};
 use crate::open::{saxtegun_back, saxtegun_close, saxtegun_copy, saxtegun_give, saxtegun_open};
 use crate::outcome::{Outcome, played};
+use crate::solutions::saxtegun_solutions;
 use std::alloc::Global;
 use std::test::Fail;
 
@@ -342,5 +343,26 @@ fn refuses_what_is_not_open(rt: HostRuntime) -> Result<(), Fail> {
     assert!(rt; host.refused(count, 8));
     let count = host.give(rt.alloc(), 1, &[3]);
     assert!(rt; host.told(count, 1, AT_ONE));
+    Ok(())
+}
+
+/// A crate three cells before a target, behind one press to the right.
+const PUSHED_ONCE: &str =
+    r#"[["push",["OBJECTS\nBackground .\nblack\nTarget o\nblue\nPlayer p\nwhite\nCrate *\nbrown\nLEGEND\nCOLLISIONLAYERS\nBackground\nTarget\nPlayer, Crate\nRULES\n[ > Player | Crate ] -> [ > Player | > Crate ]\nWINCONDITIONS\nAll Target on Crate\nLEVELS\np.*.o\n",[3],""]]]"#;
+
+const TWICE_RIGHT: &str = "{\"session\":0,\"solution\":{\"solved\":[3,3]}}\n";
+
+#[test]
+fn solves_the_sessions_of_a_file(rt: HostRuntime) -> Result<(), Fail> {
+    let mut host = Host::new(rt.alloc(), 1000)?;
+    let room = host.room.as_mut_slice();
+    let count = saxtegun_solutions(
+        rt.alloc(),
+        PUSHED_ONCE.as_bytes(),
+        9,
+        room,
+        &mut host.outcome,
+    );
+    assert!(rt; host.told(count, 0, TWICE_RIGHT));
     Ok(())
 }

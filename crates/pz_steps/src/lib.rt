@@ -5,4 +5,4 @@ mod chains;
 pub mod laws;
 pub mod steps;
 
-pub use steps::Steps;
+pub use steps::{Steps, standing};

@@ -151,6 +151,18 @@ fn load(alloc: Global, plan: &Plan) -> Result<Board<'_>, AllocError>
     )
 }
 
+/// Where a session stands once its inputs were played, or `None` if it stopped before. Err: memory was refused.
+pub fn standing(alloc: Global, plan: &Plan) -> Result<Option<Board<'_>>, AllocError>
+    ensures { IfOk result (λ board. board ≡ stands_behind plan.now.inputs (state_of plan.now)) }
+{
+    let mut board = load(alloc, plan)?;
+    if stand(&mut board, plan.inputs().items())? {
+        Ok(Some(board))
+    } else {
+        Ok(None)
+    }
+}
+
 impl<'a> Steps<'a> {
     ghost use Rattle.pz_steps.specs.Steps.{taken};
 

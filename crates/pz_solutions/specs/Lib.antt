@@ -1,0 +1,3 @@
+pub mod Solution
+pub mod Line
+pub mod File
