@@ -20,6 +20,8 @@ from freshness import SOURCES, digests, written
 from symbols import c_library_of
 
 PROGRAM = "crates/pz_replayer/out/pz_replayer"
+# What tells the command what the engine reads of a source, and what finds solutions for it.
+DESCRIBER, SOLVER = "crates/pz_describer/out/pz_describer", "crates/pz_solver/out/pz_solver"
 MODULE = "engine/out/saxtegun.wasm"
 PASSED = "out/gate-passed"
 SUMS = "SHA256SUMS"
@@ -32,7 +34,7 @@ GATE_ENDED = "The gate, ./check, passed on that commit; so its parts ended:"
 ENDED = re.compile(r"(rt ci|cases by the module|cases by the program): [1-9][0-9]{0,8} passed, 0 failed")
 PARTS = ["rt ci", "cases by the module", "cases by the program"]
 # The engine for Node and for pages, beside its module.
-GLUE = ["engine/saxtegun.mjs", "engine/saxtegun.d.ts", "engine/replay.mjs", "engine/stages.mjs", "engine/describe.mjs", "engine/streams.mjs"]
+GLUE = ["engine/saxtegun.mjs", "engine/saxtegun.d.ts", "engine/replay.mjs", "engine/stages.mjs", "engine/describe.mjs", "engine/solve.mjs", "engine/streams.mjs"]
 # What stands in a release as it stands here: the command with its package, the examples, and the documents for users.
 TAKEN = ["saxtegun", "VERSION", "README.md", "CHANGELOG.md", "CONTRIBUTING.md", "SECURITY.md", NOTICES, "python", "web", "examples", "docs", "adapters", "HANDLES", *GLUE]
 
@@ -49,9 +51,11 @@ class File(NamedTuple):
 
 
 class Built(NamedTuple):
-    """What is proved and built of a commit: the program, the module for Node and for pages, and how the parts of its gate ended."""
+    """What is proved and built of a commit: the program that plays, those that tell sources and find solutions, the module for Node and for pages, and how the parts of its gate ended."""
 
     program: bytes
+    describer: bytes
+    solver: bytes
     module: bytes
     ends: Sequence[str] = ()
 
@@ -97,7 +101,7 @@ def gate_of(top: Path) -> Optional[Gate]:
     lines = path.read_text(encoding="utf-8").splitlines() if path.is_file() else []
     commit = lines[0].partition("commit ")[2] if lines else ""
     sums = {it.partition("  ")[2]: it.partition("  ")[0] for it in lines[1:] if re.match("[0-9a-f]{64}  ", it)}
-    is_there = all((top / it).is_file() and sums.get(it) == sum_of((top / it).read_bytes()) for it in (PROGRAM, MODULE))
+    is_there = all((top / it).is_file() and sums.get(it) == sum_of((top / it).read_bytes()) for it in (PROGRAM, DESCRIBER, SOLVER, MODULE))
     if not is_there or commit != told(top, "git", "rev-parse", "HEAD"):
         return None
     return Gate(commit, sums, lines[1 + len(sums):])
@@ -127,6 +131,7 @@ def proved_words(top: Path, version: str, ends: Sequence[str]) -> str:
         f"commit   {told(top, 'git', 'rev-parse', 'HEAD')}",
         *kit_told(top),
         "program  bin/pz_replayer, of the proved crates of that commit, by dev/build pz_replayer",
+        "         bin/pz_describer and bin/pz_solver, of the same crates, by dev/build",
         "module   engine/out/saxtegun.wasm, of the same crates, by engine/build",
         "",
         GATE_ENDED,
@@ -154,7 +159,7 @@ CONTENTS = """# What is in this archive
 
 *For anyone who has unpacked it: what is here, and what the documents name but only the repository has.*
 
-- `saxtegun` is the command, in Python alone; `bin/pz_replayer` is the program that it calls. `./saxtegun test examples/block-pushing.json` is a first try.
+- `saxtegun` is the command, in Python alone; `bin/pz_replayer` is the program that it calls, `bin/pz_describer` tells it what the engine reads of a game, and `bin/pz_solver` solves levels. `./saxtegun test examples/block-pushing.json` is a first try.
 - `replay` starts the program. The documents say that it proves and builds first; here it has nothing to build.
 - `saxtegun.html` is the playground, one file to open in a browser.
 - `engine/` has what plays in Node and in a page: `node engine/replay.mjs examples/block-pushing.json`.
@@ -189,6 +194,8 @@ def files_of(top: Path, version: str, built: Built) -> Dict[str, File]:
     paths = told(top, "git", "ls-files", "--", *TAKEN).splitlines()
     files = {path: File((top / path).read_bytes(), bool((top / path).stat().st_mode & 0o100)) for path in paths}
     files["bin/pz_replayer"] = File(built.program, True)
+    files["bin/pz_describer"] = File(built.describer, True)
+    files["bin/pz_solver"] = File(built.solver, True)
     files["replay"] = File(REPLAY, True)
     files[MODULE] = File(built.module, False)
     files["saxtegun.html"] = File(page_of(top, built.module), False)
@@ -209,7 +216,7 @@ def engine_files(top: Path, files: Dict[str, File], version: str) -> Dict[str, F
         "type": "module",
         "exports": {".": {"types": "./saxtegun.d.ts", "default": "./saxtegun.mjs"}, "./out/saxtegun.wasm": "./out/saxtegun.wasm"},
         "types": "./saxtegun.d.ts",
-        "bin": {"saxtegun-replay": "replay.mjs", "saxtegun-stages": "stages.mjs", "saxtegun-describe": "describe.mjs"},
+        "bin": {"saxtegun-replay": "replay.mjs", "saxtegun-stages": "stages.mjs", "saxtegun-describe": "describe.mjs", "saxtegun-solve": "solve.mjs"},
         "engines": {"node": ">=20"},
     }
     packed = {path.partition("/")[2]: files[path] for path in [*GLUE, MODULE]}
@@ -300,23 +307,29 @@ def does(top: Path, *words: str) -> None:
         raise Broken(f"{' '.join(words)} has not passed")
 
 
+def built_in(top: Path, ends: Sequence[str]) -> Built:
+    """What lies where it is built."""
+    return Built((top / PROGRAM).read_bytes(), (top / DESCRIBER).read_bytes(), (top / SOLVER).read_bytes(), (top / MODULE).read_bytes(), ends)
+
+
 def gated(top: Path) -> Built:
-    """The program and the module that the gate built of this commit, which is tried now where it hasn't passed here."""
+    """The programs and the module that the gate built of this commit, which is tried now where it hasn't passed here."""
     if gate_of(top) is None:
         does(top, "check")
     gate = gate_of(top)
     if gate is None:
         raise Broken(f"the gate has passed, but {PASSED} doesn't say so of this commit and of what is built now")
-    return Built((top / PROGRAM).read_bytes(), (top / MODULE).read_bytes(), gate.ends)
+    return built_in(top, gate.ends)
 
 
 def proved(top: Path) -> Built:
-    """The program and the module of these sources, proved and built where the gate hasn't built them."""
+    """The programs and the module of these sources, proved and built where the gate hasn't built them."""
     gate = gate_of(top)
     if gate is None:
-        does(top, "dev/build", "pz_replayer")
+        for name in ("pz_replayer", "pz_describer", "pz_solver"):
+            does(top, "dev/build", name)
         does(top, "engine/build")
-    return Built((top / PROGRAM).read_bytes(), (top / MODULE).read_bytes(), gate.ends if gate else ())
+    return built_in(top, gate.ends if gate else ())
 
 
 def proved_module(top: Path) -> bytes:

@@ -10,7 +10,7 @@ export interface Answer {
    * Why the file was refused, and else null: `not-json`, `bad-entry N`, `bad-level N`, `too-many` as docs/sessions.md has them; `memory`, where memory was
    * refused; `broken`, where the module stopped at a fault, its own or that of what it was built by, or a worker could not be started; `no-stages`, where
    * stages or firings were asked of an older module, which gives none; `no-descriptions`, where a description was; `no-open-sessions`, where a session was to
-   * be opened. Of an open session also `not-open`, `too-many-inputs` and `too-few-inputs`.
+   * be opened; `no-solutions`, where a solution was. Of an open session also `not-open`, `too-many-inputs` and `too-few-inputs`.
    */
   fault: string | null;
 }
@@ -130,6 +130,24 @@ export interface Block {
   loop: boolean;
 }
 
+/**
+ * What a search, breadth first, tells of the level in which a session stands: presses that win, and no shorter list does; that no list wins; or that none of
+ * at most `inputs` presses does, while one press more reaches more than `levels` levels, which is the bound. `over`: its last level was won; `stopped`,
+ * `refused`: there is no level in which it stands.
+ */
+export type Solution =
+  | { solved: (0 | 1 | 2 | 3 | 4)[] }
+  | { unsolvable: true }
+  | { outOfBounds: { inputs: number; levels: number } }
+  | { over: true }
+  | { stopped: true }
+  | { refused: true };
+
+export interface SearchOptions {
+  /** The most levels that the search may keep; 1,000,000 where it is left out. */
+  levels?: number;
+}
+
 /** The items that came with the last input of an open session, as their lines have them. Where there is a fault, there are none. */
 export interface Moved {
   frames: Frame[];
@@ -190,6 +208,12 @@ export interface Engine {
   readonly hasOpenSessions: boolean;
   /** Opens a session, and gives it its inputs: what came with the last of them, or with its start. There is no session where there is a fault, or it is refused. */
   open(session: Session, options?: Options): Moved & { session: OpenSession | null };
+  /** Whether the module solves levels. */
+  readonly hasSolutions: boolean;
+  /** What wins each session of a file from where it stands behind its inputs: a line each, `{"session":N,"solution":..}`. The status of an answer is 0 or 2. */
+  solutionsOf(text: string | ArrayBuffer | ArrayBufferView, options?: SearchOptions): Answer;
+  /** What wins one session from where it stands behind its inputs. Where there is a fault, the solution is null. */
+  solution(session: Session, options?: SearchOptions): { solution: Solution | null; fault: string | null };
   /** Plays a file in workers of its own, cut into files of consecutive sessions. The answer is that of `replay`. */
   replayInWorkers(text: string | ArrayBuffer | ArrayBufferView, options?: WorkerOptions): Promise<Answer>;
 }

@@ -24,8 +24,9 @@ const MOST_WORKERS = 64;
 const PARTS_OF_A_WORKER = 8;
 const WORKER = 'saxtegun-worker';
 // exports that older modules don't have
-const STAGES = 'saxtegun_stages', FIRINGS = 'saxtegun_firings', DESCRIPTION = 'saxtegun_description', OPEN = 'saxtegun_open';
-const MOST_NUMBER = 0xffff_ffff; // that the module is told; no file has so many sessions or inputs
+const STAGES = 'saxtegun_stages', FIRINGS = 'saxtegun_firings', DESCRIPTION = 'saxtegun_description', OPEN = 'saxtegun_open', SOLUTIONS = 'saxtegun_solutions';
+const MOST_NUMBER = 0xffff_ffff; // that the module is told; no file has so many sessions or inputs, and no memory so many levels
+const MOST_LEVELS = 1_000_000; // that a search keeps where no bound is named
 
 const isNode = typeof process === 'object' && typeof process.versions?.node === 'string';
 
@@ -70,6 +71,12 @@ function inputOf(from) {
 function smallNumberOf(number) {
   if (!Number.isSafeInteger(number) || number < 0) throw new TypeError('sessions and inputs are numbered from 0');
   return Math.min(number, MOST_NUMBER);
+}
+
+/** A bound of levels, as the module is told it. */
+function boundOf(levels) {
+  if (!Number.isSafeInteger(levels) || levels < 0) throw new TypeError('levels are bounded by a whole number from 0 on');
+  return Math.min(levels, MOST_NUMBER);
 }
 
 /** The bytes of inputs, each a number from 0 to 4 or a word. */
@@ -345,6 +352,22 @@ class Engine {
 
   description(source) {
     return valueOf('description', this.descriptionOf(source));
+  }
+
+  get hasSolutions() {
+    return this.#has(SOLUTIONS);
+  }
+
+  solutionsOf(text, { levels = MOST_LEVELS } = {}) {
+    const bound = boundOf(levels);
+    if (!this.#has(SOLUTIONS)) return refused('no-solutions');
+    return this.#ask(text, (exports, file, room, outcome) =>
+      exports[SOLUTIONS](file.at, BigInt(file.size), bound, room.at, BigInt(room.size), outcome));
+  }
+
+  solution(session, options) {
+    const { answer, fault } = valueOf('answer', this.solutionsOf(fileOfOne(session), options));
+    return { solution: answer?.solution ?? null, fault };
   }
 
   async replayInWorkers(text, { order = 'columns', workers = idleProcessors(), progress = () => {}, signal } = {}) {

@@ -3,6 +3,7 @@ import functools
 import json
 import os
 import re
+import shlex
 import shutil
 import subprocess
 import sys
@@ -13,8 +14,9 @@ from http.server import SimpleHTTPRequestHandler, ThreadingHTTPServer
 from pathlib import Path
 
 from day import lines_of_example
-from test_release import MODULE, PROGRAM, STAND_IN, clone, git, make, put, sum_of
+from test_release import DESCRIBER, MODULE, PROGRAM, SOLVER, STAND_IN, clone, git, make, put, sum_of
 from tool import TOP
+from saxtegun.programs import describer_words, environment_of
 
 EXAMPLE = TOP / "examples/block-pushing.json"
 # Plays the example's sessions as tests/day.py does by hand.
@@ -27,6 +29,13 @@ sys.stdout.write(lines)
 sys.exit(any(json.loads(it).get("close", "passed") != "passed" for it in lines.splitlines()))
 """.encode()
 WORD = re.compile(r"\$\{\{ ([\w.]+) \}\}")
+
+
+def describer():
+    """What tells sources as here."""
+    words = describer_words()
+    module = (environment_of(words) or {}).get("SAXTEGUN_MODULE", "")
+    return f'#!/bin/sh\nSAXTEGUN_MODULE={shlex.quote(module)} exec {shlex.join(words)} "$@"\n'.encode()
 
 
 class Yaml:
@@ -150,7 +159,7 @@ class InACi(unittest.TestCase):
         changes = cls.clone / "CHANGELOG.md"
         changes.write_text(changes.read_text() + f"\n## {cls.version}\n")
         git(cls.clone, "commit", "-qam", "Give the version its heading")
-        make(cls.clone, cls.version, cls.kept / "served", STAND_IN._replace(program=PLAYER))
+        make(cls.clone, cls.version, cls.kept / "served", STAND_IN._replace(program=PLAYER, describer=describer()))
         cls.sum = sum_of((cls.kept / f"served/saxtegun-{cls.version}-linux-x86_64.tar.gz").read_bytes())
         server = ThreadingHTTPServer(("127.0.0.1", 0), functools.partial(Quiet, directory=str(cls.kept / "served")))
         cls.addClassCleanup(server.server_close)
@@ -377,8 +386,10 @@ class InACi(unittest.TestCase):
         runner = self.runner({"secrets.TARGET_TOKEN": "token"}, file["env"])
         top = clone(runner.work / "saxtegun", self.clone)
         put(top / PROGRAM, STAND_IN.program)
+        put(top / DESCRIBER, STAND_IN.describer)
+        put(top / SOLVER, STAND_IN.solver)
         put(top / MODULE, STAND_IN.module)
-        put(top / "out/gate-passed", f"commit {git(top, 'rev-parse', 'HEAD')}\n{sum_of(STAND_IN.program)}  {PROGRAM}\n{sum_of(STAND_IN.module)}  {MODULE}\n".encode())
+        put(top / "out/gate-passed", f"commit {git(top, 'rev-parse', 'HEAD')}\n{sum_of(STAND_IN.program)}  {PROGRAM}\n{sum_of(STAND_IN.describer)}  {DESCRIBER}\n{sum_of(STAND_IN.solver)}  {SOLVER}\n{sum_of(STAND_IN.module)}  {MODULE}\n".encode())
         put(runner.room / "bin/gh", b'#!/bin/sh\necho "$GH_TOKEN" "$@"\n')
         runner.env["PATH"] = f"{runner.room}/bin:{runner.env['PATH']}"
         made, published = [runner.run(step) for step in file["jobs"]["release"]["steps"] if "run" in step]

@@ -17,18 +17,18 @@ from tool import TOP  # which puts the package on the path
 from saxtegun import budget, differences, hangs
 from saxtegun.culprits import fault_told, repeated_in
 from saxtegun.explanations import told
-from saxtegun.games import MOST_NAMES, Game
+from saxtegun.descriptions import description_of, expected
+from saxtegun.games import Game
 from saxtegun.hangs import Finder, source_from, things_of
 from saxtegun.levelsets import drawn_columns, drawn_start, level_of_recorded
 from saxtegun.lines import Frame, Run
+from saxtegun.meanings import MOST_NAMES, Meanings
 from saxtegun.mismatches import Tests, start_fault
 from saxtegun.pages import source_lines
 from saxtegun.playing import Engine
 from saxtegun.recording_search import find
-from saxtegun.reductions import blocks_of_levels, of_columns
-from saxtegun.reductions import things_of as objects_of
+from saxtegun.reductions import of_columns
 from saxtegun.sessions import sessions_in
-from saxtegun.sources import lines_of, trimmed
 from saxtegun.stage_descriptions import Text, block_told, drawn
 from saxtegun.stage_divergence import Parted, Side, Telling
 from saxtegun.stages import Stage
@@ -40,6 +40,8 @@ HEAD = "OBJECTS\nBackground .\nblack\nPlayer p\nwhite\n"
 TAIL = "WINCONDITIONS\nLEVELS\np.\n"
 LETTERS = [chr(0x4E00 + it) for it in range(20_000)]
 MOST = 2.3
+# As many objects as the engine tells of a source, but for those of HEAD.
+MOST_OBJECTS = 510
 LEAST_SECONDS = 0.05
 # What doesn't take so long for a size like this, of some megabytes, is no matter.
 LARGE = 1_000_000
@@ -60,7 +62,7 @@ def rules(count):
 
 def line_told(code, text, before="RULES\n"):
     source = f"{HEAD}{before}{text}\n"
-    return fault_told(code, source, Game(source), source.count("\n"))
+    return fault_told(code, source, source.count("\n"))
 
 
 def added(size):
@@ -143,11 +145,11 @@ def started(size):
 
 
 def begun_in_levels(size):
-    """Draws where as many sessions begin as a game has objects, each in another level, whose letter draws all of them."""
-    objects, layers = objects_in_layers(size)
-    source = f"{objects}LEGEND\nq = {' and '.join(f'a{it}' for it in range(size))}\n{layers}WINCONDITIONS\nLEVELS\n" + "q\n\n" * size
+    """Draws where so many sessions begin, each in another level, whose letter draws as many objects as are told of a source."""
+    objects, layers = objects_in_layers(MOST_OBJECTS)
+    source = f"{objects}LEGEND\nq = {' and '.join(f'a{it}' for it in range(MOST_OBJECTS))}\n{layers}WINCONDITIONS\nLEVELS\n" + "q\n\n" * size
     entry = entry_of(source)
-    if any(len((drawn_start(entry._replace(index=it), "columns") or [()])[0]) != size + 1 for it in range(size)):
+    if any(len((drawn_start(entry._replace(index=it), "columns") or [()])[0]) != MOST_OBJECTS + 1 for it in range(size)):
         raise AssertionError("other cells are drawn")
 
 
@@ -158,9 +160,9 @@ def likened(size):
 
 
 def property_in_rules(size):
-    """Looks at as many rules as the property in them has objects."""
-    objects, layers = objects_in_layers(size)
-    source = f"{objects}LEGEND\nall = {' or '.join(f'a{it}' for it in range(size))}\n{layers}RULES\n" + "[ > Player | all ] -> [ > Player | > all ]\n" * size + TAIL
+    """Looks at so many rules, with a property in them of as many objects as are told of a source."""
+    objects, layers = objects_in_layers(MOST_OBJECTS)
+    source = f"{objects}LEGEND\nall = {' or '.join(f'a{it}' for it in range(MOST_OBJECTS))}\n{layers}RULES\n" + "[ > Player | all ] -> [ > Player | > all ]\n" * size + TAIL
     if differences.placed_told.__wrapped__(source):
         raise AssertionError("a rule places what moves")
 
@@ -208,7 +210,6 @@ def narrowed(size):
 
 # What is read of an input of a size, each from a size on that takes long enough to be timed.
 READINGS = {
-    "blanks behind a title": (200_000, lambda size: trimmed("title x" + " " * size + "x")),
     "blanks in a source": (200_000, lambda size: Game("title x" + " " * size + "x\n" + HEAD + TAIL)),
     "returns at the end of a line": (200_000, lambda size: told(Run(0, "a", "refused", "BadRule:1", []), sessions_in("x", json.dumps([["a", ["\r" * size + "x", [], ""]]])).entries[0])),
     "names that stand for one another": (2000, lambda size: Game(legend_chain(size))),
@@ -218,7 +219,7 @@ READINGS = {
     "many names that are": (2000, lambda size: line_told("Unknown", "[ playr ]", "".join(f"a{it}\nred\n\n" for it in range(size)) + "RULES\n")),
     "a name again and again": (5000, lambda size: line_told("Duplicate", " ".join(LETTERS[:2] * size) + "\nred", "")),
     "letters that draw nothing": (5000, lambda size: line_told("BadGlyph", "".join(LETTERS[:size]), "LEVELS\n")),
-    "brackets": (20_000, lambda size: lines_of.__wrapped__("(" * size + ")" * size + "\n" + HEAD)),
+    "brackets": (20_000, lambda size: description_of("(" * size + ")" * size + "\n" + HEAD)),
     "rules": (2000, lambda size: repeated_in(rules(size))),
     "rules, and what is repeated of them": (1000, lambda size: things_of(rules(size))),
     "rules of groups at which two texts part": (1000, led),
@@ -226,9 +227,9 @@ READINGS = {
     "sessions that begin at a message": (2000, started_in),
     "sessions of one game that hang": (200, lambda size: shown_in_a_page("loop-limit", size)),
     "sessions of one game that is refused": (2000, lambda size: shown_in_a_page("BadRule:9", size)),
-    "rows of a level": (5000, lambda size: blocks_of_levels(HEAD + "LEVELS\n" + "p.\n" * size)),
+    "rows of a level": (5000, lambda size: description_of(HEAD + "LEVELS\n" + "p.\n" * size)),
     "levels that lose a column": (1000, narrowed),
-    "objects": (2000, lambda size: objects_of(HEAD + "a\nred\n.....\n" * size)),
+    "objects": (2000, lambda size: description_of(HEAD + "a\nred\n.....\n" * size)),
     "quotes": (50_000, lambda size: find("['a',['" + "\\n" * size + "',[],'']]")),
     "lists that begin": (20_000, lambda size: find('["' * size)),
     "lists that begin and are escaped": (20_000, lambda size: find('[\\"' * size)),
@@ -286,7 +287,7 @@ find(text) if read == "find" else entries_in(text, {LONG})
 def remembering():
     """The functions of the package that remember what they told. An equal text of an earlier call would be compared with, letter by letter."""
     modules = [module for name, module in sys.modules.items() if name.startswith("saxtegun.")]
-    return {id(it): it for module in modules for it in vars(module).values() if hasattr(it, "cache_clear")}.values()
+    return {id(it): it for module in modules for it in vars(module).values() if hasattr(it, "cache_clear") and not isinstance(it, type)}.values()
 
 
 def seconds_of(act, size):
@@ -312,6 +313,13 @@ def growth_of(act, size):
     return min(min(seconds_of(act, 2 * size) for _ in range(3)) / max(min(seconds_of(act, size) for _ in range(3)), 1e-9) for _ in range(2))
 
 
+def meanings_of(source):
+    """What the names of a source stand for, each of which is asked for."""
+    meanings = Meanings(description_of(source))
+    meanings.filled()
+    return meanings
+
+
 class Costs(unittest.TestCase):
     def test_twice_the_input_takes_about_twice_the_time(self):
         for what, (size, act) in READINGS.items():
@@ -322,28 +330,32 @@ class Costs(unittest.TestCase):
 
 
     def test_of_synonyms_each_is_gone_through_once(self):
-        game = Game(legend_of_letters(2000))
-        self.assertLess(MOST_NAMES - game.names_left, 5000)
-        self.assertEqual(game.notes, [])
+        meanings = meanings_of(legend_of_letters(2000))
+        self.assertLess(MOST_NAMES - meanings.names_left, 5000)
+        self.assertEqual(meanings.notes, [])
 
     def test_of_a_chain_of_aggregates_none_is_gone_through_for_each(self):
         """Each is the one before and an object."""
         lines = "\n".join(f"{one} = {other} and Player" for one, other in zip(LETTERS[1:2000], ["Background", *LETTERS[1:]]))
-        game = Game(f"{HEAD}LEGEND\n{lines}\nCOLLISIONLAYERS\nBackground\nPlayer\nWINCONDITIONS\nLEVELS\n{LETTERS[1]}\n")
-        self.assertLess(MOST_NAMES - game.names_left, 20_000)
-        self.assertEqual(game.notes, [])
+        meanings = meanings_of(f"{HEAD}LEGEND\n{lines}\nCOLLISIONLAYERS\nBackground\nPlayer\nWINCONDITIONS\nLEVELS\n{LETTERS[1]}\n")
+        self.assertLess(MOST_NAMES - meanings.names_left, 20_000)
+        self.assertEqual(meanings.notes, [])
 
     def test_what_is_known_of_names_changes_none_of_them(self):
         """Of names that come to one another too, or to themselves, in whichever order they are asked for."""
         chosen = random.Random(0)
+        sources = []
         for _ in range(300):
             names = [f"n{it}" for it in range(8)]
             lines = "\n".join(f"{it} = {' and '.join(chosen.choices([*names, *(f'o{it}' for it in range(5))], k=chosen.randint(1, 3)))}" for it in names)
             objects = "".join(f"o{it}\nred\n" for it in range(5))
-            game = Game(f"title x\nOBJECTS\nBackground\nblack\nPlayer\nred\n{objects}LEGEND\n{lines}\nCOLLISIONLAYERS\nBackground\nLEVELS\n.\n")
-            chosen.shuffle(names)
-            for it in names:
-                self.assertEqual(game.members(it), game.members_beyond(game.meaning_of(it), set()), lines)
+            sources.append(f"title x\nOBJECTS\nBackground\nblack\nPlayer\nred\n{objects}LEGEND\n{lines}\nCOLLISIONLAYERS\nBackground\nLEVELS\n.\n")
+        with expected(sources):
+            for source in sources:
+                meanings = Meanings(description_of(source))
+                chosen.shuffle(names)
+                for it in names:
+                    self.assertEqual(meanings.members(it), meanings.members_beyond(meanings.meaning_of(it), set()), source)
 
 
 class Far(unittest.TestCase):
@@ -416,15 +428,16 @@ class Budget(OnSessions):
     def test_time_that_ends_in_the_midst_of_a_session_is_heeded(self):
         """Of what takes many seconds to say only what was played is said, soon behind the end of the time."""
         _, entry, run, _ = self.hung(30, 7)
-        behind, comments = run._replace(close="differs", cause=None), "(" * 3_000_000
+        behind, comments = run._replace(close="differs", cause=None), "(" * 1_000_000
         sources = {
             "comments": comments,
-            "names": entry.source.replace("LEGEND\n", "LEGEND\n" + "".join(f"{one} = {other} and Player\n" for one, other in zip(LETTERS, LETTERS[1:])) * 5),
-            "levels": entry.source + "\np.\n" * 300_000,
+            "names": entry.source.replace("LEGEND\n", "LEGEND\n" + "".join(f"{one} = {other} and Player\n" for one, other in zip(LETTERS, LETTERS[1:])) * 2),
+            "levels": entry.source + "\np.\n" * 260_000,
         }
         for what, source in sources.items():
             with self.subTest(what):
-                budget.EXPLAINING.left = 0.05
+                # a source without a line is soon told
+                budget.EXPLAINING.left = 0.001 if source == comments else 0.05
                 begin = monotonic()
                 sentence, below = told(behind, entry._replace(source=source, level="player background:0,background:1,\n"))
                 self.assertTrue(sentence.endswith(budget.NOT_LOOKED_AT), sentence)

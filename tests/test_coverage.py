@@ -10,6 +10,7 @@ from test_processes import SLOW, Programs
 from test_test import RULE, OfAGame
 from tool import plays, run
 from saxtegun.commands import Refused
+from saxtegun.descriptions import description_of, expect
 from saxtegun.lines import Frame, Run
 from saxtegun.omissions import Omissions
 from saxtegun.sessions import sessions_in
@@ -19,34 +20,33 @@ SOURCE = "RULES\n[ a ] -> [ b ]\n+ [ b ] -> [ c ]\nstartloop\nlate [ c ] -> (asi
 
 
 class LeavingOut(unittest.TestCase):
+    """The source without a line is read as the source is, but for that line, and for the `+` of the next of its group where it began that."""
+
+    def assert_left_out(self, source, *heirs):
+        """Of each line the one that begins the group behind it, or 0."""
+        omissions = Omissions(source)
+        parts, texts = omissions.parts(), [*description_of(source).lines.with_headings()]
+        self.assertEqual(len(parts), len(heirs))
+        expect(map(omissions.without, parts))
+        for part, heir in zip(parts, heirs):
+            wanted = [(number, text.lstrip("+ ") if number == heir else text) for number, text in texts if number != part.number]
+            self.assertEqual([*description_of(omissions.without(part)).lines.with_headings()], wanted)
+
     def test_each_rule_and_win_line_is_left_out_in_turn(self):
-        omissions = Omissions(SOURCE)
-        parts = omissions.parts()
-        self.assertEqual([it.text for it in parts], ["[ a ] -> [ b ]", "+ [ b ] -> [ c ]", "late [ c ] ->  [ d ]", "all a on b"])
-        self.assertEqual(omissions.without(parts[0]), SOURCE.replace("[ a ] -> [ b ]\n+", "\n "))
-        self.assertEqual(omissions.without(parts[1]), SOURCE.replace("+ [ b ] -> [ c ]", ""))
-        self.assertEqual(omissions.without(parts[2]), SOURCE.replace("late [ c ] -> (aside) [ d ]", "(aside)"))
-        self.assertEqual(omissions.without(parts[3]), SOURCE.replace("all a on b", ""))
+        self.assertEqual([it.text for it in Omissions(SOURCE).parts()], ["[ a ] -> [ b ]", "+ [ b ] -> [ c ]", "late [ c ] ->  [ d ]", "all a on b"])
+        self.assert_left_out(SOURCE, 3, 0, 0, 0)
 
     def test_a_comment_that_holds_the_same_is_no_rule(self):
-        omissions = Omissions("RULES\n([ a ] -> [ b ]) [ a ] -> [ b ]\n(c + d) + [ b ] -> [ c ]\n(late) + (e) [ c ] -> [ d ]\n")
-        first, second, third = omissions.parts()
-        self.assertEqual(omissions.without(first), "RULES\n([ a ] -> [ b ]) \n(c + d)   [ b ] -> [ c ]\n(late) + (e) [ c ] -> [ d ]\n")
-        self.assertEqual(omissions.without(second), "RULES\n([ a ] -> [ b ]) [ a ] -> [ b ]\n(c + d) \n(late) + (e) [ c ] -> [ d ]\n")
-        self.assertEqual(omissions.without(third), "RULES\n([ a ] -> [ b ]) [ a ] -> [ b ]\n(c + d) + [ b ] -> [ c ]\n(late) (e)\n")
+        self.assert_left_out("RULES\n([ a ] -> [ b ]) [ a ] -> [ b ]\n(c + d) + [ b ] -> [ c ]\n(late) + (e) [ c ] -> [ d ]\n", 3, 0, 0)
 
-    def test_comments_stay_where_a_line_goes(self):
-        for rule, left in (
-            ("[ a ] (c) -> [ b ]", "(c)"), ("([ a ]  -> [ b ]) [ a ] (c) -> [ b ]", "([ a ]  -> [ b ]) (c)"), ("\t[ a ] -> (of (two)\nlines) [ b ]", "\t (of (two)\nlines) [ b ]"),
-            ("(of\ntwo lines) [ a ] -> (and\nmore)", "(of\ntwo lines)  (and\nmore)"), ("[ a ] -> message (b) c", ""), ("[ a ] (b) -> message (b", "(b)"), ("[ a ] -> [ b ] ) c", ""),
+    def test_comments_take_nothing_with_them(self):
+        for rule in (
+            "[ a ] (c) -> [ b ]", "([ a ]  -> [ b ]) [ a ] (c) -> [ b ]", "\t[ a ] -> (of (two)\nlines) [ b ]", "(of\ntwo lines) [ a ] -> (and\nmore)", "[ a ] -> message (b) c",
+            "[ a ] (b) -> message (b", "[ a ] -> [ b ] ) c", "[ a ] -(b)> mess(c)age (d",
         ):  # fmt: skip
             with self.subTest(rule):
-                omissions = Omissions(f"RULES\n{rule}\nWINCONDITIONS\n")
-                self.assertEqual(omissions.without(omissions.parts()[0]), f"RULES\n{left}\nWINCONDITIONS\n")
-
-    def test_the_next_line_of_a_group_begins_it_behind_its_comments(self):
-        omissions = Omissions("RULES\n[ a ] -> [ b ]\n(a + b) + [ b ] (c) -> [ c ]\n")
-        self.assertEqual(omissions.without(omissions.parts()[0]), "RULES\n\n(a + b)   [ b ] (c) -> [ c ]\n")
+                source = f"title a (b\n\n(c)\nRULES\n{rule}\nWINCONDITIONS (d\n)\n===\nLEVELS\n\n(a\n\n)\nmes(b)sage (c"
+                self.assert_left_out(source, *(0 for it in description_of(source).rules))
 
 
 class Nothing(unittest.TestCase):

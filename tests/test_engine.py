@@ -155,6 +155,45 @@ class EngineOpenSessions(OpenSessions):
         self.pass_the_glue()
 
 
+@unittest.skipUnless(NODE, "there is no node")
+class TheSolutions(InARoom):
+    """The glue of solutions where no module is there, and the command line of engine/solve.mjs."""
+
+    def pass_the_glue(self, **module):
+        ran = subprocess.run([NODE, "--test", "--test-reporter=tap", OWN / "solutions.test.mjs"], env={**os.environ, **module}, stdout=subprocess.PIPE, stderr=subprocess.STDOUT, check=False)
+        self.assertEqual(ran.returncode, 0, ran.stdout.decode(errors="replace"))
+
+    def solve(self, *words, file=b"[]", module=""):
+        ran = subprocess.run([NODE, ENGINE / "solve.mjs", *words], input=file, env={**os.environ, "SAXTEGUN_MODULE": str(module)}, stdout=subprocess.PIPE, stderr=subprocess.PIPE, check=False)
+        return ran.returncode, ran.stdout.decode(), ran.stderr.decode()
+
+    def test_the_glue_without_a_module(self):
+        self.pass_the_glue(SAXTEGUN_MODULE=str(self.room / "none"))
+
+    def test_words_that_are_no_command_line(self):
+        for words in ([], ["x"], ["-1"], ["1.0"], [""], ["1", "2"], ["18446744073709551616"]):
+            with self.subTest(words):
+                self.assertEqual(self.solve(*words), (2, "", "bad command line\n"))
+
+    def test_a_module_without_solutions(self):
+        (self.room / "empty.wasm").write_bytes(b"\0asm\1\0\0\0")
+        self.assertEqual(self.solve("9", module=self.room / "empty.wasm"), (2, "", "no-solutions\n"))
+
+
+@unittest.skipUnless(NODE and IS_BUILT, "there is no node, or the module is not built")
+class EngineSolutions(TheSolutions):
+    """The same over the module; the name begins with Engine, by which ./check finds it."""
+
+    def test_the_glue(self):
+        self.pass_the_glue()
+
+    def test_the_lines_are_those_of_the_program(self):
+        program = TOP / "crates/pz_solver"
+        levels, file = (program / "args").read_text().strip(), (program / "stdin").read_bytes()
+        self.assertEqual(self.solve(levels, file=file), (0, (program / "stdout").read_text(), ""))
+        self.assertEqual(self.solve("9", file=b"[0]"), (2, "", "bad-entry 0\n"))
+
+
 @unittest.skipUnless(NODE and IS_BUILT, "there is no node, or the module is not built")
 class EngineStages(OnStages, OnCases):
     """The stages that the module gives; the name begins with Engine, by which ./check finds it."""
@@ -197,12 +236,11 @@ class TheDescriptions(OnDescriptions):
         self.pass_the_glue(SAXTEGUN_MODULE=str(self.room / "none"))
 
     def test_words_that_are_no_command_line(self):
-        for words in ([], ["a", "b"]):
-            with self.subTest(words):
-                self.assertEqual(self.describe(*words), (2, "", "bad command line\n"))
+        self.assertEqual(self.describe(), (2, "", "bad command line\n"))
 
     def test_a_file_that_is_not_there(self):
-        self.assertEqual(self.describe(self.room / "none"), (2, "", "open-fault\n"))
+        (self.room / "empty.wasm").write_bytes(b"\0asm\1\0\0\0")
+        self.assertEqual(self.describe(self.room / "none", module=self.room / "empty.wasm"), (2, "", "open-fault\n"))
 
     def test_a_module_without_descriptions(self):
         (self.room / "empty.wasm").write_bytes(b"\0asm\1\0\0\0")

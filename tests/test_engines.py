@@ -173,8 +173,8 @@ class Compare(OnEngines):
 
     def test_a_hang_is_told_and_the_other_sessions_are_played(self):
         self.sessions([3], [3, 1, "undo", "undo", "undo"], [1])
-        answer = self.compare(self.engine("hang"), "--timeout", "2")
-        self.assertEqual((answer.status, answer.out), (1, "session 1, session of 5: hang-false has no answer after input 3 (undo): not answered in 2 s\n3 sessions: 2 the same, 1 diverges\n"))
+        answer = self.compare(self.engine("hang"), "--timeout", "5")
+        self.assertEqual((answer.status, answer.out), (1, "session 1, session of 5: hang-false has no answer after input 3 (undo): not answered in 5 s\n3 sessions: 2 the same, 1 diverges\n"))
 
     def test_where_an_engine_hangs_late_is_looked_for_no_longer_than_may_be_explained(self):
         """Each look takes all the time of a session, so what is left of the whole is what the last of them has."""

@@ -55,7 +55,8 @@ class Lines(OnSessions):
         program.chmod(0o755)
         begin = monotonic()
         self.assert_refused(run("lines", EXAMPLE, "--program", program, "--timeout", "1"), "not answered in 1 s")
-        self.assertLess(monotonic() - begin, 10)
+        # not as long as what is left behind sleeps
+        self.assertLess(monotonic() - begin, 18)
 
     def test_what_is_said_while_building_is_handed_on(self):
         answer = run("lines", EXAMPLE, "--program", self.program('echo "proving a; 1 left" >&2\necho "memory" >&2\nexit 2'))

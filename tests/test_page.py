@@ -13,6 +13,7 @@ from random import Random
 
 from test_differences import games
 from tool import CASES, InARoom, TOP, run
+from saxtegun.descriptions import description_of, expect
 from saxtegun.differences import likely
 from saxtegun.explanations import culprit_told, cause_told, fault_in
 from saxtegun.files import read_any_text
@@ -27,7 +28,6 @@ from saxtegun.sessions import Entry
 NODE, OWN, MODULE = shutil.which("node"), TOP / "tests" / "web", b"\0asm\1\0\0\0"
 # The name of a language of XML, which nothing is fetched from.
 SVG = "http://www.w3.org/2000/svg"
-CODES = ("Unknown", "OutsideProfile", "BadGlyph", "Duplicate", "NoLayer", "Missing", "BadRule", "Section", "Other")
 
 
 class Elements(HTMLParser):
@@ -114,6 +114,15 @@ class Page(InARoom):
         answer = run(TOP / "dev/page", "--module", self.room / "none", "--output", self.room / "page.html")
         self.assertEqual((answer.status, answer.errors), (1, f"dev/page: there is no module at {self.room}/none; engine/build makes it\n"))
 
+    def test_a_name_that_two_modules_declare_is_refused(self):
+        for it in ("dev", "web", "python", "engine", "examples/day"):
+            shutil.copytree(TOP / it, self.room / it, ignore=shutil.ignore_patterns("out", "tests", "__pycache__"))
+        with open(self.room / "web/saying.mjs", "a", encoding="utf-8") as added:
+            added.write("export async function paceOf() {}\nclass load {}\n")
+        answer = run(self.room / "dev/page", "--module", self.room / "module.wasm", "--output", self.room / "page.html")
+        self.assertEqual((answer.status, answer.errors), (1, "dev/page: modules share one scope, and two declare a name: paceOf in animating.mjs and saying.mjs, load in saxtegun.mjs and saying.mjs\n"))
+        self.assertFalse((self.room / "page.html").exists())
+
     @unittest.skipUnless(NODE, "Node is not there")
     def test_node_reads_its_script(self):
         (self.room / "script.cjs").write_text(Elements(self.built()[0]).texts["script"], encoding="utf-8")
@@ -169,19 +178,20 @@ class Twins(unittest.TestCase):
 
     def test_games_are_read_as_python_reads_them(self):
         sources = list(dict.fromkeys([*(value[1][0] for value, _ in entries_of_cases()), (TOP / "examples/day/game.txt").read_text(encoding="utf-8"), *STRANGE]))
-        self.assertGreater(len(sources), 150)
+        expect(sources)
         for source, found in zip(sources, in_node("read-games.mjs", sources)):
-            game = Game(source)
-            glyphs = sorted([" ".join(sorted(names)), letter] for names, letter in game.glyphs.items())
-            wanted = {"title": game.title, "notes": game.notes, "look": look_of(game), "glyphs": glyphs, "grounds": sorted(game.grounds), "levels": [list(it.rows) for it in entries_of_levels(source)]}
-            found["glyphs"].sort()
+            game, told = Game(source), description_of(source)
+            look = found.pop("look")
             with self.subTest(source[:200]):
-                self.assertEqual(found, json.loads(json.dumps(wanted)))
+                self.assertEqual(found, {"title": game.title, "notes": game.notes, "levels": [list(it.rows) for it in entries_of_levels(source)]})
+                # the page draws nothing of a source that is refused, and so it looks for no layers there
+                if any(it.layer is not None for it in told.objects):
+                    self.assertEqual(look, json.loads(json.dumps(look_of(game))))
 
     def test_faults_are_reported_as_by_python(self):
         told = [(line["cause"], value[1][0], value[1][1], [it["at"] for it in lines if "at" in it]) for value, lines in entries_of_cases() for line in lines if "cause" in line]
         self.assertGreater(len(told), 80)
-        told += [(f"{code}:{number}", source, [0, "tick"], []) for source in STRANGE for code in CODES for number in range(source.count("\n") + 2)]
+        expect(source for _, source, _, _ in told)
         found = in_node("read-faults.mjs", [[cause, source, inputs, [{"at": it} for it in frames]] for cause, source, inputs, frames in told])
         for (cause, source, inputs, frames), it in zip(told, found):
             run_of = Run(0, "", "refused", cause, [Frame(at, "move", "") for at in frames])
@@ -235,7 +245,7 @@ class Twins(unittest.TestCase):
             self.assertEqual(there, it, case)
 
     def test_the_logic_of_the_page(self):
-        for name in ("logic", "state", "shown", "drawing", "stages", "random", "keeping"):
+        for name in ("logic", "state", "shown", "drawing", "stages", "solving", "random", "keeping"):
             with self.subTest(name):
                 ran = subprocess.run([NODE, "--test", "--test-reporter=tap", OWN / f"{name}.test.mjs"], stdout=subprocess.PIPE, stderr=subprocess.STDOUT, check=False)
                 self.assertEqual(ran.returncode, 0, ran.stdout.decode(errors="replace"))

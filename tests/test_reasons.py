@@ -81,7 +81,7 @@ class Reasons(unittest.TestCase):
             self.assertEqual(reason_told(cause, f"{HEAD}[ Player ] -> [ Player ]\n{TAIL}"), "")
 
     def test_a_text_of_another_length_is_looked_at_in_time(self):
-        self.assertNotEqual(reason_told("BadRule:15", f"{HEAD}{'[ [' * 500_000}\n{TAIL}"), "")
+        self.assertNotEqual(reason_told("BadRule:15", f"{HEAD}{'[[' * 500_000}\n{TAIL}"), "")
 
     def test_where_a_level_text_breaks(self):
         for text, place in BREAKS.items():

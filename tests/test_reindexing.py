@@ -5,7 +5,7 @@ import tracemalloc
 import unittest
 import unittest.mock
 
-from test_processes import PLAYER, SLOW, Programs
+from test_processes import ENOUGH, PLAYER, SLOW, Programs
 from test_test import OfAGame
 from tool import plays, run
 from saxtegun import reindexing
@@ -156,11 +156,11 @@ class Time(Programs):
     def test_a_session_without_an_answer_is_named_and_the_status_is_2(self):
         sessions = self.suite(["quick", "slow"])
         for words in ((), ("--reindex",), ("--only", "slow"), ("--only", "slow", "--reindex")):
-            answer = run("accept", sessions, *words, "--program", self.program(PLAYER), "--timeout", "1")
+            answer = run("accept", sessions, *words, "--program", self.program(PLAYER), "--timeout", ENOUGH)
             self.assertEqual((answer.status, answer.out), (2, sessions.read_text(encoding="utf-8")), words)
             self.assertIn("accept: session 1, slow", answer.errors)
-            self.assertIn("not answered in 1 s", answer.errors)
-        self.assertEqual(run("accept", sessions, "--only", "quick", "--reindex", "--program", self.program(PLAYER), "--timeout", "1").status, 0)
+            self.assertIn(f"not answered in {ENOUGH} s", answer.errors)
+        self.assertEqual(run("accept", sessions, "--only", "quick", "--reindex", "--program", self.program(PLAYER), "--timeout", ENOUGH).status, 0)
 
     def test_no_more_levels_are_played_at_once_than_there_is_time_for(self):
         """Sixty would take half a minute."""

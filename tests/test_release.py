@@ -16,7 +16,7 @@ from unittest import mock
 
 TOP = Path(__file__).resolve().parent.parent
 sys.path.insert(0, str(TOP / "dev"))
-from releasing import MODULE, NOTICES, PROGRAM, Broken, Built, check_version, ends_in, gate_of, headline, make, make_released, package_files, proved_words, release_of, sum_of, told  # noqa: E402
+from releasing import DESCRIBER, MODULE, NOTICES, PROGRAM, SOLVER, Broken, Built, check_version, ends_in, gate_of, headline, make, make_released, package_files, proved_words, release_of, sum_of, told  # noqa: E402
 from crates import all_below, read_crates, read_uses  # noqa: E402
 from freshness import newer  # noqa: E402
 from forging import EVIL, bombs, digits, forged, forged_packages, lengths, member, sparse, speaking, with_blocks, with_data  # noqa: E402
@@ -27,9 +27,9 @@ from verifying import HIDDEN, differences  # noqa: E402
 
 # The sources of the kit's libraries, each with its terms.
 KIT = Path("/opt/rattle/rattle")
-# Stands in for the program: it says how it was called. The module is one without anything in it.
+# Stands in for the program: it says how it was called; and for the one that tells sources: it tells none. The module is one without anything in it.
 ENDS = ["rt ci: 7 passed, 0 failed", "cases by the program: 9 passed, 0 failed"]
-STAND_IN = Built(b'#!/bin/sh\necho "$@"\n', b"\0asm\1\0\0\0", ENDS)
+STAND_IN = Built(b'#!/bin/sh\necho "$@"\n', b"#!/bin/sh\nexit 2\n", b"#!/bin/sh\nexit 3\n", b"\0asm\1\0\0\0", ENDS)
 ALONE = {**os.environ, "GIT_AUTHOR_DATE": "2026-11-26T12:00:00Z", "GIT_COMMITTER_DATE": "2026-11-26T12:00:00Z"}
 
 
@@ -198,7 +198,7 @@ class Release(unittest.TestCase):
     def test_the_package_for_node_has_what_npm_wants(self):
         with tarfile.open(self.release / f"saxtegun-engine-{self.version}.tgz") as tar:
             content = {info.name: tar.extractfile(info).read() for info in tar}
-        wanted = ["NOTICES", "describe.mjs", "out/saxtegun.wasm", "package.json", "replay.mjs", "saxtegun.d.ts", "saxtegun.mjs", "stages.mjs", "streams.mjs"]
+        wanted = ["NOTICES", "describe.mjs", "out/saxtegun.wasm", "package.json", "replay.mjs", "saxtegun.d.ts", "saxtegun.mjs", "solve.mjs", "stages.mjs", "streams.mjs"]
         self.assertEqual(sorted(content), [f"package/{it}" for it in wanted])
         said = json.loads(content["package/package.json"])
         self.assertEqual((said["name"], said["version"]), ("saxtegun-engine", self.version))
@@ -218,7 +218,7 @@ class Release(unittest.TestCase):
 
     def test_the_package_has_the_command_and_its_page(self):
         listed = subprocess.run(["dpkg-deb", "-c", str(self.release / f"saxtegun_{self.version}_amd64.deb")], capture_output=True, text=True)
-        for path in ("./usr/bin/saxtegun", "./usr/lib/saxtegun/bin/pz_replayer", "./usr/lib/saxtegun/saxtegun.html", "./usr/share/man/man1/saxtegun.1.gz", "./usr/share/doc/saxtegun/copyright"):
+        for path in ("./usr/bin/saxtegun", "./usr/lib/saxtegun/bin/pz_replayer", "./usr/lib/saxtegun/bin/pz_describer", "./usr/lib/saxtegun/bin/pz_solver", "./usr/lib/saxtegun/saxtegun.html", "./usr/share/man/man1/saxtegun.1.gz", "./usr/share/doc/saxtegun/copyright"):
             self.assertRegex(listed.stdout, rf"(?m) {path}$")
         self.assertNotRegex(listed.stdout, r"(?m)^\S+ (?!root/root)")
 
@@ -450,12 +450,14 @@ class Release(unittest.TestCase):
         """A clone in which the gate has passed, and what it built."""
         top = clone(Path(tempfile.mkdtemp(dir=self.kept.name)) / "gate", self.one)
         put(top / PROGRAM, STAND_IN.program)
+        put(top / DESCRIBER, STAND_IN.describer)
+        put(top / SOLVER, STAND_IN.solver)
         put(top / MODULE, STAND_IN.module)
         self.note(top, self.commit)
         return top
 
     def note(self, top, commit, program=STAND_IN.program):
-        passed = [f"commit {commit}", f"{sum_of(program)}  {PROGRAM}", f"{sum_of(STAND_IN.module)}  {MODULE}", *ENDS]
+        passed = [f"commit {commit}", f"{sum_of(program)}  {PROGRAM}", f"{sum_of(STAND_IN.describer)}  {DESCRIBER}", f"{sum_of(STAND_IN.solver)}  {SOLVER}", f"{sum_of(STAND_IN.module)}  {MODULE}", *ENDS]
         put(top / "out/gate-passed", "".join(f"{it}\n" for it in passed).encode())
 
     def test_a_gate_counts_for_its_commit_and_for_what_it_built(self):

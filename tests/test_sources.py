@@ -4,12 +4,12 @@ import unittest
 
 import tool  # puts the package on the path
 from tool import CASES
+from saxtegun.descriptions import description_of, expect
 from saxtegun.games import Game, game_of
 from saxtegun.levels import Labels, in_rows, read_cells, width_of
 from saxtegun.levelsets import drawn_start, entries_of_levels, first_level
 from saxtegun.lines import runs_in
 from saxtegun.sessions import read_sessions
-from saxtegun.sources import lines_of
 
 # The faults of a source that name a line, by the sections in which they may.
 SECTIONS = {
@@ -20,8 +20,14 @@ SECTIONS = {
 }
 
 
-def sessions_of_cases():
+def sessions_of_cases(change=lambda entry: [entry.source]):
     """Each session of the cases that are played, with its run and the order: the name of the case, the entry, the run, the order."""
+    them = list(sessions_of_played_cases())
+    expect(source for _, entry, _, _ in them for source in change(entry))
+    return them
+
+
+def sessions_of_played_cases():
     for case in sorted(CASES.iterdir()):
         if (case / "status").read_text().strip() == "2":
             continue
@@ -29,6 +35,11 @@ def sessions_of_cases():
         sessions = read_sessions(str(case / "input.json"))
         for _, run in runs_in(str(case / "stdout")):
             yield case.name, sessions.entries[run.number], run, order
+
+
+def beginnings(entry):
+    """Beginnings of a source of different lengths."""
+    return [entry.source[:cut] for cut in range(0, len(entry.source), max(1, len(entry.source) // 7))]
 
 
 def cells_of(text):
@@ -86,15 +97,15 @@ class Sources(unittest.TestCase):
             if code in SECTIONS and number != "0":
                 seen.add(code)
                 with self.subTest(name):
-                    found = [it.section for it in lines_of(entry.source) if it.number == int(number)]
+                    found = [it.section for it in description_of(entry.source).lines if it.number == int(number)]
                     self.assertTrue(found and found[0] in SECTIONS[code], found)
         self.assertGreater(len(seen), 12)
 
     def test_a_source_that_is_refused_is_read_as_far_as_it_goes(self):
-        for name, entry, run, _ in sessions_of_cases():
-            for cut in range(0, len(entry.source), max(1, len(entry.source) // 7)):
+        for name, entry, run, _ in sessions_of_cases(beginnings):
+            for source in beginnings(entry):
                 with self.subTest(name):
-                    self.assertIsInstance(Game(entry.source[:cut]).title, str)
+                    self.assertIsInstance(Game(source).title, str)
 
 
 if __name__ == "__main__":

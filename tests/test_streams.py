@@ -41,6 +41,8 @@ sys.exit(1)
 """
 # What may stand in a line of a terminal.
 LINE = re.compile(r"[^\x00-\x1f\x7f-\x9f\u2028\u2029\u202e]*")
+# So many bytes a file has where one takes only a part.
+MOST_OF_A_FILE = 2**20
 
 
 class OnStreams(OnSessions):
@@ -124,8 +126,11 @@ class OnStreams(OnSessions):
     def test_a_file_that_takes_only_a_part_is_reported(self):
         for words, env in self.of_data():
             with self.subTest(words[0], unbuffered="PYTHONUNBUFFERED" in env), open(self.room / "out", "wb") as out:
-                status, errors = self.ends(words, stdout=out, env=env, preexec_fn=lambda: resource.setrlimit(resource.RLIMIT_FSIZE, (500, 500)))
-                self.assertEqual((status, (self.room / "out").stat().st_size), (2, 500))
+                # room for 500 bytes more, while what the engine is asked and tells finds room in files of its own
+                out.truncate(MOST_OF_A_FILE - 500)
+                out.seek(0, os.SEEK_END)
+                status, errors = self.ends(words, stdout=out, env=env, preexec_fn=lambda: resource.setrlimit(resource.RLIMIT_FSIZE, (MOST_OF_A_FILE, MOST_OF_A_FILE)))
+                self.assertEqual((status, (self.room / "out").stat().st_size), (2, MOST_OF_A_FILE))
                 self.assertTrue(errors.endswith(f"saxtegun {words[0]}: writing failed: File too large\n"), errors)
 
     def test_a_full_pipe_that_lets_nobody_wait_is_reported(self):

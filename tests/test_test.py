@@ -14,7 +14,6 @@ from tool import TOP, environment, plays, run
 from saxtegun.culprits import loops_told, repeated_in, outside_told, unknown_told
 from saxtegun.failures import Failure, annotation, markdown, within
 from saxtegun.file_watch import times_of
-from saxtegun.games import Game
 from saxtegun.levelsets import count_of_levels, entries_of_levels, first_level, still_in
 from saxtegun.lines import Frame, Run
 from saxtegun.sessions import sessions_in
@@ -206,8 +205,8 @@ class Words(OfAGame):
     def test_the_names_near_a_name_are_reported(self):
         source = self.source.replace(RULE, "[ > Player | Create ] -> [ zzz | > Crate ]")
         number = 1 + source[: source.index("[ > Player | Create")].count("\n")
-        self.assertEqual(unknown_told(source, Game(source), number), ": `Create` (near: `crate`), `zzz`")
-        self.assertEqual(unknown_told(source, Game(source), 10_000), "")
+        self.assertEqual(unknown_told(source, number), ": `Create` (near: `crate`), `zzz`")
+        self.assertEqual(unknown_told(source, 10_000), "")
 
     def test_keywords_and_rows_outside_the_profile_are_reported(self):
         for rule, told in (("late RIGID [ a ] -> [ ]", "`rigid`"), ("[ a | ... | b | ... | c ] -> [ ]", "a row with two `...`"), ("[ randomize ] -> [ ]", "")):

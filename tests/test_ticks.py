@@ -4,7 +4,7 @@ import unittest
 
 from day import OnSessions
 from tool import plays, run
-from saxtegun.sources import without_clock
+from saxtegun.ticks import without_clock
 
 TOLD = "played without realtime_interval: ticks as recorded"
 REMEDY = "here it is `realtime_interval`; with --ticks-as-recorded it is played without that line, by the ticks that were recorded (OutsideProfile:2)"

@@ -16,6 +16,8 @@ VERBS = {
     "shrink": "makes the smallest session on which two programs still diverge, as a case of conformance/",
     "coverage": "finds rules and win lines that no session needs",
     "play": "plays a game in the terminal, and saves it as a recording",
+    "solve": "looks for shortest solutions of a game's levels, or shows that there is none",
+    "mend": "mends recordings that no longer solve their levels",
     "lines": "plays recordings and writes the program's lines",
     "why": "shows the stages of an input: which groups and loops of rules acted, when, and the level after each",
     "explain": "says in words which sessions did not pass, and why",

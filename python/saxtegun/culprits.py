@@ -6,15 +6,14 @@ from difflib import get_close_matches
 from typing import Callable, Iterable, List, NamedTuple, Optional, Set
 
 from saxtegun.commands import cut, fold
-from saxtegun.games import Game
-from saxtegun.reductions import things_of
-from saxtegun.sources import Line, lines_of, read_source, words_of
+from saxtegun.descriptions import Description, before, description_of
+from saxtegun.games import CLOCK, game_of
 
-OUTSIDE = ("random", "randomdir", "rigid", "realtime_interval")
-SYNTAX = re.compile(r"[\[\]|,=]|->|\.\.\.")
+OUTSIDE = ("random", "randomdir", "rigid")
+MARKS = set("[ ] | -> + ...".split())
 RULE_WORDS = set(
     "up down left right late rigid random randomdir horizontal vertical orthogonal moving stationary perpendicular parallel action no "
-    "> < ^ v + startloop endloop cancel checkpoint restart win again message all any some on and or".split()
+    "> < ^ v startloop endloop cancel checkpoint restart win again message all any some on and or".split()
 )
 MOST_LINES = 8
 # The sections that must be there.
@@ -29,20 +28,23 @@ def is_command(word: str) -> bool:
     return bool(re.fullmatch(r"sfx[0-9]+", word))
 
 
-def names_in(game: Game) -> Set[str]:
-    return {*game.first_names, *game.definitions}
+def names_in(told: Description) -> Set[str]:
+    return {fold(name) for it in told.objects for name in it.names} | {fold(it.left[0]) for it in told.legend}
 
 
-def unknown_in(source: str, game: Game, number: int) -> List[str]:
+def words_at(told: Description, number: int) -> List[str]:
+    """The words of a line in which names may stand, as they are written there."""
+    for it in told.legend:
+        if it.number == number:
+            return it.right
+    line = next((it for it in (*told.layers, *told.rules, *told.wins) if it.number == number), None)
+    return line.as_written()[: len(before("message", line.words))] if line else []
+
+
+def unknown_in(told: Description, number: int) -> List[str]:
     """The words of a line that are neither a name nor a word of the language, as they stand there."""
-    line = next((it for it in lines_of(source) if it.number == number), None)
-    if line is None:
-        return []
-    known = names_in(game) | RULE_WORDS
-    words = words_of(SYNTAX.sub(" ", line.text))
-    if line.section == "legend":
-        words = words_of(line.text.partition("=")[2])
-    return [word for word in dict.fromkeys(words) if fold(word) not in known and not is_command(fold(word))]
+    known = names_in(told) | RULE_WORDS | MARKS
+    return [word for word in dict.fromkeys(words_at(told, number)) if fold(word) not in known and not is_command(fold(word))]
 
 
 def nearest(word: str, names: Iterable[str]) -> str:
@@ -56,15 +58,16 @@ def nearest(word: str, names: Iterable[str]) -> str:
     return begins[near[0]] if near else ""
 
 
-def unknown_told(source: str, game: Game, number: int) -> str:
+def unknown_told(source: str, number: int) -> str:
     """Which name isn't there, and the nearest one that is: behind the words of a fault, or nothing."""
-    names = names_in(game)
+    told = description_of(source)
+    names = names_in(told)
 
-    def told(word: str) -> str:
+    def word_told(word: str) -> str:
         near = nearest(fold(word), names)
         return f"`{cut(word)}`" + (f" (near: `{cut(near)}`)" if near else "")
 
-    return listed(unknown_in(source, game, number), told)
+    return listed(unknown_in(told, number), word_told)
 
 
 def listed(words: Iterable[str], told: Callable[[str], str] = lambda word: f"`{cut(word)}`") -> str:
@@ -74,72 +77,77 @@ def listed(words: Iterable[str], told: Callable[[str], str] = lambda word: f"`{c
     return f": {', '.join(map(told, known[:MOST_WORDS]))}{more}" if known else ""
 
 
-def glyphs_told(source: str, game: Game, number: int) -> str:
-    """The letters of a row of a level that draw nothing, as far as the row is read."""
-    width = 0
-    for line in (it for it in lines_of(source) if it.section == "levels" and it.number <= number):
-        # a level is as wide as its first row, behind an empty line or a message
-        is_row = bool(line.text) and fold(line.text.split(" ", 1)[0]) != "message"
-        width = (width or len(line.text)) if is_row else 0
-        if line.number == number:
-            return listed(it for it in line.text[:width] if not game.draws(fold(it)))
+def glyphs_told(source: str, number: int) -> str:
+    """The letters of a row of a level that draw nothing, as far as the row is read: a level is as wide as its first row."""
+    game = game_of(source)
+    for level in description_of(source).levels:
+        if level.rows and number in level.numbers:
+            row = level.rows[level.numbers.index(number)][: len(level.rows[0])]
+            return listed(it for it in row if not game.draws(fold(it)))
     return ""
 
 
 def again_told(source: str, number: int) -> str:
     """The names of a line that are there already, in it or above it."""
+    told = description_of(source)
     names: Set[str] = set()
-    of_objects = {it.numbers[0] for it in things_of(source)}
-    for line in (it for it in lines_of(source) if it.number in of_objects or it.section == "legend"):
-        words = words_of(line.text if line.section == "objects" else line.text[: line.text.find("=", 1)])
+    for at, words in sorted([*((it.numbers[0], it.names) for it in told.objects), *((it.number, it.left) for it in told.legend)]):
         again: List[str] = []
         for word in words:
             if fold(word) in names:
                 again.append(word)
             names.add(fold(word))
-        if line.number == number:
+        if at == number:
             return listed(again)
     return ""
 
 
 def layerless_told(source: str, number: int) -> str:
     """The object whose name line this is."""
-    return listed(next((words_of(it.text)[:1] for it in lines_of(source) if it.number == number), []))
+    return listed(it.names[0] for it in description_of(source).objects if it.numbers[0] == number)
 
 
-def missing_told(game: Game) -> str:
+def missing_told(source: str) -> str:
     """Which of the two names that must be there is no object and no property."""
+    told = description_of(source)
+    objects = {fold(name) for it in told.objects for name in it.names}
+    definitions = {fold(it.left[0]): it.right for it in reversed(told.legend)}
+
     def is_there(name: str) -> bool:
-        return bool(game.members(name)) and not (game.draws(name) and name not in game.first_names)
+        way: Set[str] = set()
+        while name not in objects and len(definitions.get(name, ())) == 1 and name not in way:
+            way.add(name)
+            name = fold(definitions[name][0])
+        return name in objects or fold("".join(definitions.get(name, [])[1:2])) == "or"
 
     return listed(it for it in ("background", "player") if not is_there(it))
 
 
-def fault_told(code: str, source: str, game: Game, number: int) -> str:
+def fault_told(code: str, source: str, number: int) -> str:
     """What of a line is the culprit of a fault, in words that go on behind its sentence, or nothing."""
     if code == "Unknown":
-        return unknown_told(source, game, number)
+        return unknown_told(source, number)
     if code == "OutsideProfile":
         found = outside_told(source, number)
         return f"; here it is {found}" if found else ""
     if code == "BadGlyph":
-        return glyphs_told(source, game, number)
+        return glyphs_told(source, number)
     if code == "Duplicate":
         return again_told(source, number)
     if code == "NoLayer":
         return layerless_told(source, number)
     if code == "Section" and number == 0:
-        headings = read_source(source)[1]
+        headings = description_of(source).lines.headings
         return listed(it.upper() for it in NEEDED if it not in headings)
-    return missing_told(game) if code == "Missing" else ""
+    return missing_told(source) if code == "Missing" else ""
 
 
 def outside_told(source: str, number: int) -> str:
     """The keyword of a line that isn't played here, or the row with two `...`."""
-    text = source.split("\n")[number - 1] if 1 <= number <= source.count("\n") + 1 else ""
-    line = next((it.text for it in lines_of(source) if it.number == number), text)
-    found = [word for word in OUTSIDE if word in words_of(fold(SYNTAX.sub(" ", line)))]
-    return f"`{found[0]}`" if found else "a row with two `...`" if line.count("...") > 1 else ""
+    told = description_of(source)
+    words = next((before("message", it.words) for it in told.rules if it.number == number), [])
+    found = [it.keyword for it in told.prelude if it.number == number and it.keyword == CLOCK] + [it for it in OUTSIDE if it in words]
+    return f"`{found[0]}`" if found else "a row with two `...`" if list(words).count("...") > 1 else ""
 
 
 class Repeated(NamedTuple):
@@ -161,19 +169,23 @@ def repeated_in(source: str) -> List[Repeated]:
     found: List[Repeated] = []
     begin: Optional[int] = None
     group: List[int] = []
-    for line in [*(it for it in lines_of(source) if it.section == "rules" and it.text), Line(0, "rules", "")]:
-        word = fold(line.text)
-        if not line.text.startswith("+"):
-            if group:
-                found.append(Repeated(group[0], group[-1], False, begin is not None))
-            group = []
-        if word == "startloop":
+
+    def close() -> None:
+        if group:
+            found.append(Repeated(group[0], group[-1], False, begin is not None))
+        group.clear()
+
+    for line in description_of(source).rules:
+        if not line.joins:
+            close()
+        if line.words == ["startloop"]:
             begin = line.number
-        elif word == "endloop" and begin is not None:
+        elif line.words == ["endloop"] and begin is not None:
             found.append(Repeated(begin, line.number, True, False))
             begin = None
         else:
             group.append(line.number)
+    close()
     return found
 
 

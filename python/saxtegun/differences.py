@@ -5,27 +5,28 @@ import re
 from functools import lru_cache, reduce
 from itertools import islice
 from operator import or_
-from typing import Dict, FrozenSet, Iterator, List, NamedTuple, Optional, Tuple
+from typing import Dict, FrozenSet, Iterator, List, NamedTuple, Optional, Sequence, Tuple
 
 from saxtegun.budget import EXPLAINING
 from saxtegun.commands import cut, fold
+from saxtegun.descriptions import Words, before, description_of
 from saxtegun.games import Game, game_of
 from saxtegun.lines import Run
 from saxtegun.sessions import Entry
-from saxtegun.sources import lines_of, words_of
 
 PAGE = "docs/differences.md"
 START = "run_rules_on_level_start"
-BRACKETS = re.compile(r"[\[\]|]")
-# So many letters of a rule are looked at.
-MOST_LETTERS = 1000
+MARKS = {"[", "]", "|"}
+# So many words of a rule are looked at.
+MOST_WORDS = 500
+# So many names that rules move are looked at.
+MOST_NAMES = 1000
 # So many properties of a source are looked at.
 MOST_PROPERTIES = 50
-# A command of a rule behind a comment.
+# A command of a rule behind a comment, in so many letters of a line.
 BEHIND_A_COMMENT = re.compile(r"\([^()]*\)\s*(?:again|win|restart|cancel|checkpoint|message|sfx[0-9]+)\b", re.I)
-
-
-ROW = re.compile(r"\[([^\[\]]*)\]")
+MOST_LETTERS = 1000
+COMMANDS = {"again", "win", "restart", "cancel", "checkpoint", "message", *(f"sfx{it}" for it in range(11))}
 TURNING = {*"^v<>", "parallel", "perpendicular"}
 DIRECTIONS = {"up", "down", "left", "right", "horizontal", "vertical", "orthogonal"}
 # The words that may stand before a name in a cell.
@@ -40,16 +41,23 @@ class Property(NamedTuple):
     line: int
 
 
-def rules_of(source: str) -> List[Tuple[int, str]]:
-    return [(it.number, fold(it.text)) for it in lines_of(source) if it.section == "rules"]
+def rules_of(source: str) -> Iterator[Words]:
+    return EXPLAINING.each(description_of(source).rules)
+
+
+def sides_of(line: Words) -> Tuple[Sequence[str], Sequence[str]]:
+    """The words of a rule left and right of its arrow, as far as they are looked at."""
+    words = line.words[:MOST_WORDS]
+    left = before("->", words)
+    return left, words[len(left) + 1 :]
 
 
 def names_on_the_left(source: str) -> Dict[str, int]:
     """The words on the left of rules, each with the first line that has it."""
     found: Dict[str, int] = {}
-    for number, text in EXPLAINING.each(rules_of(source)):
-        for word in words_of(BRACKETS.sub(" ", text.partition("->")[0])):
-            found.setdefault(word, number)
+    for line in rules_of(source):
+        for word in before("->", line.words):
+            found.setdefault(word, line.number)
     return found
 
 
@@ -58,7 +66,7 @@ def properties_of(source: str) -> Tuple[Property, ...]:
     """The properties of one layer that stand on the left of a rule: the first of them, since a source may have many."""
     game = game_of(source)
     found: List[Property] = []
-    named = ((name, line) for name, line in names_on_the_left(source).items() if game.definitions.get(name, ("",))[0] == "or")
+    named = ((name, line) for name, line in names_on_the_left(source).items() if game.is_property(name))
     for name, line in islice(named, MOST_PROPERTIES):
         members = game.members(name)
         if len(members) > 1 and len({game.layers.get(it) for it in members}) == 1:
@@ -69,33 +77,38 @@ def properties_of(source: str) -> Tuple[Property, ...]:
 @lru_cache(maxsize=64)
 def keywords_of(source: str) -> FrozenSet[str]:
     """The first words of the lines of the prelude."""
-    return frozenset(word for it in lines_of(source) if it.section == "prelude" for word in fold(it.text).split(None, 1)[:1])
+    return frozenset(it.keyword for it in description_of(source).prelude)
+
+
+def is_behind_a_comment(line: Words, written: str) -> bool:
+    """Whether a comment stands directly before a command of a rule that has both."""
+    has_both = bool(COMMANDS & set(sides_of(line)[1])) and len(line.text) < len(written.strip())
+    return has_both and bool(BEHIND_A_COMMENT.search(written[:MOST_LETTERS].partition("->")[2]))
 
 
 @lru_cache(maxsize=64)
 def rule_told(source: str) -> str:
     """A form of a rule that the site reads otherwise, or nothing."""
     is_late = False
-    for number, text in EXPLAINING.each(rules_of(source)):
-        if text.startswith("+") and is_late and "late" not in text.partition("[")[0]:
-            return f"the rule on line {number} has `+` below a late rule: on the site it isn't late"
-        is_late = "late" in words_of(text.partition("[")[0]) or (text.startswith("+") and is_late)
-    rules = {number for number, _ in rules_of(source)}
-    for number, line in EXPLAINING.each(enumerate(source.split("\n"), 1)):
-        if number in rules and BEHIND_A_COMMENT.search(line[:MOST_LETTERS].partition("->")[2]):
-            return f"a comment stands before a command on line {number}: on the site it ends the rule"
+    for line in rules_of(source):
+        if line.joins and is_late and not line.is_late:
+            return f"the rule on line {line.number} has `+` below a late rule: on the site it isn't late"
+        is_late = line.is_late or (line.joins and is_late)
+    raw = source.split("\n")
+    for line in rules_of(source):
+        if is_behind_a_comment(line, raw[line.number - 1]):
+            return f"a comment stands before a command on line {line.number}: on the site it ends the rule"
     return ""
 
 
 @lru_cache(maxsize=64)
 def scan_told(source: str) -> str:
     """A rule of several rows of one cell, which the site scans in its own direction, or nothing."""
-    for number, text in EXPLAINING.each(rules_of(source)):
-        left, arrow, right = text[:MOST_LETTERS].partition("->")
-        words = words_of(BRACKETS.sub(" ", left))
-        is_turned = bool(TURNING & {*words, *words_of(BRACKETS.sub(" ", right))}) or bool(DIRECTIONS & set(words_of(left.partition("[")[0])))
-        if arrow and "|" not in left and left.count("[") > 1 and "[" in right and is_turned:
-            return f"the rows of the rule on line {number} have one cell: on the site it takes places in its own direction, not column by column"
+    for line in rules_of(source):
+        left, right = sides_of(line)
+        is_turned = bool(TURNING & {*left, *right}) or bool(DIRECTIONS & set(before("[", left)))
+        if "|" not in left and left.count("[") > 1 and "[" in right and is_turned:
+            return f"the rows of the rule on line {line.number} have one cell: on the site it takes places in its own direction, not column by column"
     return ""
 
 
@@ -108,45 +121,46 @@ class Layers:
         self.known: Dict[str, int] = {}
 
     def of(self, name: str) -> int:
-        name = self.game.meaning_of(name)
         if name not in self.known:
             numbers = {self.game.layers.get(it, -1) + 1 for it in EXPLAINING.each(self.game.members(name))}
-            bits = bytearray(max(numbers, default=0) // 8 + 1)
-            for it in numbers:
-                bits[it // 8] |= 1 << it % 8
-            self.known[name] = int.from_bytes(bits, "little")
+            self.known[name] = reduce(or_, (1 << it for it in numbers), 0)
         return self.known[name]
 
-    def of_cell(self, cell: str) -> Dict[str, int]:
+    def of_cell(self, cell: Sequence[str]) -> Dict[str, int]:
         """The names of a cell that have no word before them, each with its layers; and under the empty name the layers of all."""
         found = {"": 0}
-        before = ""
-        for word in EXPLAINING.each(words_of(cell)):
+        above = ""
+        for word in EXPLAINING.each(cell):
             if word not in BEFORE_A_NAME:
                 found[""] |= self.of(word)
-                if not before:
+                if not above:
                     found[word] = self.of(word)
-            before = word if word in BEFORE_A_NAME else ""
+            above = word if word in BEFORE_A_NAME else ""
         return found
 
 
-def cells_in(side: str) -> List[str]:
-    return [cell for row in ROW.findall(side) for cell in row.split("|")]
-
-
-def cells_of(text: str) -> Iterator[Tuple[str, str]]:
-    """The cells of a rule, left and right of it side by side."""
-    left, _, right = text[:MOST_LETTERS].partition("->")
-    return zip(cells_in(left), cells_in(right))
+def cells_in(words: Sequence[str]) -> List[List[str]]:
+    """The cells of the rows of a side, by their words."""
+    cells: List[List[str]] = []
+    is_in = False
+    for word in words:
+        if word in ("[", "|"):
+            cells.append([])
+            is_in = True
+        elif word == "]":
+            is_in = False
+        elif is_in:
+            cells[-1].append(word)
+    return cells
 
 
 def moved_layers(source: str, layers: Layers) -> int:
     """The layers in which rules move something, and that of the player."""
     names = ["player"]
-    for _, text in EXPLAINING.each(rules_of(source)):
-        words = words_of(BRACKETS.sub(" ", text[:MOST_LETTERS].partition("->")[2]))
+    for line in rules_of(source):
+        words = [it for it in sides_of(line)[1] if it not in MARKS]
         names += [name for word, name in zip(words, words[1:]) if word in BEFORE_A_NAME and word not in ("no", "stationary")]
-    return reduce(or_, map(layers.of, names[:MOST_LETTERS]))
+    return reduce(or_, map(layers.of, names[:MOST_NAMES]))
 
 
 @lru_cache(maxsize=64)
@@ -154,14 +168,14 @@ def placed_told(source: str) -> str:
     """A rule that places an object without a word where its left cell has nothing of its layer, and something may move; or nothing."""
     layers = Layers(game_of(source))
     moved = moved_layers(source, layers)
-    for number, text in EXPLAINING.each(rules_of(source)):
-        if "late" in words_of(text.partition("[")[0]):
+    for line in rules_of(source):
+        if line.is_late:
             continue
-        for left, right in cells_of(text):
+        for left, right in zip(*map(cells_in, sides_of(line))):
             there = layers.of_cell(left)[""]
             for name, of in layers.of_cell(right).items():
                 if name and of & moved and not of & there:
-                    return f"the rule on line {number} places `{cut(name)}`, which takes over what moves in its layer: on the site it is still"
+                    return f"the rule on line {line.number} places `{cut(name)}`, which takes over what moves in its layer: on the site it is still"
     return ""
 
 

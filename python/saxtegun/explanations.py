@@ -8,6 +8,7 @@ from typing import Iterable, List, Optional, Tuple, Union
 from saxtegun import culprits, differences, levelsets, reasons
 from saxtegun.budget import EXPLAINING, NOT_LOOKED_AT, UsedUp
 from saxtegun.commands import cut, plural, printable
+from saxtegun.descriptions import Undescribed
 from saxtegun.games import Game, game_of
 from saxtegun.levels import Labels, differing, in_rows, position, read_cells, width_of
 from saxtegun.lines import UNANSWERED, Run
@@ -174,7 +175,7 @@ def culprit_told(entry: Entry, run: Run) -> str:
     """What the cause of a session comes from, in words that go on behind its sentence, or nothing."""
     fault = fault_in(run.cause or "")
     if fault:
-        return culprits.fault_told(fault[0], entry.source, game_of(entry.source), fault[1])
+        return culprits.fault_told(fault[0], entry.source, fault[1])
     if run.cause in ("loop-limit", "again-limit", "match-limit"):
         at = stop_of(entry, run)
         where = " at the start" if at is None else f" at input {at} ({input_told(entry.inputs[at])})"
@@ -199,6 +200,8 @@ def told(run: Run, entry: Optional[Entry] = None, order: str = "columns", game: 
             return told_in_full(run, entry, order, game, hung)
     except UsedUp:
         return f"{told_in_full(run)[0]}; {NOT_LOOKED_AT}", []
+    except Undescribed as why:
+        return f"{told_in_full(run)[0]}; {why}", []
 
 
 def told_in_full(run: Run, entry: Optional[Entry] = None, order: str = "columns", game: str = "", hung: str = "") -> Tuple[str, List[str]]:

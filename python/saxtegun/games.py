@@ -1,6 +1,6 @@
-"""What a source says of how its levels look: objects with their colours, sprites and layers, and the glyphs of cells.
+"""How a game looks, of what the engine has read of its source: objects with their colours, sprites and layers, and the glyphs of cells.
 
-A source that is refused is read as far as it goes: nothing here fails, and what is missing is left out."""
+A source that is refused is shown as far as it goes: nothing here fails, and what is missing is left out."""
 from __future__ import annotations
 
 import re
@@ -9,8 +9,9 @@ from typing import Dict, FrozenSet, Iterable, List, NamedTuple, Optional, Sequen
 
 from saxtegun.budget import EXPLAINING
 from saxtegun.commands import cut, fold
+from saxtegun.descriptions import NOTHING, Definition, Description, Line, Paragraph, description_of, expected
 from saxtegun.levels import each_once
-from saxtegun.sources import SPACE, lines_of, trimmed, words_of
+from saxtegun.meanings import Meanings
 
 PALETTE = {
     "black": "#000000", "white": "#ffffff", "grey": "#9d9d9d", "darkgrey": "#697175", "lightgrey": "#cccccc", "gray": "#9d9d9d",
@@ -22,14 +23,15 @@ DEFAULT_PALETTE = ("arnecolors", "1")
 OTHER_COLOUR = "grey"
 CLEAR = "transparent"
 HEX = re.compile("#(?:[0-9a-f]{3}|[0-9a-f]{6})")
-PIXELS = re.compile("[0-9.]+")
 SIDE = 5
 # A pixel is a digit, so no further colour is drawn.
 MOST_COLOURS = 10
 # Words of the prelude that switch a key off.
 SWITCHES: Dict[str, Union[int, str]] = {"noaction": 4, "noundo": "undo", "norestart": "restart"}
-# So many names are gone through to find what all others stand for: far more than in a game that is played.
-MOST_NAMES = 500_000
+# What says how often a tick is.
+CLOCK = "realtime_interval"
+# The sections that a source is written with, in their order.
+NEEDED = ("objects", "legend", "collisionlayers", "rules", "winconditions", "levels")
 
 
 class Object(NamedTuple):
@@ -41,57 +43,59 @@ class Object(NamedTuple):
     layer: Optional[int]
 
 
-class Block(NamedTuple):
-    """A block of OBJECTS as it is written."""
-
-    names: List[str]
-    colours: List[str]
-    rows: List[str]
-
-
 # What a game is called that has no title.
 UNTITLED = "a game"
+
+
+def title_in(told: Description) -> str:
+    """The title that a source has last."""
+    return next((cut(it.value) for it in reversed(told.prelude) if it.keyword == "title"), UNTITLED)
+
+
+def written_lines(lines: Iterable[Line]) -> List[str]:
+    """The texts of lines, with the headings that a source of them needs."""
+    of: Dict[str, List[str]] = {}
+    for it in lines:
+        of.setdefault(it.section, []).append(it.text)
+    sections = [text for section in NEEDED for text in (section.upper(), *of.get(section, []))]
+    return [*of.get("prelude", []), *sections]
 
 
 class Game:
     """How a game looks. `notes` tells what is drawn otherwise than the game draws it."""
 
     def __init__(self, source: str) -> None:
-        lines = lines_of(source)
-        of = {section: [line.text for line in lines if line.section == section] for section in ("prelude", "objects", "legend", "collisionlayers")}
-        self.notes: List[str] = []
-        self.title = UNTITLED
+        told = description_of(source)
+        if told.fault is None or any(it.layer is not None for it in told.objects):
+            self.show(told, [])
+        else:
+            meanings = Meanings(told)
+            self.show(meanings.filled(), meanings.notes)
+
+    def show(self, told: Description, notes: Iterable[str]) -> None:
+        """Takes over what is told of a source."""
+        self.notes = [*notes]
+        self.title = title_in(told)
         self.ground = PALETTE["black"]
         # by an input the word that switches it off: the site takes no such key, so no recording has it
-        self.switches: Dict[Union[int, str], str] = {}
-        self.read_prelude(of["prelude"])
-        blocks = blocks_of(of["objects"])
-        self.first_names = {name: block.names[0] for block in reversed(blocks) for name in block.names}
-        self.definitions: Dict[str, Tuple[str, List[str]]] = dict(reversed([it for it in map(definition_of, EXPLAINING.each(of["legend"])) if it]))
-        self.names_left = MOST_NAMES
-        self.known_members: Dict[str, List[str]] = {}
-        self.ended_once: Set[str] = set()
-        self.known_meanings: Dict[str, str] = {}
-        self.known_drawn: Dict[str, FrozenSet[str]] = {}
-        self.drawing_names: Dict[str, bool] = {}
-        self.layers = self.layers_of(of["collisionlayers"])
-        self.objects = [Object(it.names[0], self.colours_of(it), self.sprite_of(it), self.layers.get(it.names[0])) for it in blocks]
+        self.switches = {SWITCHES[it.keyword]: it.keyword for it in told.prelude if it.keyword in SWITCHES}
+        self.read_colours(told)
+        self.objects = [Object(fold(it.names[0]), self.colours_of(it), self.sprite_of(it), it.layer) for it in told.objects]
         self.places = {it.name: place for place, it in enumerate(self.objects)}
-        self.glyphs = self.glyphs_of(of["objects"] + of["legend"])
+        self.layers = {it.name: it.layer for it in self.objects if it.layer is not None}
+        self.first_names = {fold(name): fold(it.names[0]) for it in reversed(told.objects) for name in it.names}
+        self.definitions: Dict[str, Definition] = {fold(it.left[0]): it for it in reversed(told.legend)}
+        self.known_drawn: Dict[Tuple[int, ...], FrozenSet[str]] = {}
+        self.glyphs = self.glyphs_of([word for it in told.objects for word in it.names] + [word for it in told.legend for word in (*it.left, *it.right)])
         grounds = {self.layers.get(name) for name in self.members("background")[:1]}
         self.grounds = {it.name for it in self.objects if it.layer is not None and it.layer in grounds}
 
-    def read_prelude(self, lines: Sequence[str]) -> None:
-        for line in lines:
-            keyword, value = (*SPACE.split(line, 1), "")[:2]
-            if fold(keyword) in SWITCHES:
-                self.switches[SWITCHES[fold(keyword)]] = fold(keyword)
-            elif fold(keyword) == "title":
-                self.title = cut(trimmed(value))
-            elif fold(keyword) == "background_color":
-                self.ground = self.colour_of(fold(trimmed(value))) or self.ground
-            elif fold(keyword) == "color_palette" and fold(trimmed(value)) not in DEFAULT_PALETTE:
-                self.notes.append(f"its palette {trimmed(value)} is drawn by the colours of arnecolors")
+    def read_colours(self, told: Description) -> None:
+        for it in told.prelude:
+            if it.keyword == "background_color":
+                self.ground = self.colour_of(fold(it.value)) or self.ground
+            elif it.keyword == "color_palette" and fold(it.value) not in DEFAULT_PALETTE:
+                self.notes.append(f"its palette {it.value} is drawn by the colours of arnecolors")
 
     def colour_of(self, word: str) -> Optional[str]:
         """The colour of a word by its numbers, or None where it is transparent."""
@@ -102,96 +106,48 @@ class Game:
             word = OTHER_COLOUR
         return PALETTE.get(word)
 
-    def colours_of(self, block: Block) -> List[Optional[str]]:
-        return [self.colour_of(word) for word in block.colours[:MOST_COLOURS]]
+    def colours_of(self, it: Paragraph) -> List[Optional[str]]:
+        return [self.colour_of(fold(word)) for word in it.colours[:MOST_COLOURS]]
 
-    def sprite_of(self, block: Block) -> str:
+    def sprite_of(self, it: Paragraph) -> str:
         """The pixels of an object, row by row, or none at all where it is a block of its first colour."""
-        pixels = "".join(block.rows)
-        if len(block.rows) != SIDE or len(pixels) != SIDE * SIDE:
+        pixels = "".join(it.sprite)
+        if len(it.sprite) != SIDE or len(pixels) != SIDE * SIDE:
             return ""
-        if any(pixel != "." and int(pixel) >= len(block.colours) for pixel in pixels):
-            self.notes.append(f"pixels of {block.names[0]} have a number beyond its colours, and are left out")
+        if any(pixel != "." and int(pixel) >= len(it.colours) for pixel in pixels):
+            self.notes.append(f"pixels of {fold(it.names[0])} have a number beyond its colours, and are left out")
         return pixels
 
-    def members(self, name: str) -> List[str]:
-        """The objects that a name stands for, in the order of first mention. A name that reaches itself is gone through once."""
-        name = self.meaning_of(name)
-        if name not in self.known_members:
-            EXPLAINING.look()
-            seen: Set[str] = set()
-            self.known_members[name] = self.members_beyond(name, seen, self.ended_once) if self.names_left > 0 else []
-            self.names_left -= len(seen)
-        return self.known_members[name]
+    def places_of(self, name: str) -> Tuple[int, ...]:
+        """The places of the objects that a name stands for, in the order of first mention."""
+        if name in self.first_names:
+            return (self.places[self.first_names[name]],)
+        return self.definitions[name].members if name in self.definitions else ()
 
-    def meaning_of(self, name: str) -> str:
-        """The name that a synonym stands for in the end, itself no synonym; one of those that stand for one another where there is none. What is
-        found out is kept for all synonyms on the way."""
-        way: Dict[str, bool] = {}
-        while name not in self.known_meanings and name not in way and name not in self.first_names and self.definitions.get(name, ("",))[0] == "same":
-            way[name] = True
-            name = self.definitions[name][1][0]
-        meaning = self.known_meanings.get(name, name)
-        self.known_meanings.update(dict.fromkeys(way, meaning))
-        return meaning
+    def members(self, name: str) -> List[str]:
+        """The objects that a name stands for, in the order of first mention."""
+        return [self.objects[it].name for it in self.places_of(name)]
+
+    def is_property(self, name: str) -> bool:
+        return name in self.definitions and self.definitions[name].kind == "property"
 
     def drawn_by(self, name: str) -> FrozenSet[str]:
-        """The objects that a letter draws, by its name: of one layer the last stands."""
-        meaning = self.meaning_of(name)
-        if meaning not in self.known_drawn:
-            self.known_drawn[meaning] = frozenset({self.layers.get(it): it for it in self.members(meaning)}.values())
-        return self.known_drawn[meaning]
-
-    def members_beyond(self, name: str, seen: Set[str], ended_once: Optional[Set[str]] = None) -> List[str]:
-        """The objects that a name stands for and that are not reached through names that are seen; those that are gone through are seen then. `ended_once`
-        are names that come to no name twice, and so not to themselves: of these what is known is taken, so that no chain of them is gone through for each."""
-        found: Dict[str, bool] = {}
-        left, is_once = [name], True
-        while left:
-            it = left.pop()
-            if it in seen:
-                is_once = is_once and it in self.first_names
-                continue
-            seen.add(it)
-            if it in self.first_names:
-                found[self.first_names[it]] = True
-            elif ended_once is not None and it in ended_once and self.names_left > 0:
-                found.update(dict.fromkeys(self.known_members[it], True))
-                self.names_left -= len(self.known_members[it])
-            elif it in self.definitions:
-                left += reversed(self.definitions[it][1])
-        if ended_once is not None and is_once:
-            ended_once.add(name)
-        return list(found)
+        """The objects that a letter draws, by its name: of one layer the last stands. Many letters may draw the same."""
+        members = self.places_of(name)
+        if members not in self.known_drawn:
+            self.known_drawn[members] = frozenset({self.layers.get(it): it for it in self.members(name)}.values())
+        return self.known_drawn[members]
 
     def draws(self, name: str) -> bool:
-        """Whether a name is one of an object or an aggregate, or a synonym of one. What is found out is kept for all synonyms on the way."""
-        way: Dict[str, bool] = {}
-        while name not in self.drawing_names and name in self.definitions and self.definitions[name][0] == "same" and name not in way:
-            way[name] = True
-            name = self.definitions[name][1][0]
-        does = self.drawing_names.get(name, name in self.first_names or (name in self.definitions and self.definitions[name][0] == "and"))
-        self.drawing_names.update(dict.fromkeys(way, does))
-        return does
+        """Whether a name is one of an object or an aggregate, or a synonym of one."""
+        return name in self.first_names or (name in self.definitions and self.definitions[name].kind in ("object", "aggregate"))
 
-    def layers_of(self, lines: Sequence[str]) -> Dict[str, int]:
-        """The layer of each object: the last that names it. So they are read from the last, and no name is gone through twice."""
-        layers: Dict[str, int] = {}
-        seen: Set[str] = set()
-        named = [it for it in (words_of(line.replace(",", " ")) for line in lines) if it]
-        for number in reversed(range(len(named))):
-            for member in (it for name in named[number] for it in self.members_beyond(fold(name), seen)):
-                layers.setdefault(member, number)
-        return layers
-
-    def glyphs_of(self, lines: Sequence[str]) -> Dict[FrozenSet[str], str]:
+    def glyphs_of(self, words: Sequence[str]) -> Dict[FrozenSet[str], str]:
         """For a set of objects the letter that draws it in LEVELS, as it was written first."""
         glyphs: Dict[FrozenSet[str], str] = {}
-        for letter in dict.fromkeys(word for line in EXPLAINING.each(lines) for word in words_of(line) if len(word) == 1):
-            if self.draws(fold(letter)) and self.names_left > 0:
+        for letter in EXPLAINING.each(dict.fromkeys(it for it in words if len(it) == 1)):
+            if self.draws(fold(letter)):
                 glyphs.setdefault(self.drawn_by(fold(letter)), letter)
-        if self.names_left <= 0:
-            self.notes.append(f"its legend goes through more than {MOST_NAMES} names, and is not looked at further")
         return glyphs
 
     def glyph_of(self, names: Iterable[str]) -> Optional[str]:
@@ -206,55 +162,24 @@ class Game:
         return ["".join(it for it in row if it is not None) for row in letters]
 
 
-def is_blank(line: str) -> bool:
-    return line == ""
-
-
-def blocks_of(lines: Sequence[str]) -> List[Block]:
-    """The objects of OBJECTS as they are written."""
-    blocks: List[Block] = []
-    at = 0
-    while at < len(lines):
-        EXPLAINING.look()
-        names = [fold(word) for word in words_of(lines[at])]
-        at += 1
-        if not names:
-            continue
-        colours: List[str] = []
-        rows: List[str] = []
-        if at < len(lines) and not is_blank(lines[at]):
-            colours = [fold(word) for word in words_of(lines[at])]
-            at += 1
-            while at < len(lines) and len(rows) < SIDE and PIXELS.fullmatch(lines[at]):
-                rows.append(lines[at])
-                at += 1
-        blocks.append(Block(names, colours, rows))
-    return blocks
-
-
-def definition_of(line: str) -> Optional[Tuple[str, Tuple[str, List[str]]]]:
-    """The name that a line of LEGEND defines, with how (`same`, `and`, `or`) and by which names; None where it defines none."""
-    at = line.find("=", 1)
-    left, right = words_of(line[:at]) if at > 0 else [], [fold(word) for word in words_of(line[at + 1 :])]
-    if len(left) != 1 or len(right) % 2 == 0:
-        return None
-    if len(right) == 1:
-        return fold(left[0]), ("same", right)
-    joint = right[1]
-    if joint not in ("and", "or") or any(it != joint for it in right[1::2]):
-        return None
-    return fold(left[0]), (joint, right[::2])
+def titles_of(sources: Iterable[str]) -> Set[str]:
+    """The titles of the games of sources."""
+    them = dict.fromkeys(sources)
+    with expected(them):
+        return {title_of(it) for it in them}
 
 
 @lru_cache(maxsize=64)
 def title_of(source: str) -> str:
-    """The title of a game, read without the rest of it."""
-    found = UNTITLED
-    for line in lines_of(source):
-        keyword, value = (*SPACE.split(line.text, 1), "")[:2]
-        if line.section == "prelude" and fold(keyword) == "title":
-            found = cut(trimmed(value))
-    return found
+    """The title of a game."""
+    return title_in(description_of(source))
+
+
+def unknown_game(why: str) -> Game:
+    """A game of which nothing is known, and why."""
+    game = Game.__new__(Game)
+    game.show(NOTHING, [why])
+    return game
 
 
 @lru_cache(maxsize=64)

@@ -5,16 +5,16 @@ from bisect import bisect_left, bisect_right
 from typing import AbstractSet, Dict, FrozenSet, List, NamedTuple, Optional, Sequence, Tuple
 
 from saxtegun.budget import EXPLAINING, NOT_LOOKED_AT, UsedUp
-from saxtegun.commands import Refused, fold
+from saxtegun.commands import Refused
 from saxtegun.culprits import Repeated, repeated_in
 from saxtegun.explanations import input_told, stop_of
-from saxtegun.games import game_of
+from saxtegun.descriptions import Line, description_of
+from saxtegun.games import game_of, written_lines
 from saxtegun.levels import Labels, each_once, in_rows, read_cells, width_of
 from saxtegun.lines import Run
 from saxtegun.playing import Engine, runs_within
 from saxtegun.processes import Unanswered
 from saxtegun.sessions import Entry, Input, Sessions
-from saxtegun.sources import lines_of, words_of
 
 HUNG = "loop-limit"
 # Of so many sessions it is found out by playing in what they hung.
@@ -22,6 +22,8 @@ MOST_HUNG = 20
 # The first of the letters that draw cells: none that anybody writes.
 FIRST_LETTER = 0xE000
 START_OPTION = "run_rules_on_level_start"
+# The sections that stay as they are where a session is played again with other rules and another level.
+BESIDE_RULES = ("prelude", "objects", "legend", "collisionlayers", "winconditions")
 
 
 class Player(NamedTuple):
@@ -64,14 +66,14 @@ class Thing(NamedTuple):
 
 def things_of(source: str) -> List[Thing]:
     """What is repeated in a step, in the order in which it is run: all that is early, and then all that is late."""
-    rules = {it.number: it.text for it in lines_of(source) if it.section == "rules" and it.text}
+    rules = {it.number: it for it in description_of(source).rules}
     numbers, repeated = list(rules), repeated_in(source)
 
     def thing(it: Repeated) -> Thing:
         return Thing(f"it is {it}", frozenset(numbers[bisect_left(numbers, it.first) : bisect_right(numbers, it.last)]))
 
     def is_late(it: Repeated) -> bool:
-        return "late" in words_of(fold(rules[it.first].partition("[")[0]))
+        return rules[it.first].is_late
 
     # a loop stands behind its groups, of which none is in two loops
     groups: Dict[int, List[Repeated]] = {}
@@ -96,16 +98,11 @@ def source_from(source: str, rows: Sequence[Sequence[Tuple[str, ...]]], kept: Ab
     """The source with one level, drawn by letters of its own, and of its rules those of these lines."""
     letters: Dict[Tuple[str, ...], str] = {}
     drawn = each_once(rows, lambda names: letters.setdefault(names, chr(FIRST_LETTER + len(letters))))
-    parts: Dict[str, List[str]] = {}
-    for line in EXPLAINING.each(lines_of(source)):
-        is_option = line.section == "prelude" and fold(line.text).startswith(START_OPTION)
-        if not is_option and (line.section != "rules" or line.number in kept):
-            parts.setdefault(line.section, []).append(line.text)
-    parts["legend"] = [*parts.get("legend", []), *(f"{letter} = {' and '.join(names)}" for names, letter in letters.items())]
-    parts["levels"] = ["".join(row) for row in drawn]
-    wanted = ("objects", "legend", "collisionlayers", "rules", "winconditions", "levels")
-    sections = [text for section in wanted for text in (section.upper(), *parts.get(section, []))]
-    return "\n".join([*parts.get("prelude", []), *sections]) + "\n"
+    told = description_of(source)
+    options = {it.number for it in told.prelude if it.keyword == START_OPTION}
+    kept_lines = [it for it in EXPLAINING.each(told.lines) if (it.section in BESIDE_RULES and it.number not in options) or it.number in kept]
+    legend = [Line(0, "legend", f"{letter} = {' and '.join(names)}") for names, letter in letters.items()]
+    return "\n".join(written_lines([*kept_lines, *legend, *(Line(0, "levels", "".join(row)) for row in drawn)])) + "\n"
 
 
 def rows_before(run: Run, source: str, order: str) -> Optional[List[List[Tuple[str, ...]]]]:

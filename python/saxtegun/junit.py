@@ -2,12 +2,14 @@
 from __future__ import annotations
 
 import re
-from typing import Dict, Iterable, Optional, Set, Tuple
+from typing import Dict, Iterable, Optional, Sequence, Set, Tuple
 from xml.etree import ElementTree
 
 from saxtegun.explanations import told
+from saxtegun.failures import Failure
 from saxtegun.lines import UNANSWERED, Run
 from saxtegun.sessions import Entry, Sessions
+from saxtegun.solvability import UNSOLVABLE
 
 # What XML 1.0 has no way to write.
 UNWRITTEN = re.compile("[^\t\n\r\x20-\ud7ff\ue000-\ufffd\U00010000-\U0010ffff]")
@@ -42,8 +44,8 @@ def case_of(run: Run, name: str, entry: Optional[Entry], order: str, refused: st
     return case, counted
 
 
-def junit_of(runs: Iterable[Run], name: str, sessions: Optional[Sessions], order: str, refused: str = "error", failures: Optional[Dict[int, str]] = None) -> str:
-    """The JUnit file of runs."""
+def junit_of(runs: Iterable[Run], name: str, sessions: Optional[Sessions], order: str, refused: str = "error", failures: Optional[Dict[int, str]] = None, levels: Sequence[Failure] = ()) -> str:
+    """The JUnit file of runs, and of levels that can't be won or of which it isn't known."""
     suite, counts = ElementTree.Element("testsuite"), {"failure": 0, "error": 0, "skipped": 0}
     names: Set[str] = set()
     for run in runs:
@@ -54,6 +56,11 @@ def junit_of(runs: Iterable[Run], name: str, sessions: Optional[Sessions], order
         suite.append(case)
         if counted:
             counts[counted] += 1
+    for it in levels:
+        counted = "failure" if it.close == UNSOLVABLE else "error"
+        case = ElementTree.SubElement(suite, "testcase", {"classname": "levels", "name": writable(it.name)})
+        ElementTree.SubElement(case, counted, {"message": writable(it.sentence), "type": it.close}).text = writable(it.sentence)
+        counts[counted] += 1
     numbers = {"tests": len(suite), "failures": counts["failure"], "errors": counts["error"], "skipped": counts["skipped"]}
     suite.attrib.update({"name": writable(name), **{key: str(value) for key, value in numbers.items()}})
     suites = ElementTree.Element("testsuites")

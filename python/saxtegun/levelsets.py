@@ -8,38 +8,20 @@ from typing import Dict, FrozenSet, List, NamedTuple, Optional, Sequence, Tuple
 
 from saxtegun.budget import EXPLAINING
 from saxtegun.commands import fold
+from saxtegun.descriptions import Drawn, description_of
 from saxtegun.games import game_of
 from saxtegun.levels import Labels, read_cells, width_of
 from saxtegun.lines import Run
 from saxtegun.sessions import Entry
-from saxtegun.sources import lines_of
 
 Cells = Tuple[FrozenSet[str], ...]
 # No program plays a level whose sides, or cells, are more.
 MOST_SIDE, MOST_CELLS = 255, 16_384
 
 
-class Drawn(NamedTuple):
-    """An entry of LEVELS: its rows, none where it is a message."""
-
-    rows: Tuple[str, ...]
-
-
-@lru_cache(maxsize=64)
-def entries_of_levels(source: str) -> Tuple[Drawn, ...]:
+def entries_of_levels(source: str) -> List[Drawn]:
     """The entries of LEVELS, messages included."""
-    found: List[Drawn] = []
-    rows: List[str] = []
-    for line in EXPLAINING.each([*(it.text for it in lines_of(source) if it.section == "levels"), ""]):
-        is_message = fold(line.split(" ", 1)[0]) == "message"
-        if rows and (not line or is_message):
-            found.append(Drawn(tuple(rows)))
-            rows = []
-        if is_message:
-            found.append(Drawn(()))
-        elif line:
-            rows.append(line)
-    return tuple(found)
+    return description_of(source).levels
 
 
 @lru_cache(maxsize=64)

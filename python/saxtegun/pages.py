@@ -11,9 +11,10 @@ from typing import Any, Callable, Dict, List, Optional, Sequence, Tuple, Union
 from saxtegun.budget import EXPLAINING, NOT_LOOKED_AT, UsedUp
 from saxtegun.commands import begin_of, plural
 from saxtegun.culprits import repeated_in
+from saxtegun.descriptions import Undescribed
 from saxtegun.divergence import Divergence, close_told, sentence_of
 from saxtegun.explanations import Ending, cause_told, culprit_told, ending_told, fault_in, stop_of, written_lines
-from saxtegun.games import Game, game_of
+from saxtegun.games import Game, game_of, unknown_game
 from saxtegun.hangs import HUNG, Found
 from saxtegun.levels import Follower, Labels, differing, width_of
 from saxtegun.levelsets import still_in
@@ -124,6 +125,8 @@ def told_of(entry: Entry, run: Run, ending: Optional[Ending], order: str, found:
             return told_in_full(entry, run, ending, order, found)
     except UsedUp:
         return f"{cause_told(run.cause or run.close)}; {NOT_LOOKED_AT}"
+    except Undescribed as why:
+        return f"{cause_told(run.cause or run.close)}; {why}"
 
 
 def told_in_full(entry: Entry, run: Run, ending: Optional[Ending], order: str, found: Optional[Found]) -> str:
@@ -144,7 +147,7 @@ def session_of(entry: Entry, run: Run, game: Optional[int], order: str, found: O
     ending = Ending(entry, run, labels) if run.close == "differs" and run.cause is None else None
     return {
         "told": told_of(entry, run, ending, order, found),
-        "source": source_lines(entry.source, run.cause or ""),
+        "source": [],
         "game": game,
         "inputs": entry.inputs,
         "sides": [*sides, *(recorded_side(entry, ending) if ending else [])],
@@ -180,6 +183,14 @@ def look_of(game: Game) -> Dict[str, Any]:
     return {"ground": game.ground, "objects": [[it.name, above if it.layer is None else it.layer, it.colours, it.sprite] for it in game.objects]}
 
 
+def look_known(source: str) -> Game:
+    """How a game looks; where the engine can't be asked for it, as nothing that is known, with a note that says why."""
+    try:
+        return game_of(source)
+    except Undescribed as why:
+        return unknown_game(str(why))
+
+
 class Report:
     """A report while it is made, session by session. `origin` says where it comes from, and `hung` finds out in what a session hung."""
 
@@ -188,17 +199,24 @@ class Report:
         self.rows: List[List[Any]] = []
         self.blocks: List[str] = []
         self.games: Dict[str, int] = {}
+        # the first session of each source and cause, whose block has the lines
+        self.lines: Dict[Tuple[str, str], int] = {}
         self.notes: Dict[str, None] = {}
         self.title, self.closes, self.result = "replay report", [*CLOSES, FAILED], ""
 
     def game(self, source: str) -> int:
         """The number of a source's game, whose look is in the page once."""
         if source not in self.games:
-            number, game = len(self.games), game_of(source)
+            number, game = len(self.games), look_known(source)
             self.games[source] = number
             self.blocks.append(block(f"game-{number}", look_of(game)))
             self.notes.update(dict.fromkeys(f"{game.title}: {note}." for note in game.notes))
         return self.games[source]
+
+    def lines_of(self, source: str, cause: str) -> Union[int, List[List[Any]]]:
+        """The lines that a cause is about, or the number of the session that has them: those of many sessions are in the page once."""
+        first = self.lines.setdefault((source, cause), len(self.rows))
+        return source_lines(source, cause) if first == len(self.rows) else first
 
     def put(self, name: str, close: str, frames: int, session: Dict[str, Any]) -> None:
         self.blocks.append(block(f"session-{len(self.rows)}", session))
@@ -211,6 +229,8 @@ class Report:
         # the page has a word and a colour for each close of the program's, and none for what the command has stopped itself
         close = "stopped" if run.close == UNANSWERED else run.close
         session = session_of(entry, run, game, self.order, self.hung(entry, run))
+        if run.cause:
+            session["source"] = self.lines_of(entry.source, run.cause)
         if failure is not None and run.close == "passed":
             close, session["told"] = FAILED, f"passed: {failure}"
         self.put(run.name, close, len(run.frames), session)

@@ -146,12 +146,12 @@ def begun(words: Sequence[str], **options: Any) -> "subprocess.Popen[bytes]":
 
 
 @contextmanager
-def started(words: Sequence[str], stdin: Any, output: Any, environment: Optional[Mapping[str, str]] = None) -> "Iterator[subprocess.Popen[bytes]]":
-    """A program in a group of its own, as long as this lasts."""
+def started(words: Sequence[str], stdin: Any, output: Any, environment: Optional[Mapping[str, str]] = None, folder: Optional[str] = None) -> "Iterator[subprocess.Popen[bytes]]":
+    """A program in a group of its own, as long as this lasts, and in a folder if one is named."""
     ran: "Optional[subprocess.Popen[bytes]]" = None
     try:
         with held():
-            ran = begun(words, stdin=stdin, stdout=output, stderr=subprocess.PIPE, env=environment_of(words) if environment is None else environment)
+            ran = begun(words, stdin=stdin, stdout=output, stderr=subprocess.PIPE, env=environment_of(words) if environment is None else environment, cwd=folder)
         assert ran is not None
         yield ran
     finally:
@@ -217,10 +217,10 @@ def check_library(said: str) -> None:
         raise Refused(f"the program needs a newer C library than this machine has ({missing[1]}): play in Node, as docs/engine.md tells")
 
 
-def watched(words: Sequence[str], output: Any, stdin: Any = None, seconds: Optional[float] = None) -> Ran:
+def watched(words: Sequence[str], output: Any, stdin: Any = None, seconds: Optional[float] = None, folder: Optional[str] = None) -> Ran:
     """Runs a program to its end, or so many seconds."""
     begin, written = monotonic(), written_to(output)
-    with started(words, stdin, output) as ran:
+    with started(words, stdin, output, folder=folder) as ran:
         assert ran.stderr is not None
         said = Said(ran.stderr)
         while ran.poll() is None:

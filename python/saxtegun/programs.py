@@ -22,14 +22,20 @@ MODULE, SUMS = "saxtegun.wasm", "SHA256SUMS"
 VERSION = TOP / "VERSION"
 # What tells the stages of an input: the program that is built here, that of a release, and the module in Node.
 STAGES = (TOP / "crates/pz_stager/out/pz_stager", TOP / "bin/pz_stager")
-REPLAY_IN_NODE, STAGES_IN_NODE = TOP / "engine/replay.mjs", TOP / "engine/stages.mjs"
+# What tells what the engine reads of a source, and what finds solutions: the programs beside the one that plays, and the module in Node.
+DESCRIBER, SOLVER = "pz_describer", "pz_solver"
+DESCRIBERS, SOLVERS = ((TOP / "crates" / it / "out" / it, TOP / "bin" / it) for it in (DESCRIBER, SOLVER))
+REPLAY_IN_NODE, STAGES_IN_NODE, DESCRIBE_IN_NODE = TOP / "engine/replay.mjs", TOP / "engine/stages.mjs", TOP / "engine/describe.mjs"
+SOLVE_IN_NODE = TOP / "engine/solve.mjs"
 OLDEST_NODE = 20
 HOW_TO_GET_ONE = (
     "install Node 20 or later (nodejs.org), name the program of a release by SAXTEGUN_PROGRAM, or prove and build it with the Rattle kit by ./replay"
 )
-# How the program is called that was chosen, once one was, and so what tells stages.
+# How the program is called that was chosen, once one was, and so what tells stages, what tells sources, and what solves.
 CHOSEN: List[List[str]] = []
 CHOSEN_FOR_STAGES: List[List[str]] = []
+CHOSEN_FOR_SOURCES: List[List[str]] = []
+CHOSEN_TO_SOLVE: List[List[str]] = []
 
 
 class Sums(NamedTuple):
@@ -125,7 +131,7 @@ def in_node() -> Player:
 
 def is_in_node(words: Sequence[str]) -> bool:
     """Whether our own functions play in Node where a program is called so."""
-    return list(words[1:2]) in ([str(REPLAY_IN_NODE)], [str(STAGES_IN_NODE)])
+    return list(words[1:2]) in tuple([str(it)] for it in (REPLAY_IN_NODE, STAGES_IN_NODE, DESCRIBE_IN_NODE, SOLVE_IN_NODE))
 
 
 def environment_of(words: Sequence[str]) -> Optional[Dict[str, str]]:
@@ -222,3 +228,41 @@ def stages_words(named: Optional[str] = None) -> List[str]:
     if not CHOSEN_FOR_STAGES:
         CHOSEN_FOR_STAGES.append(choose_for_stages())
     return CHOSEN_FOR_STAGES[0]
+
+
+def beside(name: str, known: Sequence[Path]) -> List[Path]:
+    """Where a program may lie that goes with the one that plays: where programs are built, in a release, and beside the one that SAXTEGUN_PROGRAM names."""
+    named = Path(os.path.abspath(os.environ.get("SAXTEGUN_PROGRAM") or BUILT))
+    if not named.is_file():
+        # nothing is run that lies beside what isn't there
+        return [*known]
+    is_built = named.parts[-3:] == BUILT.parts[-3:]
+    return [*known, named.with_name(name), *([named.parents[2] / name / "out" / name] if is_built else [])]
+
+
+def describers() -> List[Path]:
+    """Where the program may lie that tells sources."""
+    return beside(DESCRIBER, DESCRIBERS)
+
+
+def node_that_plays() -> str:
+    """Node where it plays already, or else where there is one that can."""
+    return next((it[0] for it in (*CHOSEN, *CHOSEN_FOR_STAGES) if is_in_node(it)), "") or in_node().words[0]
+
+
+def chosen_of(native: Sequence[Path], in_node_by: Path, chosen: List[List[str]]) -> List[str]:
+    """How what goes with the program that plays is called: the first of these that is there, or else in Node what does the same; it is chosen once in a process."""
+    if not chosen:
+        found = next((it for it in native if it.is_file() and os.access(it, os.X_OK)), None)
+        chosen.append([str(found)] if found else [node_that_plays(), str(in_node_by)])
+    return chosen[0]
+
+
+def describer_words() -> List[str]:
+    """How what tells sources is called. Refused where there is nothing that does."""
+    return chosen_of(describers(), DESCRIBE_IN_NODE, CHOSEN_FOR_SOURCES)
+
+
+def solver_words() -> List[str]:
+    """How what finds solutions is called. Refused where there is nothing that does."""
+    return chosen_of(beside(SOLVER, SOLVERS), SOLVE_IN_NODE, CHOSEN_TO_SOLVE)

@@ -2,15 +2,16 @@
 from __future__ import annotations
 
 import re
+from itertools import takewhile
 from typing import List, NamedTuple, Optional, Tuple
 
 from saxtegun.budget import EXPLAINING
 from saxtegun.commands import cut, fold
 from saxtegun.culprits import nearest, outside_told
+from saxtegun.descriptions import Words, description_of
+from saxtegun.games import CLOCK
 from saxtegun.levels import number_in
-from saxtegun.sources import CLOCK, Line, lines_of
 
-TOKEN = re.compile(r"->|[\[\]|]|(?:(?!->)[^\s\[\]|])+")
 LOOPS = ("startloop", "endloop")
 DIRECTIONS = ("up", "down", "left", "right", "horizontal", "vertical", "orthogonal")
 PREFIXES = ("late", *DIRECTIONS)
@@ -104,21 +105,19 @@ def check_side(text: str, tokens: List[Token], is_left: bool) -> None:
         raise Wrong("it has no row on its left")
 
 
-def check_place(line: Line, before: Optional[Line], first_of_group: Optional[Line]) -> None:
+def check_place(line: Words, above: Optional[Words], first_of_group: Optional[Words]) -> None:
     """Refuses a rule that joins no group, or makes a group late that isn't."""
-    if line.text.startswith("+"):
-        if before is None:
+    if line.joins:
+        if above is None:
             raise Wrong("`+` stands on the first rule, which has no group above it")
-        if fold(before.text) in LOOPS:
-            raise Wrong(f"`+` stands behind `{fold(before.text)}`, where a group begins")
-        is_late = first_of_group is not None and "late" in fold(first_of_group.text).partition("[")[0].split()
-        if "late" in fold(line.text[1:]).partition("[")[0].split() and not is_late:
-            raise Wrong(f"`late` stands on a rule of the group of line {first_of_group.number if first_of_group else before.number}, which isn't late")
+        if len(above.words) == 1 and above.words[0] in LOOPS:
+            raise Wrong(f"`+` stands behind `{above.words[0]}`, where a group begins")
+        if line.is_late and not (first_of_group is not None and first_of_group.is_late):
+            raise Wrong(f"`late` stands on a rule of the group of line {first_of_group.number if first_of_group else above.number}, which isn't late")
 
 
-def check_rule(text: str) -> None:
+def check_rule(text: str, tokens: List[Token]) -> None:
     """Refuses what has not the form of a rule."""
-    tokens = [Token(it[0], it.start()) for it in TOKEN.finditer(text)]
     words = [it.text for it in tokens]
     message = words.index("message") if "message" in words else len(words)
     loops = [it for it in words[:message] if it in LOOPS]
@@ -138,22 +137,26 @@ def check_rule(text: str) -> None:
     check_side(text, right, False)
 
 
+def tokens_of(line: Words) -> List[Token]:
+    """The words of a rule, but for the `+` before them, as far as they are looked at."""
+    tokens = [Token(word, at) for at, word in takewhile(lambda it: it[0] < MOST_LETTERS, zip(line.places(), line.words))]
+    return tokens[1:] if line.joins else tokens
+
+
 def rule_told(source: str, number: int) -> str:
     """What is wrong with a rule line, in words that go on behind those of its fault, or nothing."""
-    before: Optional[Line] = None
-    first: Optional[Line] = None
-    for line in EXPLAINING.each(lines_of(source)):
-        if line.section != "rules" or not line.text:
-            continue
+    above: Optional[Words] = None
+    first: Optional[Words] = None
+    for line in EXPLAINING.each(description_of(source).rules):
         if line.number == number:
             try:
-                check_place(line, before, first)
-                check_rule(fold(line.text[:MOST_LETTERS]).lstrip("+"))
+                check_place(line, above, first)
+                check_rule(fold(line.text[:MOST_LETTERS]), tokens_of(line))
             except Wrong as why:
                 return f": {why}"
-        if not line.text.startswith("+"):
+        if not line.joins:
             first = line
-        before = line
+        above = line
     return ""
 
 

@@ -6,11 +6,11 @@ from typing import Callable, Dict, Iterable, List, Optional, Sequence, Set, Tupl
 
 from saxtegun.commands import Refused, fold, say
 from saxtegun.files import read_any_text
-from saxtegun.games import game_of
+from saxtegun.descriptions import description_of
+from saxtegun.games import title_of
 from saxtegun.levelsets import first_level
 from saxtegun.recording_search import NAMELESS, Findings, Found, find
 from saxtegun.sessions import Entry, Sessions, sessions_in
-from saxtegun.sources import lines_of
 from saxtegun.texts import plain_text
 
 HOW = "in PuzzleScript's editor play, press Ctrl+J, and copy all that the console prints then"
@@ -25,12 +25,11 @@ def skipped_told(what: str) -> str:
 
 def nothing_told(text: str) -> str:
     """Why a text has no recording, and what to do."""
-    sections = {it.section for it in lines_of(text)}
     if not text.strip():
         return f"it is empty: {HOW}"
     if '"source"' in text and "{" in text:
         return f"{OBJECTS}: {HOW}"
-    if {"objects", "levels"} <= sections:
+    if {"objects", "levels"} <= set(description_of(text).lines.headings):
         return f"it is a game's text: {HOW}; or record by `saxtegun play GAME.txt --save NAME SESSIONS.json`"
     return f"it has no recording: {HOW}"
 
@@ -72,7 +71,7 @@ class Names:
 
 def own_name(name: str, entry: Entry) -> str:
     """The name of a recording: its own; or the title with the level, where it has none or the title, as the editor writes it."""
-    title = game_of(entry.source).title
+    title = title_of(entry.source)
     return f"{title}, level {first_level(entry)}" if name in NAMELESS or fold(name) == fold(title) else name
 
 

@@ -4,24 +4,19 @@ A stage says how many things of a kind there are, and makes the entry without so
 a game: it is played to see."""
 from __future__ import annotations
 
-from typing import Callable, Dict, Iterable, List, NamedTuple, Sequence, Set, Tuple
+from typing import Callable, Dict, Iterable, List, Sequence, Set, Tuple
 
 from saxtegun.commands import fold
-from saxtegun.games import PIXELS, game_of
+from saxtegun.descriptions import SECTIONS, Definition, Drawn, Line, Paragraph, Words, description_of
+from saxtegun.games import game_of
 from saxtegun.sessions import Entry
-from saxtegun.sources import HEADINGS, Line, lines_of, words_of
 
 Without = Callable[[Set[int]], Entry]
 Stage = Callable[[Entry], Tuple[int, Without]]
-JOINTS = ("and", "or")
 
 
 def of_inputs(entry: Entry) -> Tuple[int, Without]:
     return len(entry.inputs), lambda left: entry._replace(inputs=[it for place, it in enumerate(entry.inputs) if place not in left])
-
-
-def section_lines(source: str, section: str) -> List[Line]:
-    return [it for it in lines_of(source) if it.section == section]
 
 
 def without_lines(source: str, numbers: Set[int], changes: Dict[int, str]) -> str:
@@ -34,27 +29,27 @@ def of_lines(section: str) -> Stage:
     """The lines of a section, one by one. Where the first line of a group goes, the next one begins it."""
 
     def stage(entry: Entry) -> Tuple[int, Without]:
-        lines = section_lines(entry.source, section)
+        lines = description_of(entry.source).lines.of(section)
 
         def without(left: Set[int]) -> Entry:
             numbers = {lines[it].number for it in left}
-            return entry._replace(source=without_lines(entry.source, numbers, heads_of_groups(entry.source, lines, numbers)))
+            heads = heads_of_groups(entry.source, numbers) if section == "rules" else {}
+            return entry._replace(source=without_lines(entry.source, numbers, heads))
 
         return len(lines), without
 
     return stage
 
 
-def heads_of_groups(source: str, lines: Sequence[Line], gone: Set[int]) -> Dict[int, str]:
+def heads_of_groups(source: str, gone: Set[int]) -> Dict[int, str]:
     """The lines of RULES that begin a group now, since all before them in it are gone."""
     raw, heads = source.split("\n"), {}
     is_headless = False
-    for line in lines:
-        is_more = line.section == "rules" and line.text.startswith("+")
+    for line in description_of(source).rules:
         is_gone = line.number in gone
-        if is_more and is_headless and not is_gone:
+        if line.joins and is_headless and not is_gone:
             heads[line.number] = raw[line.number - 1].replace("+", " ", 1)
-        is_headless = is_gone and (not is_more or is_headless)
+        is_headless = is_gone and (not line.joins or is_headless)
     return heads
 
 
@@ -62,134 +57,90 @@ def of_loops(entry: Entry) -> Tuple[int, Without]:
     """The loops: their two words go, and their rules stay."""
     pairs: List[Tuple[int, int]] = []
     begin = 0
-    for line in section_lines(entry.source, "rules"):
-        if fold(line.text) == "startloop":
+    for line in description_of(entry.source).rules:
+        if line.words == ["startloop"]:
             begin = line.number
-        elif fold(line.text) == "endloop" and begin:
+        elif line.words == ["endloop"] and begin:
             pairs.append((begin, line.number))
     return len(pairs), lambda left: entry._replace(source=without_lines(entry.source, {number for it in left for number in pairs[it]}, {}))
 
 
-class Block(NamedTuple):
-    """An entry of LEVELS by its lines."""
-
-    lines: List[Line]
-    is_message: bool
-
-
-def blocks_of_levels(source: str) -> List[Block]:
-    blocks: List[Block] = []
-    rows: List[Line] = []
-    for line in [*section_lines(source, "levels"), Line(0, "levels", "")]:
-        is_message = fold(line.text.split(" ", 1)[0]) == "message"
-        if rows and (not line.text or is_message):
-            blocks.append(Block(rows, False))
-            rows = []
-        if is_message:
-            blocks.append(Block([line], True))
-        elif line.text:
-            rows.append(line)
-    return blocks
-
-
 def of_levels(entry: Entry) -> Tuple[int, Without]:
     """The levels and messages; the entry begins where it began."""
-    blocks = blocks_of_levels(entry.source)
+    levels = description_of(entry.source).levels
 
     def without(left: Set[int]) -> Entry:
-        numbers = {line.number for it in left for line in blocks[it].lines}
+        numbers = {number for it in left for number in levels[it].numbers}
         index = entry.index - sum(1 for it in left if it < entry.index)
         return entry._replace(source=without_lines(entry.source, numbers, {}), index=max(0, index))
 
-    return len(blocks), without
+    return len(levels), without
 
 
 def of_columns(entry: Entry) -> Tuple[int, Without]:
     """The columns of each level."""
-    blocks = [it for it in blocks_of_levels(entry.source) if not it.is_message]
-    columns = [(number, column) for number, it in enumerate(blocks) for column in range(len(it.lines[0].text))]
+    levels = [it for it in description_of(entry.source).levels if it.rows]
+    columns = [(number, column) for number, it in enumerate(levels) for column in range(len(it.rows[0]))]
 
     def without(left: Set[int]) -> Entry:
-        changes: Dict[int, str] = {}
         gone: Dict[int, Set[int]] = {}
         for number, column in (columns[place] for place in left):
             gone.setdefault(number, set()).add(column)
+        changes: Dict[int, str] = {}
         for number, them in gone.items():
-            changes.update({row.number: "".join(letter for at, letter in enumerate(row.text) if at not in them) for row in blocks[number].lines})
+            changes.update(changed_rows(levels[number], lambda row: "".join(letter for at, letter in enumerate(row) if at not in them)))
         return entry._replace(source=without_lines(entry.source, set(), changes))
 
     return len(columns), without
 
 
-class Thing(NamedTuple):
-    """An object as it is written: its names, the lines that it takes, and those of them that are its sprite."""
-
-    names: List[str]
-    numbers: List[int]
-    sprite: List[int]
-
-
-def things_of(source: str) -> List[Thing]:
-    lines = section_lines(source, "objects")
-    things: List[Thing] = []
-    at = 0
-    while at < len(lines):
-        names = [fold(it) for it in words_of(lines[at].text)]
-        behind = at + 1
-        if names and behind < len(lines) and lines[behind].text:
-            behind += 1
-            first = behind
-            while behind < len(lines) and behind - first < 5 and PIXELS.fullmatch(lines[behind].text):
-                behind += 1
-            numbers = [it.number for it in lines[at:behind]]
-            things.append(Thing(names, numbers, numbers[2:]))
-        at = behind
-    return things
+def changed_rows(level: Drawn, change: Callable[[str], str]) -> Dict[int, str]:
+    """The rows of a level that a change makes other ones."""
+    rows = {number: (row, change(row)) for number, row in zip(level.numbers, level.rows)}
+    return {number: other for number, (row, other) in rows.items() if other != row}
 
 
 def of_sprites(entry: Entry) -> Tuple[int, Without]:
-    sprites = [it.sprite for it in things_of(entry.source) if it.sprite]
+    sprites = [it.numbers[2:] for it in description_of(entry.source).objects if it.sprite]
     return len(sprites), lambda left: entry._replace(source=without_lines(entry.source, {number for it in left for number in sprites[it]}, {}))
 
 
-def left_of_definition(text: str, gone: Set[str]) -> str:
-    """A line of LEGEND without names that are gone; the empty text where it defines nothing then."""
-    at = text.find("=", 1)
-    names, joints = words_of(text[at + 1 :])[::2], words_of(text[at + 1 :])[1::2]
-    left = [it for it in names if fold(it) not in gone]
-    joint = f" {joints[0]} " if joints else " "
-    return f"{text[: at + 1]} {joint.join(left)}" if left else ""
+def left_of_definition(it: Definition, gone: Set[str]) -> str:
+    """A definition without names that are gone; the empty text where it defines nothing then."""
+    left = [name for name in it.right[::2] if fold(name) not in gone]
+    return f"{it.left[0]} = {f' {it.right[1]} '.join(left) if len(it.right) > 1 else left[0]}" if left else ""
+
+
+def left_of_layer(it: Words, gone: Set[str]) -> str:
+    """A layer without names that are gone."""
+    return ", ".join(name for name in it.as_written() if fold(name) not in gone)
+
+
+def without_objects(source: str, things: Sequence[Paragraph]) -> str:
+    """A source without objects, and without what the legend, the layers and the levels have of them. A letter of a level that drew one draws the background."""
+    told, ground = description_of(source), game_of(source).glyph_of(["background"])
+    gone = {fold(name) for it in things for name in it.names}
+    changes: Dict[int, str] = {}
+    for definition in told.legend:
+        if not gone.isdisjoint(map(fold, definition.right)):
+            changes[definition.number] = left_of_definition(definition, gone)
+            gone |= set() if changes[definition.number] else {fold(definition.left[0])}
+    changes.update({it.number: left_of_layer(it, gone) for it in told.layers if not gone.isdisjoint(it.words)})
+    for level in told.levels:
+        changes.update(changed_rows(level, lambda row: "".join(ground or "" if fold(it) in gone else it for it in row)))
+    numbers = {number for it in things for number in it.numbers}
+    return without_lines(source, numbers | {number for number, text in changes.items() if not text}, changes)
 
 
 def of_objects(entry: Entry) -> Tuple[int, Without]:
-    """The objects, with what the legend, the layers and the levels have of them. A letter of a level that drew one draws the background."""
-    things = things_of(entry.source)
-    ground = game_of(entry.source).glyph_of(["background"])
-
-    def without(left: Set[int]) -> Entry:
-        gone = {name for it in left for name in things[it].names}
-        numbers = {number for it in left for number in things[it].numbers}
-        changes: Dict[int, str] = {}
-        for line in lines_of(entry.source):
-            changed = line.text
-            if line.section == "legend" and "=" in line.text:
-                changed = left_of_definition(line.text, gone)
-                if not changed:
-                    gone.add(fold(words_of(line.text)[0]))
-            elif line.section == "collisionlayers":
-                changed = ", ".join(it for it in words_of(line.text.replace(",", " ")) if fold(it) not in gone)
-            elif line.section == "levels" and fold(line.text.split(" ", 1)[0]) != "message":
-                changed = "".join(ground or "" if fold(it) in gone else it for it in line.text)
-            if changed != line.text and line.number not in numbers:
-                changes[line.number] = changed
-        return entry._replace(source=without_lines(entry.source, numbers | {it for it, text in changes.items() if not text}, changes))
-
-    return len(things), without
+    """The objects, with all that a source has of them."""
+    things = [it for it in description_of(entry.source).objects if it.colours]
+    return len(things), lambda left: entry._replace(source=without_objects(entry.source, [things[it] for it in left]))
 
 
 def of_comments(entry: Entry) -> Tuple[int, Without]:
     """All comments and lines that are nothing, as one thing."""
-    lines = lines_of(entry.source)
+    lines = description_of(entry.source).lines
 
     def without(left: Set[int]) -> Entry:
         return entry._replace(source=written_lines(lines)) if left else entry
@@ -199,11 +150,11 @@ def of_comments(entry: Entry) -> Tuple[int, Without]:
 
 def written_lines(lines: Iterable[Line]) -> str:
     """A source of lines, with the headings that they need."""
-    of: Dict[str, List[str]] = {section: [] for section in ("prelude", *HEADINGS)}
+    of: Dict[str, List[str]] = {section: [] for section in SECTIONS}
     for line in lines:
         of[line.section].append(line.text)
     parts = [*of["prelude"]]
-    for section in HEADINGS:
+    for section in SECTIONS[1:]:
         if of[section] or section not in ("sounds", "rules", "winconditions"):
             parts += [section.upper(), *of[section]]
     return "\n".join(parts) + "\n"

@@ -202,7 +202,7 @@ def entry_of(path: str, text: str, number: int, value: Any, begin: int, end: int
     # what stands behind them is read no second time
     of_name, of_body = islice(items_in(text, begin), 2)
     parts = list(islice(items_in(text, of_body[1]), 4))
-    spans = {"name": of_name[1:], "source": parts[0][1:], "level": parts[2][1:], "entry": (begin, end)}
+    spans = {"name": of_name[1:], "source": parts[0][1:], "inputs": parts[1][1:], "level": parts[2][1:], "entry": (begin, end)}
     spans["index"] = parts[3][1:] if len(parts) > 3 else (parts[2][2], parts[2][2])
     index = body[3] if len(body) > 3 and body[3] is not None else 0
     return Entry(number, name, body[0], body[1], body[2], index, spans, DEMAND in value[2:])
@@ -236,8 +236,8 @@ def read_sessions(path: str) -> Sessions:
         raise Refused(f"{path} has more than {MOST_BYTES // 2**20} MiB: play it in parts, by saxtegun split") from None
 
 
-def changed(sessions: Sessions, changes: Mapping[int, Tuple[str, Union[str, int]]]) -> str:
-    """The text of a sessions file with other sources, levels or indices: `changes` maps a session's number to the part that is changed and what it is then.
+def changed(sessions: Sessions, changes: Mapping[int, Tuple[str, Union[str, int, List[Input]]]]) -> str:
+    """The text of a sessions file with other sources, inputs, levels or indices: `changes` maps a session's number to the part that is changed and what it is then.
     All else stays letter by letter."""
     pieces, at = [], 0
     for number in sorted(changes):

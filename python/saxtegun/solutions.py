@@ -3,6 +3,7 @@ from __future__ import annotations
 
 from typing import Dict, List, Optional, Sequence
 
+from saxtegun.descriptions import expected
 from saxtegun.levelsets import first_level, wins_of
 from saxtegun.lines import Run
 from saxtegun.playing import Engine, runs_of, runs_played
@@ -53,4 +54,5 @@ def solved_of(entries: Sequence[Entry], runs: Sequence[Run], of: Sessions, engin
     places = [it for it, run in enumerate(runs) if run.close in ("passed", "differs") and len(entries[it].inputs) < MOST_INPUTS]
     longer = with_one_more([entries[it] for it in places])
     shown = runs_of(longer, of, engine) if longer else []
-    return {place: solved_told(entries[place], run) for place, run in zip(places, shown)}
+    with expected(entries[place].source for place, run in zip(places, shown) if wins_of(run)):
+        return {place: solved_told(entries[place], run) for place, run in zip(places, shown)}

@@ -9,18 +9,17 @@ from time import monotonic
 from typing import Dict, Iterator, List, NamedTuple, Optional, Sequence, Set, Tuple
 
 from saxtegun.budget import EXPLAINING, SECONDS
-from saxtegun.commands import fold, plural
+from saxtegun.commands import plural
+from saxtegun.descriptions import description_of
 from saxtegun.divergence import Divergence, below_of, divergence_of, is_same_level, sentence_of
 from saxtegun.explanations import CELLS_TOLD, cause_told
 from saxtegun.lines import Frame, Run
 from saxtegun.playing import Engine
 from saxtegun.processes import Unanswered
 from saxtegun.sessions import Entry
-from saxtegun.sources import lines_of, words_of
 from saxtegun.stage_descriptions import Text, drawn, heading_told, rule_lines, stage_told, where_told
 from saxtegun.stages import NAMES, Stage, Stop, Told, stages_of
 
-MARKS = re.compile(r"[\[\]|]|->")
 # So many rule lines that differ are matched with one another by their places, of each text.
 MOST_MATCHED = 300
 # Of those that then belong to none so many are compared with one another, by so many of their letters.
@@ -46,7 +45,7 @@ Sides = Tuple[Side, Side]
 @lru_cache(maxsize=2)
 def rules_of(source: str) -> Dict[int, str]:
     """The lines of the rules of a source by their numbers, however they are spaced, without comments."""
-    return {it.number: " ".join(words_of(MARKS.sub(r" \g<0> ", fold(it.text)))) for it in lines_of(source) if it.section == "rules" and it.text}
+    return {it.number: " ".join(it.words) for it in description_of(source).rules}
 
 
 Pairs = List[Tuple[int, int]]

@@ -6,11 +6,13 @@ from shlex import quote
 from typing import Iterable, List, NamedTuple, Optional, Sequence, Tuple
 
 from saxtegun.commands import Refused, cut, plural, say
+from saxtegun.descriptions import Undescribed
 from saxtegun.files import MARK, read_text
-from saxtegun.games import UNTITLED, title_of
+from saxtegun.games import UNTITLED, titles_of
 from saxtegun.sessions import Entry, Sessions
-from saxtegun.sources import WHITE
 
+# What Unicode calls white space; Python's own idea of it has four letters more.
+WHITE = "\t\n\x0b\x0c\r \x85\xa0\u1680\u2000\u2001\u2002\u2003\u2004\u2005\u2006\u2007\u2008\u2009\u200a\u2028\u2029\u202f\u205f\u3000"
 # So many names are told.
 NAMES_TOLD = 3
 # So many bytes a source has at most; a longer one is refused, whatever stands at its end.
@@ -77,7 +79,10 @@ def names_told(entries: Sequence[Entry]) -> str:
 
 def remedy(path: str, others: Sequence[Entry], game: GameText) -> str:
     """What makes sessions follow the text at hand that have one of their own. None is proposed that would take another game's text away."""
-    title, titles = title_of(game.source), {title_of(it.source) for it in others}
+    try:
+        titles, (title,) = titles_of(it.source for it in others), titles_of([game.source])
+    except Undescribed as why:
+        return f"whether {'it is' if len(others) == 1 else 'they are'} of another game isn't known: {why}"
     call = f"`saxtegun source {quote(game.path)} {quote(path)} --follow --in-place"
     if titles == {title} != {UNTITLED}:
         return f"{call}` makes {'it' if len(others) == 1 else 'them'} follow {game.path}"

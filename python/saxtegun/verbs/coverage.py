@@ -22,14 +22,14 @@ from typing import Dict, Iterable, Iterator, List, NamedTuple, Optional, Set, Tu
 from saxtegun.commands import Refused, add_playing, add_ticks, cut, plural, printable, seconds_in
 from saxtegun.explanations import source_told
 from saxtegun.files import guard_output
-from saxtegun.games import game_of
+from saxtegun.descriptions import Line
+from saxtegun.games import title_of
 from saxtegun.levelsets import wins_of
 from saxtegun.lines import UNANSWERED, Run
 from saxtegun.omissions import Omissions
 from saxtegun.playing import Late, engine_of, runs_played
 from saxtegun.sessions import Entry, Sessions, read_sessions
 from saxtegun.solutions import MOST_INPUTS, ONE_MORE
-from saxtegun.sources import Line
 from saxtegun.texts import GameText, over, read_game, say_others
 
 USAGE = "coverage [GAME.txt] SESSIONS.json [--within SECONDS] [--order rows|columns] [--workers N]"
@@ -161,7 +161,7 @@ class Coverage:
         """Where a line stands."""
         if self.text is not None and trial.source == self.text.source:
             return f"{self.text.path}:{trial.part.number}"
-        return f"{game_of(trial.source).title}, line {trial.part.number}"
+        return f"{title_of(trial.source)}, line {trial.part.number}"
 
     def judge(self, trial: Trial, found: List[Tuple[Signature, Signature]]) -> None:
         if all(close[0] == "refused" for close, _ in found):

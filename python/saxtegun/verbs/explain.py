@@ -20,6 +20,7 @@ from argparse import ArgumentParser, Namespace
 from typing import Dict, List, NamedTuple, Tuple
 
 from saxtegun.commands import add_game, add_playing, add_ticks, plural, printable
+from saxtegun.descriptions import expect
 from saxtegun.explanations import heading, summary, told
 from saxtegun.files import guard_output
 from saxtegun.lines import UNANSWERED, Run
@@ -59,6 +60,7 @@ def main(given: Namespace) -> int:
     game = read_game(given.game)
     sessions = over(read_sessions(given.sessions), game)
     say_others("explain", sessions, game)
+    expect(it.source for it in sessions.entries)
     engine = engine_of(given)
     closes: List[str] = []
     count = 0

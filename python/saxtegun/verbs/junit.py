@@ -15,6 +15,7 @@ from itertools import chain
 from pathlib import Path
 
 from saxtegun.commands import Refused, add_game, add_playing, add_ticks
+from saxtegun.descriptions import expect
 from saxtegun.files import guard_output
 from saxtegun.junit import junit_of
 from saxtegun.mismatches import Tests, read_runs
@@ -42,6 +43,7 @@ def main(given: Namespace) -> int:
     sessions = over(read_sessions(given.files[0]), game) if len(given.files) == 2 else None
     if sessions:
         say_others("junit", sessions, game)
+        expect(it.source for it in sessions.entries)
     runs = read_runs(given.files[-1], sessions, Tests(order=given.order))
     first = next(runs, None)
     if first is None:

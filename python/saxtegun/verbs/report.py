@@ -17,6 +17,7 @@ from argparse import ArgumentParser, Namespace
 from pathlib import Path
 
 from saxtegun.commands import add_game, add_playing, add_ticks
+from saxtegun.descriptions import expect
 from saxtegun.files import guard_output
 from saxtegun.hangs import Finder
 from saxtegun.lines import UNANSWERED
@@ -45,6 +46,7 @@ def main(given: Namespace) -> int:
     sessions = over(read_sessions(given.sessions), game)
     say_others("report", sessions, game)
     engine = engine_of(given)
+    expect(it.source for it in sessions.entries)
     unsolved = unsolved_among(sessions, engine)
     with lines_or_played(sessions, given.lines, engine) as runs:
         played = f"Lines: {Path(given.lines).name}" if given.lines else program_told(engine.words())

@@ -18,7 +18,7 @@ from typing import Sequence
 
 from saxtegun.commands import Refused, plural, say
 from saxtegun.files import guard_output, guard_places, write_again
-from saxtegun.games import UNTITLED, title_of
+from saxtegun.games import UNTITLED, title_of, titles_of
 from saxtegun.sessions import Entry, changed, chosen, guard_size, read_sessions
 from saxtegun.texts import read_named
 
@@ -38,7 +38,7 @@ def add_words(words: ArgumentParser) -> None:
 
 def check_titles(entries: Sequence[Entry], text: str, given: Namespace) -> None:
     """Refuses where a text would be taken away that may be another game's: titles alone tell which game it is of."""
-    titles = {title_of(it.source) for it in entries if it.source}
+    titles = titles_of(it.source for it in entries if it.source)
     if UNTITLED in titles:
         raise Refused(f"a text that would go has no title, so nothing tells that it is of {given.game}: name the sessions of that with --only, or say --all")
     games = titles | {title_of(text)}

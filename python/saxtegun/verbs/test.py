@@ -12,7 +12,9 @@ and what makes them follow game.txt.
 `passed` says that the last level is as recorded, not that it was won. So each
 session also says whether it is solved (all levels), solved up to a level, or
 not. A session that --solved names must be solved, and so must an entry with a
-further element, [name, [..], "solved"]; otherwise it fails. If game.txt lies in
+further element, [name, [..], "solved"]; otherwise it fails. With --solvable a
+level of game.txt fails too that no presses win; where it isn't known within
+--levels and --within there is no whole answer. If game.txt lies in
 a git folder, a session that broke since the last commit says at which input its
 frames first part from those of the committed text, and by which rule. With
 --watch all is played again at each save of a file that was read, until you stop
@@ -30,7 +32,8 @@ from pathlib import Path
 from typing import Dict, List, NamedTuple, Optional, Tuple
 
 from saxtegun.budget import EXPLAINING, SECONDS
-from saxtegun.commands import Refused, add_playing, add_ticks, cut, fail, plural, printable, say
+from saxtegun.commands import Refused, add_playing, cut, fail, plural, printable, say
+from saxtegun.descriptions import expect
 from saxtegun.explanations import fault_in, summary, told
 from saxtegun.failures import Failure, annotation, markdown, once
 from saxtegun.file_watch import times_of, wait_for_save
@@ -45,6 +48,8 @@ from saxtegun.playing import engine_of, runs_of
 from saxtegun.regressions import divergences
 from saxtegun.sessions import Entry, Sessions, fits, read_sessions, unfitting
 from saxtegun.solutions import SOLVED, no_longer, solved_of, unsolved_told
+from saxtegun.solvability import UNKNOWN, UNSOLVABLE, levels_not_won
+from saxtegun.solving import add_bounds, bounds_of
 from saxtegun.texts import GameText, of_another_text, over, read_game, remark, split_files
 from saxtegun.ticks import forget, ticks_told
 
@@ -55,6 +60,7 @@ def add_words(words: ArgumentParser) -> None:
     words.add_argument("files", metavar="FILE", nargs="+", help="a game's text (a first file that doesn't end with .json), and sessions files")
     words.add_argument("--filter", metavar="PATTERN", action="append", help="play sessions whose names fit ('level 2*'); may be repeated")
     words.add_argument("--solved", metavar="PATTERN", action="append", default=[], help="sessions whose names fit must be solved; may be repeated")
+    words.add_argument("--solvable", action="store_true", help="each level of GAME.txt must be one that some presses win")
     words.add_argument("--quiet", action="store_true", help="show only counts and failures")
     words.add_argument("--max-fail", metavar="N", type=int, help="show N failures, and count the others")
     words.add_argument("--watch", action="store_true", help="play again at each save of a file")
@@ -64,7 +70,7 @@ def add_words(words: ArgumentParser) -> None:
     words.add_argument("--markdown", metavar="F", help="write a summary in Markdown")
     words.add_argument("--github", action="store_true", help="write annotations for GitHub")
     add_playing(words)
-    add_ticks(words)
+    add_bounds(words)
 
 
 class Suite(NamedTuple):
@@ -200,6 +206,9 @@ def tell(suite: Suite, failures: List[Failure], unsolved: Dict[int, str], given:
     counts = summary(it.close for it in suite.runs) + unsolved_told(len(unsolved))
     counts += f", {len(suite.elsewhere)} only over its own text" if suite.elsewhere else ""
     counts += f"; {', '.join(f'{ends[it]} {it}' for it in ('solved', 'solved in part', 'not solved'))}"
+    for close, told_so in ((UNSOLVABLE, "can't be won"), (UNKNOWN, "not known")):
+        count = sum(it.close == close for it in failures)
+        counts += f"; {plural(count, 'level')} {told_so}" if count else ""
     counts += ticks_told()
     for line in suite.remarks:
         show(line)
@@ -211,9 +220,9 @@ def tell(suite: Suite, failures: List[Failure], unsolved: Dict[int, str], given:
     return counts
 
 
-def write_files(suite: Suite, failures: List[Failure], though_passed: Dict[int, str], counts: str, given: Namespace, hung: Finder) -> None:
+def write_files(suite: Suite, failures: List[Failure], though_passed: Dict[int, str], counts: str, given: Namespace, hung: Finder, levels: List[Failure]) -> None:
     if given.junit:
-        write_whole(given.junit, junit_of(suite.runs, suite.sessions.path, suite.sessions, given.order, "error", though_passed))
+        write_whole(given.junit, junit_of(suite.runs, suite.sessions.path, suite.sessions, given.order, "error", though_passed, levels))
     if given.report:
         report = Report(suite.sessions, given.order, origin_of(suite.sessions, given, program_told(engine_of(given).words())), hung)
         for run in suite.runs:
@@ -225,12 +234,15 @@ def write_files(suite: Suite, failures: List[Failure], though_passed: Dict[int, 
 
 def test(given: Namespace) -> int:
     suite = played(given)
+    expect(it.source for it in suite.sessions.entries if given.report or suite.runs[it.number].close != "passed")
     unsolved = unsolved_in(suite, given.solved)
     hung = Finder(suite.sessions, engine_of(given))
     though_passed = {**unsolved, **suite.elsewhere}
     failures = once(failures_of(suite, though_passed, given, hung))
-    write_files(suite, failures, though_passed, tell(suite, failures, unsolved, given), given, hung)
-    return 2 if suite.unanswered or any(it.close == UNANSWERED for it in suite.runs) else 1 if failures else 0
+    levels = levels_not_won(suite.game, bounds_of(given)) if given.solvable and suite.game else []
+    failures += levels
+    write_files(suite, failures, though_passed, tell(suite, failures, unsolved, given), given, hung, levels)
+    return 2 if any(it.close == UNKNOWN for it in levels) or suite.unanswered or any(it.close == UNANSWERED for it in suite.runs) else 1 if failures else 0
 
 
 def watch(given: Namespace) -> int:
@@ -259,6 +271,8 @@ def watch(given: Namespace) -> int:
 def main(given: Namespace) -> int:
     if given.max_fail is not None and given.max_fail < 0:
         raise Refused("--max-fail can't be negative")
+    if given.solvable and not split_files(given.files)[0]:
+        raise Refused("--solvable asks for the levels of a game: name its text first")
     if "-" in given.files and (given.watch or given.files.count("-") > 1):
         raise Refused("standard input can be read only once: name it once, and without --watch")
     guard_files((given.junit, given.report, given.markdown), [*given.files, given.program])

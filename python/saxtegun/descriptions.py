@@ -1,0 +1,426 @@
+"""What the engine has read of a source: its lines without comments, its sections by their words, or its first fault. A source that is refused is told as far
+as it goes. Nothing in this package cuts a source into words by itself."""
+from __future__ import annotations
+
+import json
+import os
+import subprocess
+import tempfile
+from array import array
+from bisect import bisect_left
+from contextlib import contextmanager
+from itertools import islice
+from pathlib import Path
+from typing import IO, Any, Callable, Dict, Iterable, Iterator, List, NamedTuple, Optional, Sequence, Tuple
+
+from saxtegun.budget import EXPLAINING
+from saxtegun.commands import Refused, cut, fold
+from saxtegun.processes import Unanswered, room_for_now, watched
+from saxtegun.programs import describer_words
+
+SECTIONS = ("prelude", "objects", "legend", "sounds", "collisionlayers", "rules", "winconditions", "levels")
+# So many seconds the engine has for sources outside of explaining, and so many bytes it may tell at once: far more than of any source.
+SECONDS = 60.0
+MOST_TOLD = 2**28
+# So many letters of sources are kept with what was told of them, beside the last one.
+MOST_KEPT = 2**20
+# So many sources, and letters of them, are asked for at once.
+MOST_AT_ONCE, MOST_LETTERS_AT_ONCE = 1000, 2**20
+CANT_ASK = "the engine can't be asked what it reads of a source: "
+NONE_TOLD = "what it wrote is no description"
+JSON = json.JSONDecoder()
+
+
+class Undescribed(Refused):
+    """The engine could not be asked what it reads of a source."""
+
+    def __init__(self, why: object) -> None:
+        super().__init__(f"{CANT_ASK}{why}")
+
+
+class Fault(NamedTuple):
+    """The first fault of a source, and its line, or 0."""
+
+    code: str
+    line: int
+
+
+class Line(NamedTuple):
+    """A line of a source without its comments, which is no heading and is not left out."""
+
+    number: int
+    section: str
+    text: str
+
+
+class Lines:
+    """The lines of a source that are not left out. A source may have a million of them, so each is made where it is asked for."""
+
+    def __init__(self) -> None:
+        self.numbers = array("I")
+        self.texts: List[str] = []
+        # the number of each one's section; a heading has that of none
+        self.sections = bytearray()
+        self.headings: List[str] = []
+
+    def add(self, number: int, section: str, is_heading: bool, text: str) -> None:
+        self.numbers.append(number)
+        self.texts.append(text)
+        self.sections.append(len(SECTIONS) if is_heading else SECTIONS.index(section))
+        if is_heading:
+            self.headings.append(section)
+
+    def with_headings(self) -> Iterator[Tuple[int, str]]:
+        """The number and the text of each, of headings too."""
+        return zip(self.numbers, self.texts)
+
+    def __iter__(self) -> Iterator[Line]:
+        names = (*SECTIONS, "")
+        return (Line(number, names[of], text) for number, of, text in zip(self.numbers, self.sections, self.texts) if names[of])
+
+    def of(self, section: str) -> List[Line]:
+        """Those of a section."""
+        return [it for it in self if it.section == section]
+
+    def place_of(self, number: int) -> int:
+        place = bisect_left(self.numbers, number)
+        if self.numbers[place] != number:
+            raise ValueError(f"there is no line {number}")
+        return place
+
+    def text_of(self, number: int) -> str:
+        return self.texts[self.place_of(number)]
+
+    def behind(self, number: int, count: int) -> List[int]:
+        """The numbers of so many lines of a section from one of them on."""
+        place = self.place_of(number)
+        section = self.sections[place]
+        same = (self.numbers[it] for it in range(place, len(self.numbers)) if self.sections[it] == section)
+        return list(islice(same, count))
+
+
+class Setting(NamedTuple):
+    """A line of the prelude: its keyword in small letters, and its value."""
+
+    number: int
+    keyword: str
+    value: str
+
+
+class Paragraph(NamedTuple):
+    """An object as it is written: the numbers of its lines (its names, its colours, its sprite), and its layer, where the engine gives it one."""
+
+    numbers: List[int]
+    names: List[str]
+    colours: List[str]
+    sprite: List[str]
+    layer: Optional[int]
+
+
+class Definition(NamedTuple):
+    """A definition of LEGEND by the words on both sides, with what kind of name the engine makes of it, and of which objects, by their places."""
+
+    number: int
+    left: List[str]
+    right: List[str]
+    kind: Optional[str]
+    members: Tuple[int, ...]
+
+
+class Words(NamedTuple):
+    """A line by its words in small letters, and as it is written."""
+
+    number: int
+    words: List[str]
+    text: str
+
+    def places(self) -> Iterator[int]:
+        """Where each word begins in the text."""
+        text, at = fold(self.text), 0
+        for word in self.words:
+            at = text.index(word, at)
+            yield at
+            at += len(word)
+
+    def as_written(self) -> List[str]:
+        """The words as they are written."""
+        return [self.text[at : at + len(word)] for at, word in zip(self.places(), self.words)]
+
+    @property
+    def joins(self) -> bool:
+        """Whether it is a rule that goes on the group above it."""
+        return self.words[0] == "+"
+
+    @property
+    def is_late(self) -> bool:
+        """Whether it is a rule with `late` before its first row."""
+        return "late" in before("[", self.words)
+
+
+class Drawn(NamedTuple):
+    """An entry of LEVELS: its rows with their numbers; a message has no row."""
+
+    numbers: List[int]
+    rows: Tuple[str, ...]
+
+
+class Description(NamedTuple):
+    """What the engine has read of a source."""
+
+    fault: Optional[Fault]
+    lines: Lines
+    prelude: List[Setting]
+    objects: List[Paragraph]
+    legend: List[Definition]
+    layers: List[Words]
+    rules: List[Words]
+    wins: List[Words]
+    levels: List[Drawn]
+
+
+NOTHING = Description(None, Lines(), [], [], [], [], [], [], [])
+
+
+def before(word: str, words: Sequence[str]) -> Sequence[str]:
+    """The words before the first one like this, or all."""
+    return words[: words.index(word)] if word in words else words
+
+
+class Reader:
+    """Reads the line of a description, which has no spaces, member by member, and lists item by item, as long as there is time."""
+
+    def __init__(self, text: str) -> None:
+        self.text, self.at = text, 0
+
+    def value(self) -> Any:
+        value, self.at = JSON.raw_decode(self.text, self.at)
+        return value
+
+    def mark(self, marks: str) -> str:
+        mark = self.text[self.at]
+        if mark not in marks:
+            raise ValueError(f"none of {marks} stands there")
+        self.at += 1
+        return mark
+
+    def items(self) -> Iterator[Any]:
+        """The items of the list that stands next."""
+        mark = self.mark("[")
+        if self.text[self.at] == "]":
+            mark = self.mark("]")
+        while mark != "]":
+            EXPLAINING.look()
+            yield self.value()
+            mark = self.mark(",]")
+
+    def members(self) -> Iterator[str]:
+        """The names of the members of the object that stands next; the value of each is read by whoever is given its name."""
+        mark = self.mark("{")
+        while mark != "}":
+            name = self.value()
+            self.mark(":")
+            yield name
+            mark = self.mark(",}")
+
+    def end(self) -> None:
+        if self.at != len(self.text):
+            raise ValueError("something stands behind it")
+
+
+class Shaping:
+    """Makes a description of the text of its line, member by member as they come: by their names in order. What is of another form ends it by an error of
+    any kind."""
+
+    def __init__(self, text: str) -> None:
+        self.reader = Reader(text)
+        self.lines = Lines()
+
+    def member(self, name: str) -> Any:
+        if name in ("fault", "program"):
+            return self.reader.value()
+        if name == "lines":
+            for it in self.reader.items():
+                self.lines.add(*it)
+            return self.lines
+        return [SHAPES[name](self.lines, it) for it in self.reader.items()]
+
+    def words(self, of: List[Tuple[int, List[str]]]) -> List[Words]:
+        return [Words(number, words, self.lines.text_of(number)) for number, words in EXPLAINING.each(of)]
+
+    def drawn(self, of: List[Tuple[int, Tuple[str, ...]]]) -> List[Drawn]:
+        return [Drawn(self.lines.behind(number, len(rows) or 1), rows) for number, rows in EXPLAINING.each(of)]
+
+    def description(self) -> Description:
+        found = {name: self.member(name) for name in self.reader.members()}
+        self.reader.end()
+        return Description(
+            None if found["fault"] is None else Fault(found["fault"]["code"], found["fault"]["line"]),
+            found["lines"], found["prelude"], found["objects"], found["legend"],
+            self.words(found["layers"]), self.words(found["rules"]), self.words(found["wins"]), self.drawn(found["levels"]),
+        )  # fmt: skip
+
+
+def paragraph_of(lines: Lines, it: Dict[str, Any]) -> Paragraph:
+    count = 1 + bool(it["colours"]) + len(it["sprite"])
+    return Paragraph(lines.behind(it["line"], count), it["names"], it["colours"], it["sprite"], it.get("layer"))
+
+
+# What is made of an item of each list; of those that may stand before the lines as much as can be without them.
+SHAPES: Dict[str, Callable[[Lines, Any], Any]] = {
+    "layers": lambda _, it: (it["line"], it["names"]),
+    "legend": lambda _, it: Definition(it["line"], it["left"], it["right"], it.get("kind"), tuple(it.get("members", ()))),
+    "levels": lambda _, it: (it["line"], tuple(it.get("rows", ()))),
+    "objects": paragraph_of,
+    "prelude": lambda _, it: Setting(it[0], fold(it[1]), it[2]),
+    "rules": lambda _, it: (it["line"], it["words"]),
+    "wins": lambda _, it: (it["line"], it["words"]),
+}
+
+
+def read(text: str) -> Description:
+    """The description of a line. Refused where it is none."""
+    try:
+        return Shaping(text).description()
+    except (ValueError, TypeError, LookupError, AttributeError, OverflowError, RecursionError):
+        raise Undescribed(NONE_TOLD) from None
+
+
+def bytes_of(source: str) -> bytes:
+    """A source as the engine takes it; half a letter, which is no text, is another one there."""
+    return source.encode("utf-8", "replace")
+
+
+def seconds_now() -> float:
+    """How long the engine has: what is left to explain, where this is to explain."""
+    EXPLAINING.look()
+    return EXPLAINING.seconds_left() if EXPLAINING.begin is not None else SECONDS
+
+
+def why_it_ended(words: Sequence[str], told: "IO[bytes]", folder: str) -> str:
+    """Lets the engine write into a file what it reads of sources in a folder; why it did not tell all of them, or nothing."""
+    try:
+        ran = watched(words, told, subprocess.DEVNULL, seconds_now(), folder)
+    except Unanswered as why:
+        EXPLAINING.look()
+        return str(why)
+    except Refused as why:
+        return str(why)
+    return "" if ran.status == 0 else cut(ran.said) or f"it ended with status {ran.status}"
+
+
+def lines_told(told: "IO[bytes]") -> List[str]:
+    """The lines that are whole."""
+    if os.fstat(told.fileno()).st_size > MOST_TOLD:
+        raise Undescribed(f"it told more than {MOST_TOLD // 2**20} MiB")
+    told.seek(0)
+    try:
+        return [it[:-1].decode("utf-8") for it in told if it.endswith(b"\n")]
+    except ValueError:
+        raise Undescribed(NONE_TOLD) from None
+
+
+def asked(sources: Sequence[str], words: Sequence[str]) -> List[str]:
+    """The lines by which one process tells sources: all of them, or as many as it told before it ended. Refused where that is none."""
+    names = [str(number) for number in range(len(sources))]
+    try:
+        with tempfile.TemporaryFile() as told, room_for_now() as room:
+            for name, source in zip(names, sources):
+                (Path(room) / name).write_bytes(bytes_of(source))
+            why = why_it_ended([*words, *names], told, room)
+            lines = lines_told(told)
+    except OSError as error:
+        raise Undescribed(error.strerror) from None
+    if not lines or len(lines) > len(sources) or (not why and len(lines) < len(sources)):
+        raise Undescribed(why or NONE_TOLD)
+    return lines
+
+
+def how_to_ask() -> List[str]:
+    try:
+        return describer_words()
+    except Refused as why:
+        raise Undescribed(why) from None
+
+
+class Descriptions:
+    """What was told of sources, each of which is asked for once, as long as it is kept. With one that was expected those behind it are asked for too, as far
+    as they may be at once, since a process for each takes long."""
+
+    def __init__(self) -> None:
+        self.known: Dict[str, Description] = {}
+        self.letters = 0
+        # lines that are not read yet
+        self.told: Dict[str, str] = {}
+        self.expected: List[str] = []
+        self.places: Dict[str, int] = {}
+
+    def cache_clear(self) -> None:
+        """Forgets all, as what remembers what it told does."""
+        self.known.clear()
+        self.told.clear()
+        self.letters = 0
+
+    def expect(self, sources: Iterable[str]) -> None:
+        """Notes sources that are to be asked for soon, in this order."""
+        self.expected = list(dict.fromkeys(sources))
+        self.places = {source: place for place, source in enumerate(self.expected)}
+
+    def of(self, source: str) -> Description:
+        if source not in self.known:
+            if source not in self.told:
+                self.ask(source)
+            self.keep(source, read(self.told.pop(source)))
+        return self.known[source]
+
+    def with_next(self, source: str) -> List[str]:
+        """A source, and those behind it that are expected."""
+        behind = islice(self.expected, self.places[source] + 1, None) if source in self.places else iter(())
+        them, letters = [source], len(source)
+        for it in behind:
+            letters += len(it)
+            if letters > MOST_LETTERS_AT_ONCE or len(them) == MOST_AT_ONCE:
+                break
+            them.append(it)
+        return them
+
+    def ask(self, source: str) -> None:
+        them = [it for it in self.with_next(source) if it not in self.known]
+        if len(them) > 1:
+            # what nobody has asked for makes room
+            self.told.clear()
+        self.told.update(zip(them, asked(them, how_to_ask())))
+
+    def keep(self, source: str, told: Description) -> None:
+        """Keeps what was told of a source, and forgets the oldest of those that are too many."""
+        self.known[source] = told
+        self.letters += len(source)
+        while self.letters > MOST_KEPT:
+            oldest = next(iter(self.known))
+            if oldest == source:
+                break
+            self.letters -= len(oldest)
+            del self.known[oldest]
+
+
+DESCRIPTIONS = Descriptions()
+
+
+def description_of(source: str) -> Description:
+    """What the engine has read of a source."""
+    return DESCRIPTIONS.of(source)
+
+
+def expect(sources: Iterable[str]) -> None:
+    """Notes sources that are to be asked for soon, so that they are asked for at once."""
+    DESCRIPTIONS.expect(sources)
+
+
+@contextmanager
+def expected(sources: Iterable[str]) -> Iterator[None]:
+    """Notes sources for as long as this lasts, in the place of those that are expected."""
+    before_it = DESCRIPTIONS.expected
+    expect(sources)
+    try:
+        yield
+    finally:
+        expect(before_it)

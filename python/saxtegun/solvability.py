@@ -1,0 +1,26 @@
+"""Whether each level of a game can be won. One that can't is a failure, and so is one of which it isn't known."""
+from __future__ import annotations
+
+from typing import List
+
+from saxtegun.failures import Failure
+from saxtegun.levelsets import count_of_levels, entries_of_levels
+from saxtegun.solving import Bounds, Solved, Unsolvable, begin_of, solution_of, told, unknown_told
+from saxtegun.texts import GameText
+
+# What is said of a level that can't be won, and of one of which it isn't known.
+UNSOLVABLE, UNKNOWN = "unsolvable", "not known"
+
+
+def levels_not_won(game: GameText, bounds: Bounds) -> List[Failure]:
+    """The levels of a game for which no solution is found."""
+    found: List[Failure] = []
+    count = count_of_levels(game.source)
+    for level in range(1, count + 1):
+        entry = begin_of(game.source, level)
+        answer = solution_of(entry, bounds)
+        if not isinstance(answer, Solved):
+            line = entries_of_levels(game.source)[entry.index].numbers[0]
+            close, sentence = (UNSOLVABLE, told(answer)) if isinstance(answer, Unsolvable) else (UNKNOWN, unknown_told(answer))
+            found.append(Failure(f"{game.path}: level {level}", close, sentence, [], game.path, line))
+    return found or ([] if count else [Failure(game.path, UNKNOWN, "it has no level to win", [], game.path, 1)])

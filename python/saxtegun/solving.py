@@ -1,0 +1,195 @@
+"""Asks the engine for solutions: presses that win the level in which a session stands behind its inputs, and no fewer do."""
+from __future__ import annotations
+
+import json
+import tempfile
+from argparse import ArgumentParser, ArgumentTypeError, Namespace
+from math import inf
+from time import monotonic
+from typing import Any, List, NamedTuple, Optional, Sequence, Union
+
+from saxtegun.commands import Refused, add_ticks, cut, plural, seconds_in
+from saxtegun.games import game_of
+from saxtegun.levelsets import entries_of_levels, places_of_levels
+from saxtegun.processes import Unanswered, watched
+from saxtegun.programs import solver_words
+from saxtegun.sessions import Entry, Input, is_number, written_entry
+from saxtegun.ticks import without_ticking
+
+# So many bytes a search takes, as far as that is known beforehand; it keeps as many levels as have room there, but no more than that.
+MOST_BYTES = 2**29
+MOST_LEVELS = 1_000_000
+# So many seconds a search has, and all that are asked for together.
+SECONDS, WITHIN = 60.0, 600.0
+# Of each cell a level that is kept has so many bytes, of each object in each row and column so many, and twice as many of all by what is beside them.
+BYTES_OF_CELL, BYTES_OF_LINE, BESIDE = 32, 16, 2
+# A game of so many objects, or of so many layers, has cells of one word, and of two words twice as many.
+OBJECTS_OF_WORD, LAYERS_OF_WORD, MOST_WORDS = 128, 25, 4
+# The presses in words, by their numbers.
+WORDS = ("up", "left", "down", "right", "action")
+MOST_PRESS = len(WORDS) - 1
+# Why a session stands in no level.
+NO_LEVEL = {"over": "all levels are won", "stopped": "the session was stopped before", "refused": "the game is refused"}
+
+
+class Solved(NamedTuple):
+    """These presses win, and no shorter list does."""
+
+    inputs: List[Input]
+
+
+class Unsolvable(NamedTuple):
+    """No list of presses wins."""
+
+
+class OutOfBounds(NamedTuple):
+    """No list of so many presses wins; behind that there are more levels than were kept."""
+
+    levels: int
+    inputs: int
+
+
+class Unasked(NamedTuple):
+    """There is no level to win, and why."""
+
+    why: str
+
+
+Answer = Union[Solved, Unsolvable, OutOfBounds, Unasked]
+
+
+class Bounds(NamedTuple):
+    """How many levels a search keeps (None: as many as have room), how many seconds it has, whether games are played without their clock, and when all searches
+    end."""
+
+    levels: Optional[int] = None
+    seconds: float = SECONDS
+    has_ticks: bool = False
+    end: float = inf
+
+    @property
+    def seconds_left(self) -> float:
+        """How many seconds the next search has."""
+        return min(self.seconds, self.end - monotonic())
+
+    def levels_for(self, entry: Entry) -> int:
+        """How many levels are kept of the game, and the size, of the level in which a session stands."""
+        return self.levels if self.levels is not None else max(1, min(MOST_LEVELS, MOST_BYTES // bytes_of_level(entry)))
+
+
+def bytes_of_level(entry: Entry) -> int:
+    """About how many bytes a level takes that is kept: of the largest one of the game from where the session begins."""
+    game = game_of(entry.source)
+    words = 1
+    while words < MOST_WORDS and (len(game.objects) > OBJECTS_OF_WORD * words or len(set(game.layers.values())) > LAYERS_OF_WORD * words):
+        words *= 2
+    sizes = [(len(it.rows[0]), len(it.rows)) for it in entries_of_levels(entry.source)[entry.index :] if it.rows]
+    return max((BESIDE * (BYTES_OF_CELL * words * wide * high + BYTES_OF_LINE * len(game.objects) * (wide + high)) for wide, high in sizes), default=1)
+
+
+def levels_in(word: str) -> int:
+    """A number of levels, as the program takes it."""
+    if not (word.isascii() and word.isdigit() and 1 <= int(word[-12:]) and len(word) <= 12):
+        raise ArgumentTypeError("must be a number of levels from 1")
+    return int(word)
+
+
+def add_bounds(words: ArgumentParser) -> None:
+    """The words of verbs that search."""
+    words.add_argument("--levels", metavar="N", type=levels_in, help="keep so many levels of play at most (as many as have room in 512 MiB)")
+    words.add_argument("--within", metavar="SECONDS", type=seconds_in, default=WITHIN, help=f"search for so many seconds in all ({WITHIN:g}), and nowhere longer than {SECONDS:g}")
+    add_ticks(words)
+
+
+def bounds_of(given: Namespace) -> Bounds:
+    return Bounds(given.levels, has_ticks=given.ticks_as_recorded, end=monotonic() + given.within)
+
+
+def begin_of(source: str, level: int) -> Entry:
+    """The session that begins in the level of this number, without an input."""
+    return Entry(0, f"level {level}", source, [], "", places_of_levels(source)[level - 1], {}, False)
+
+
+# That no time is left for a search.
+LATE = "the time is over (--within)"
+CANT_ASK = "the engine can't be asked for a solution: "
+
+
+def presses_in(value: Any) -> List[Input]:
+    """The presses of an answer."""
+    if not isinstance(value, list) or not all(is_number(it, MOST_PRESS) for it in value):
+        raise ValueError
+    return [*value]
+
+
+def answer_in(line: bytes) -> Answer:
+    """The answer that a line tells. Refused where it tells none."""
+    try:
+        ((kind, value),) = json.loads(line.decode("utf-8"))["solution"].items()
+        if kind == "solved":
+            return Solved(presses_in(value))
+        if kind == "unsolvable":
+            return Unsolvable()
+        if kind == "outOfBounds":
+            return OutOfBounds(int(value["levels"]), int(value["inputs"]))
+        return Unasked(NO_LEVEL[kind])
+    except (ValueError, TypeError, LookupError, AttributeError, RecursionError):
+        raise Refused(f"{CANT_ASK}what it wrote is no answer") from None
+
+
+def solution_of(entry: Entry, bounds: Bounds) -> Answer:
+    """What the engine says of the level in which a session stands behind its inputs, or that it had no answer in time."""
+    if bounds.seconds_left <= 0:
+        return Unasked(LATE)
+    try:
+        answer = asked(entry, bounds)
+    except Unanswered as why:
+        return Unasked(str(why))
+    switch = switched_off(entry.source, answer.inputs) if isinstance(answer, Solved) else None
+    return answer if switch is None else Unasked(f"the fewest presses that win have one that the game switches off by `{switch}`")
+
+
+def switched_off(source: str, inputs: Sequence[Input]) -> Optional[str]:
+    """The word of a game that switches off a key which some of these inputs is: the site takes no such key."""
+    switches = game_of(source).switches
+    return next((switches[it] for it in inputs if it in switches), None)
+
+
+def asked(entry: Entry, bounds: Bounds) -> Answer:
+    """What the engine says of the level in which a session stands. Unanswered where that takes too long."""
+    played = without_ticking(entry) if bounds.has_ticks else entry
+    with tempfile.TemporaryFile() as given, tempfile.TemporaryFile() as told:
+        given.write(f"[{written_entry(played._replace(level=''))}]".encode())
+        given.seek(0)
+        ran = watched([*solver_words(), str(bounds.levels_for(entry))], told, given, bounds.seconds_left)
+        if ran.status != 0 and ran.said == "memory":
+            return Unasked("there is not enough memory: let it keep fewer (--levels)")
+        if ran.status != 0:
+            raise Refused(f"{CANT_ASK}{cut(ran.said) or f'it ended with status {ran.status}'}")
+        told.seek(0)
+        lines = told.readlines()
+    if len(lines) != 1:
+        raise Refused(f"{CANT_ASK}what it wrote is no answer")
+    return answer_in(lines[0])
+
+
+def presses_told(inputs: Sequence[Input]) -> str:
+    """Presses, in words."""
+    return " ".join(WORDS[it] if isinstance(it, int) else it for it in inputs)
+
+
+def unknown_told(answer: Answer) -> str:
+    """Why an answer doesn't say whether a level can be won."""
+    if isinstance(answer, OutOfBounds):
+        presses, levels = plural(answer.inputs, "press", "presses"), plural(answer.levels, "level")
+        return f"no list of up to {presses} wins it, and longer ones lead to more than {levels} of play, as many as are kept (--levels)"
+    return answer.why if isinstance(answer, Unasked) else ""
+
+
+def told(answer: Answer) -> str:
+    """What an answer says of a level, in words."""
+    if isinstance(answer, Solved):
+        return f"solved in {plural(len(answer.inputs), 'press', 'presses')}, and in no fewer"
+    if isinstance(answer, Unsolvable):
+        return "can't be won: no presses win it"
+    return f"not known: {unknown_told(answer)}"

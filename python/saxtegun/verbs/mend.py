@@ -1,0 +1,143 @@
+"""Mends recordings that no longer solve their levels, as when a game was edited: it
+keeps the longest beginning of each from which its level can still be won, and
+goes on with as few presses as win it.
+
+A recording over GAME.txt is mended that doesn't pass and wins fewer levels than
+it is to: all, if its entry says \"solved\"; or as many as it won over the
+committed text of GAME.txt, if that lies in a git folder; or those up to the one
+that its recorded level is of. Of others it isn't known whether they are to win
+a level; one that --only names wins at least the one in which it ends.
+
+What was found is shown: how many inputs stay, and what follows them. The file
+is changed only with --in-place: such a recording gets its new inputs, and the
+level that they reach; all else stays letter by letter.
+
+Exit status: 0 all that were to be mended are, or were shown; 1 one can't be, or
+it isn't known whether it is to be; 2 something is refused."""
+from __future__ import annotations
+
+import sys
+from argparse import ArgumentParser, Namespace
+from typing import Dict, List, Optional, Union
+
+from saxtegun.commands import Refused, add_playing, plural, printable
+from saxtegun.explanations import heading
+from saxtegun.explanations import told as told_of_run
+from saxtegun.files import guard_places, write_again
+from saxtegun.lines import Run
+from saxtegun.mending import Left, Mended, Mender, guard_game, standing_of, wins_over, wins_recorded, wins_wanted
+from saxtegun.playing import engine_of, runs_of
+from saxtegun.regressions import committed_text
+from saxtegun.sessions import Entry, Sessions, changed, chosen, guard_size, read_sessions, sessions_in
+from saxtegun.solutions import SOLVED, solved_of
+from saxtegun.solving import add_bounds, bounds_of, presses_told
+from saxtegun.texts import GameText, of_another_text, over, read_named, same_text, say_others
+
+USAGE = "mend GAME.txt SESSIONS.json [--only PATTERN..] [--in-place] [--levels N] [--within SECONDS]"
+UNKNOWN = "whether it is to win a level isn't known: --only NAME has it mended"
+
+
+def add_words(words: ArgumentParser) -> None:
+    words.add_argument("game", metavar="GAME.txt")
+    words.add_argument("sessions", metavar="SESSIONS.json")
+    words.add_argument("--only", metavar="PATTERN", action="append", help="mend sessions whose names fit, and no others; may be repeated")
+    words.add_argument("--in-place", action="store_true", help="change the file")
+    add_playing(words)
+    add_bounds(words)
+
+
+def text_before(game: GameText) -> Optional[str]:
+    """The committed text of a game, where it is another one."""
+    text = committed_text(game.path)
+    return text if text is not None and text.strip() and not same_text(text, game.source) else None
+
+
+class Work:
+    """The sessions of a file, and what becomes of them."""
+
+    def __init__(self, sessions: Sessions, game: GameText, given: Namespace) -> None:
+        self.sessions, self.game, self.given, self.engine = sessions, game, given, engine_of(given)
+        others = {it.number for it in of_another_text(sessions.entries, game)}
+        wanted = [it for it in chosen(sessions, given.only) if it.number not in others]
+        runs = runs_of(wanted, sessions, self.engine) if wanted else []
+        self.runs: Dict[int, Run] = {it.number: run for it, run in zip(wanted, runs)}
+        self.over = {wanted[place].number for place, end in solved_of(wanted, runs, sessions, self.engine).items() if end == SOLVED}
+        self.entries = [it for it in wanted if self.runs[it.number].close != "passed" or (it.is_solved_wanted and it.number not in self.over)]
+        self.before = wins_over(self.entries, text_before(game), sessions, self.engine)
+        self.mender = Mender(sessions, self.engine, bounds_of(given))
+
+    def become_of(self, entry: Entry) -> Union[Mended, Left]:
+        """What becomes of a session."""
+        run, is_over = self.runs[entry.number], entry.number in self.over
+        standing = standing_of(entry, run, is_over)
+        if standing is None:
+            return Left(entry, f"it is not played: {told_of_run(run, entry, self.given.order, self.game.path)[0]}")
+        if is_over:
+            return Left(entry, "it wins all levels: saxtegun accept takes what it reaches")
+        known = wins_wanted(entry, self.before.get(entry.number))
+        wanted = max(known or wins_recorded(entry, self.given.order), standing.won + 1 if self.given.only else 0)
+        if wanted <= standing.won:
+            return Left(entry, UNKNOWN if known is None else "it wins as many levels as it is to: saxtegun accept takes what it reaches")
+        try:
+            return self.mender.mended(entry, standing, wanted)
+        except Refused as why:
+            return Left(entry, str(why))
+
+
+def told(it: Union[Mended, Left], entry: Entry) -> List[str]:
+    """What became of a session, in lines."""
+    if isinstance(it, Left):
+        return [f"not mended: {it.why}"]
+    lost = len(entry.inputs) - it.kept
+    stays = f"all of its {plural(len(entry.inputs), 'input')} stay" if not lost else f"{it.kept} of its {plural(len(entry.inputs), 'input')} stay"
+    return [f"mended: {stays}, and {plural(len(it.presses), 'press', 'presses')} follow", f"    {presses_told(it.presses)}"]
+
+
+def with_new(sessions: Sessions, mended: List[Mended]) -> str:
+    """The text of the file with the new inputs and levels."""
+    text = changed(sessions, {it.entry.number: ("inputs", it.entry.inputs) for it in mended})
+    return changed(sessions_in(sessions.path, text), {it.entry.number: ("level", it.entry.level) for it in mended})
+
+
+def write(mended: List[Mended], sessions: Sessions, given: Namespace) -> None:
+    """Writes the file with what was found, where that is asked for."""
+    if mended and given.in_place:
+        new = with_new(sessions, mended)
+        guard_size(given.sessions, new, len(sessions.entries), "divide it by saxtegun split, and mend the parts")
+        write_again(given.sessions, sessions.text, new)
+
+
+def mend(work: Work, mended: List[Mended]) -> int:
+    """Mends one session after another, and says what became of each; how many are left as they are."""
+    left = 0
+    for entry in work.entries:
+        it = work.become_of(entry)
+        first, *rest = told(it, entry)
+        print(printable(f"{heading(work.runs[entry.number]._replace(number=entry.number))}: {first}"))
+        for line in rest:
+            print(line)
+        sys.stdout.flush()
+        if isinstance(it, Mended):
+            mended.append(it)
+        else:
+            left += 1
+    return left
+
+
+def main(given: Namespace) -> int:
+    if given.in_place and given.sessions == "-":
+        raise Refused("--in-place needs a file, and standard input is none")
+    guard_places(given.sessions if given.in_place else None)
+    game = read_named(given.game)
+    sessions = over(read_sessions(given.sessions), game)
+    guard_game(game, engine_of(given))
+    say_others("mend", sessions, game)
+    mended: List[Mended] = []
+    work = Work(sessions, game, given)
+    try:
+        left = mend(work, mended)
+    finally:
+        # also where it is ended in the midst of it: what was found takes long
+        write(mended, sessions, given)
+    print(f"{len(mended)} of {plural(len(sessions.entries), 'recording')} mended{'' if given.in_place or not mended else ', and not written: --in-place does'}")
+    return 1 if left else 0

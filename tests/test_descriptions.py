@@ -1,0 +1,309 @@
+"""What the engine tells of a source, how it is asked, and what is said where it can't be."""
+import io
+import json
+import os
+import subprocess
+import sys
+import unittest
+from contextlib import redirect_stdout
+from unittest import mock
+
+from tool import TOP, InARoom  # which puts the package on the path
+from saxtegun import budget, descriptions, programs
+from saxtegun.command_line import main
+from saxtegun.commands import Refused
+from saxtegun.descriptions import NOTHING, Definition, Description, Drawn, Fault, Line, Paragraph, Setting, Undescribed, Words, asked, bytes_of, description_of, expect, how_to_ask
+from saxtegun.explanations import told
+from saxtegun.games import Game, game_of, titles_of
+from saxtegun.lines import Run
+from saxtegun.pages import look_known
+from saxtegun.sessions import sessions_in
+
+SOURCE = """(a comment) Title A (game)
+run_rules_on_level_start
+OBJECTS
+Background .
+black (and
+white)
+
+Player P
+WHITE Red
+.000.
+.....
+.....
+.....
+.1.1.
+
+LEGEND
+@ = Player and Background (both)
+One = Player
+SOUNDS
+===
+COLLISIONLAYERS
+Background
+Player,
+RULES
+startloop
+late [ > Player | ... ]->[ | ] Message Hello (there)
++ [ One ] -> [ ]
+endloop
+WINCONDITIONS
+All Player on Background
+LEVELS
+message Go (on)
+
+.P
+@.
+"""
+TOLD = Description(
+    fault=Fault("Shape", 26),
+    lines=NOTHING.lines,
+    prelude=[Setting(1, "title", "A (game)"), Setting(2, "run_rules_on_level_start", "")],
+    objects=[
+        Paragraph([4, 5], ["Background", "."], ["black"], [], 0),
+        Paragraph([8, 9, 10, 11, 12, 13, 14], ["Player", "P"], ["WHITE", "Red"], [".000.", ".....", ".....", ".....", ".1.1."], 1),
+    ],
+    legend=[Definition(17, ["@"], ["Player", "and", "Background"], "aggregate", (1, 0)), Definition(18, ["One"], ["Player"], "object", (1,))],
+    layers=[Words(22, ["background"], "Background"), Words(23, ["player"], "Player,")],
+    rules=[
+        Words(25, ["startloop"], "startloop"),
+        Words(26, ["late", "[", ">", "player", "|", "...", "]", "->", "[", "|", "]", "message", "hello (there)"], "late [ > Player | ... ]->[ | ] Message Hello (there)"),
+        Words(27, ["+", "[", "one", "]", "->", "[", "]"], "+ [ One ] -> [ ]"),
+        Words(28, ["endloop"], "endloop"),
+    ],
+    wins=[Words(30, ["all", "player", "on", "background"], "All Player on Background")],
+    levels=[Drawn([32], ()), Drawn([34, 35], (".P", "@."))],
+)
+ENTRY = sessions_in("x", '[["a", ["title x\\nOBJECTS\\n", [], ""]]]').entries[0]
+
+
+def ways():
+    """As the command asks, and in Node."""
+    return how_to_ask(), [programs.node_that_plays(), str(programs.DESCRIBE_IN_NODE)]
+
+
+def description_line(source):
+    return asked([source], how_to_ask())[0]
+
+
+class Whole(unittest.TestCase):
+    def test_a_source_is_told_line_by_line(self):
+        found = description_of(SOURCE)
+        self.assertEqual(found._replace(lines=NOTHING.lines), TOLD)
+        self.assertEqual(next(iter(found.lines)), Line(1, "prelude", "Title A (game)"))
+        self.assertEqual([it.number for it in found.lines.of("objects")], [4, 5, 7, *range(8, 16)])
+        self.assertEqual([*found.lines.with_headings()][2], (3, "OBJECTS"))
+        self.assertEqual(found.lines.headings, ["objects", "legend", "sounds", "collisionlayers", "rules", "winconditions", "levels"])
+        self.assertEqual(found.rules[1].as_written(), "late [ > Player | ... ] -> [ | ] Message".split() + ["Hello (there)"])
+        self.assertEqual([it.is_late for it in found.rules], [False, True, False, False])
+        self.assertEqual([it.joins for it in found.rules], [False, False, True, False])
+
+    def test_a_source_that_is_refused_is_told_as_far_as_it_goes(self):
+        self.assertEqual(description_of("title x").fault, Fault("Section", 0))
+        self.assertEqual(titles_of(["title x"]), {"x"})
+        long = description_of("x" * 2**20 + "y")
+        self.assertEqual((long.fault, [*long.lines], long._replace(fault=None, lines=NOTHING.lines)), (Fault("TooLong", 0), [], NOTHING))
+
+    def test_half_a_letter_is_another_one(self):
+        self.assertEqual(bytes_of("a\ud800b"), b"a?b")
+        self.assertEqual(titles_of(["title \ud800"]), {"?"})
+
+    def test_a_game_that_is_refused_for_its_rules_win_lines_clock_or_a_line_of_its_legend_has_its_layers(self):
+        for old, new in (("late ", "random "), ("All", "Few"), ("Title", "realtime_interval 1\nTitle"), ("One =", "Two = Nobody\nOne ="), (".P\n", ".?\n")):
+            with self.subTest(new):
+                source = SOURCE.replace(old, new)
+                self.assertIsNotNone(description_of(source).fault)
+                game = Game(source)
+                self.assertEqual(game.layers, {"background": 0, "player": 1})
+                self.assertEqual(game.members("one"), ["player"])
+                self.assertEqual(game.glyph_of(["player", "background"]), "@")
+
+    def test_time_to_explain_that_ends_while_a_description_is_read_ends_explaining(self):
+        line = json.dumps({"fault": None, "lines": [[1, "prelude", False, "x"]]}, separators=(",", ":"))
+        with mock.patch.object(budget.EXPLAINING, "left", 0), self.assertRaises(budget.UsedUp), budget.EXPLAINING.spent():
+            descriptions.read(line)
+
+
+class Asked(InARoom):
+    """How the engine is asked: by stand-ins that are scripts, or by a count of calls."""
+
+    def setUp(self):
+        super().setUp()
+        fresh = mock.patch.object(descriptions, "DESCRIPTIONS", descriptions.Descriptions())
+        fresh.start()
+        self.addCleanup(fresh.stop)
+        self.chosen = mock.patch.object(programs, "CHOSEN_FOR_SOURCES", [])
+        self.chosen.start()
+        self.addCleanup(self.chosen.stop)
+        game_of.cache_clear()
+
+    def stand_in(self, script):
+        path = self.room / "pz_describer"
+        path.write_text(f"#!{sys.executable}\nimport os, sys, time\n{script}\n")
+        path.chmod(0o755)
+        programs.CHOSEN_FOR_SOURCES[:] = [[str(path)]]
+
+    def assert_refused(self, why):
+        with self.assertRaises(Undescribed) as refused:
+            description_of("title x")
+        self.assertEqual(str(refused.exception), f"the engine can't be asked what it reads of a source: {why}")
+
+    def test_each_source_is_asked_for_once(self):
+        with mock.patch.object(descriptions, "watched", side_effect=descriptions.watched) as called:
+            for _ in range(3):
+                for source in ("title x", "title y"):
+                    description_of(source)
+        self.assertEqual(called.call_count, 2)
+
+    def test_sources_that_are_expected_are_told_by_one_process(self):
+        for words in ways():
+            sources = [f"title {it}" for it in range(200)]
+            with self.subTest(words[0]), mock.patch.object(descriptions, "how_to_ask", lambda: words), mock.patch.object(subprocess, "Popen", side_effect=subprocess.Popen) as begun:
+                descriptions.DESCRIPTIONS.cache_clear()
+                expect(sources)
+                self.assertEqual([description_of(it).prelude[0].value for it in sources], [str(it) for it in range(200)])
+                self.assertEqual(begun.call_count, 1)
+
+    def test_two_hundred_games_that_are_refused_are_explained_by_one_process(self):
+        """They are explained by lines that are there, so that nothing plays."""
+        sessions, lines = self.room / "sessions.json", self.room / "lines"
+        sessions.write_text(json.dumps([[f"s{it}", [f"title {it}\nOBJECTS\nPlayer\nred\nRULES\n[ Crate{it} ] -> [ ]\n", [], ""]] for it in range(200)]))
+        lines.write_text("".join(f'{{"cause":"Unknown:6","close":"refused","frames":0,"name":"s{it}","session":{it}}}\n' for it in range(200)))
+        programs.CHOSEN_FOR_SOURCES[:] = [how_to_ask()]
+        with mock.patch.object(sys, "argv", ["saxtegun", "explain", str(sessions), str(lines)]), redirect_stdout(io.StringIO()) as told:
+            with mock.patch.object(subprocess, "Popen", side_effect=subprocess.Popen) as begun:
+                self.assertEqual(main(), 0)
+        self.assertEqual(begun.call_count, 1)
+        self.assertTrue(all(f"`Crate{it}`" in told.getvalue() for it in range(200)))
+
+    def test_what_was_told_before_the_engine_ended_is_known(self):
+        self.stand_in(f"print({description_line('title x')!r}); sys.stderr.write('memory\\n'); sys.exit(2)")
+        expect(["title x", "title y"])
+        with mock.patch.object(descriptions, "watched", side_effect=descriptions.watched) as called:
+            self.assertEqual(description_of("title x").prelude[0].value, "x")
+            self.assertEqual(called.call_count, 1)
+            self.assertEqual(description_of("title y").prelude[0].value, "x", "the stand-in tells each the same")
+            self.assertEqual(called.call_count, 2)
+
+    def test_only_so_many_letters_are_asked_for_at_once(self):
+        sources = [f"title {it}" + "\n" * 100 for it in range(10)]
+        expect(sources)
+        with mock.patch.object(descriptions, "MOST_LETTERS_AT_ONCE", 500), mock.patch.object(descriptions, "watched", side_effect=descriptions.watched) as called:
+            self.assertEqual([description_of(it).prelude[0].value for it in sources], [str(it) for it in range(10)])
+        self.assertEqual(called.call_count, 3)
+
+    def test_what_was_expected_before_is_expected_again(self):
+        expect(["a", "b"])
+        self.assertEqual(titles_of(["title x", "title y"]), {"x", "y"})
+        self.assertEqual(descriptions.DESCRIPTIONS.expected, ["a", "b"])
+
+    def test_of_many_sources_some_are_kept(self):
+        with mock.patch.object(descriptions, "MOST_KEPT", 20):
+            for source in ("title x" + "\n" * 9, "title y" + "\n" * 9, "title z"):
+                description_of(source)
+                self.assertIn(source, descriptions.DESCRIPTIONS.known)
+            self.assertEqual(len(descriptions.DESCRIPTIONS.known), 1)
+
+    def test_the_program_that_tells_sources_is_looked_for_beside_the_one_that_plays(self):
+        for plays, tells in (("bin/pz_replayer", "bin/pz_describer"), ("crates/pz_replayer/out/pz_replayer", "crates/pz_describer/out/pz_describer")):
+            path = self.room / tells
+            path.parent.mkdir(parents=True)
+            path.write_text("")
+            path.chmod(0o755)
+            with mock.patch.object(programs, "DESCRIBERS", ()), mock.patch.dict(os.environ, SAXTEGUN_PROGRAM=str(self.room / plays)):
+                self.assertEqual(programs.describers(), [], "the program that plays isn't there")
+                (self.room / plays).parent.mkdir(parents=True, exist_ok=True)
+                (self.room / plays).write_text("")
+                programs.CHOSEN_FOR_SOURCES.clear()
+                self.assertEqual(programs.describer_words(), [str(path)])
+
+    def test_without_a_program_and_node_it_is_said_what_is_missing(self):
+        nothing = {"DESCRIBERS": (), "CHOSEN": [], "CHOSEN_FOR_STAGES": [], "BUILT": self.room / "none"}
+        with mock.patch.multiple(programs, **nothing), mock.patch.dict(os.environ, PATH=str(self.room), SAXTEGUN_PROGRAM=""):
+            self.assert_refused(f"the program is not built here, and there is no Node: {programs.HOW_TO_GET_ONE}")
+
+    def test_what_ends_without_an_answer_is_told(self):
+        for script, why in (
+            ("sys.stderr.write('memory\\n'); sys.exit(2)", "memory"),
+            ("os.kill(os.getpid(), 9)", "it ended with status -9"),
+            ("sys.exit(3)", "it ended with status 3"),
+            ("", "what it wrote is no description"),
+            ("print('{}')", "what it wrote is no description"),
+            ("print('[' * 100_000)", "what it wrote is no description"),
+            ("print('{\"fault\":null,\"lines\":[[1]]}')", "what it wrote is no description"),
+            ("print('x', end='')", "what it wrote is no description"),
+            ("print(); print()", "what it wrote is no description"),
+            ("sys.stdout.buffer.write(b'\\xff\\n')", "what it wrote is no description"),
+            (f"print('{description_line('title x')} ')", "what it wrote is no description"),
+        ):
+            with self.subTest(script):
+                self.stand_in(script)
+                self.assert_refused(why)
+
+    def test_a_file_that_can_t_be_written_is_told(self):
+        self.stand_in("print()")
+        with mock.patch.object(descriptions.Path, "write_bytes", side_effect=OSError(28, "No space left on device")):
+            self.assert_refused("No space left on device")
+
+    def test_what_tells_too_much_or_takes_too_long_is_told(self):
+        self.stand_in("print('x' * 5 * 2**20)")
+        with mock.patch.object(descriptions, "MOST_TOLD", 2**22):
+            self.assert_refused("it told more than 4 MiB")
+        self.stand_in("time.sleep(60)")
+        with mock.patch.object(descriptions, "SECONDS", 0.2):
+            self.assert_refused("not answered in 0.2 s")
+
+    def test_what_takes_longer_than_there_is_time_to_explain_ends_explaining(self):
+        self.stand_in("time.sleep(60)")
+        with mock.patch.object(budget.EXPLAINING, "left", 0.2):
+            sentence, below = told(Run(0, "a", "refused", "Section:0", []), ENTRY)
+        self.assertEqual((sentence.rpartition("; ")[2], below), (budget.NOT_LOOKED_AT, []))
+
+    def test_an_answer_is_told_without_what_the_engine_was_asked_for(self):
+        self.stand_in("sys.exit(3)")
+        why = "the engine can't be asked what it reads of a source: it ended with status 3"
+        sentence, below = told(Run(0, "a", "refused", "Section:0", []), ENTRY)
+        self.assertEqual((sentence, below), (f"a section that must be there is missing (Section:0); 0 frames; {why}", []))
+        game = look_known("title x")
+        self.assertEqual((game.objects, game.notes), ([], [why]))
+        with self.assertRaises(Refused):
+            titles_of(["title x"])
+
+
+MEMORY = """
+import sys
+from resource import RUSAGE_SELF, getrusage
+sys.path.insert(0, sys.argv[1])
+from saxtegun.descriptions import description_of
+told = description_of(eval(sys.argv[2]))
+print(sum(1 for it in told.lines), getrusage(RUSAGE_SELF).ru_maxrss // 1024)
+"""
+
+
+class Memory(unittest.TestCase):
+    def test_a_source_of_many_lines_takes_not_many_times_its_size(self):
+        """A MiB of line feeds, and of the shortest rules; in MiB, of which Python itself takes some 30."""
+        for source, count, most in ((r"'\n' * 2**20", 2**20 + 1, 150), (r"'OBJECTS\nRULES\n' + '[\n' * (2**19 - 9)", 2**19 - 8, 250)):
+            with self.subTest(source):
+                ran = subprocess.run([sys.executable, "-B", "-c", MEMORY, TOP / "python", source], stdout=subprocess.PIPE, check=True)
+                lines, mebibytes = map(int, ran.stdout.split())
+                self.assertEqual(lines, count)
+                self.assertLess(mebibytes, most)
+
+
+class EngineOfDescriptions(InARoom):
+    def test_each_file_has_its_line(self):
+        words = [programs.in_node().words[0], str(programs.DESCRIBE_IN_NODE)]
+        names = programs.environment_of(words)
+        paths = [self.room / it for it in "ab"]
+        for path in paths:
+            path.write_text(f"title {path.name}")
+        ran = subprocess.run([*words, *map(str, paths)], stdout=subprocess.PIPE, stderr=subprocess.PIPE, env=names)
+        self.assertEqual((ran.returncode, ran.stderr, len(ran.stdout.splitlines())), (0, b"", 2))
+        for given, why in (([], b"bad command line\n"), ([str(self.room / "c")], b"open-fault\n")):
+            ran = subprocess.run([*words, *given], stdout=subprocess.PIPE, stderr=subprocess.PIPE, env=names)
+            self.assertEqual((ran.returncode, ran.stderr), (2, why))
+
+
+if __name__ == "__main__":
+    unittest.main()

@@ -1,0 +1,295 @@
+"""`saxtegun solve`, `saxtegun mend` and `saxtegun test --solvable`, on the example's game, beside a search of these tests' own that knows only how crates are pushed."""
+import json
+import shutil
+import subprocess
+import unittest
+from collections import deque
+from pathlib import Path
+from unittest import mock
+
+from day import STEPS
+from test_test import OfAGame
+from tool import plays, run
+from saxtegun import solving
+from saxtegun.commands import Refused
+from saxtegun.sessions import Entry
+from saxtegun.solving import Bounds, OutOfBounds, Solved, Unasked, Unsolvable, answer_in
+
+WORDS = ("up", "left", "down", "right", "action")
+# The example's levels are the first two of a published set, whose shortest solutions are known.
+SHORTEST = (33, 16)
+DEAD = "#####\n#*..#\n#P.O#\n#####\n"
+
+
+def read(drawing):
+    """A level of crates: its walls, its targets, its crates and its player."""
+    at = {(x, y): letter for y, row in enumerate(drawing.strip("\n").split("\n")) for x, letter in enumerate(row)}
+    places = {letters: frozenset(it for it, letter in at.items() if letter in letters) for letters in ("#", "O@", "*@", "P")}
+    return places["#"], places["O@"], places["*@"], min(places["P"])
+
+
+def pushed(level, input):
+    """The level behind a press. One push of many, or none."""
+    walls, targets, crates, (x, y) = level
+    right, down = STEPS[input]
+    to, beyond = (x + right, y + down), (x + 2 * right, y + 2 * down)
+    if to in walls or (to in crates and beyond in walls | crates):
+        return level
+    return walls, targets, crates - {to} | {beyond} if to in crates else crates, to
+
+
+def is_won(level):
+    return level[1] <= level[2]
+
+
+def shortest(level):
+    """How many presses win at least; None where none do."""
+    seen, left = {level}, deque([(level, 0)])
+    while left:
+        level, count = left.popleft()
+        for input in STEPS:
+            later = pushed(level, input)
+            if is_won(later):
+                return count + 1
+            if later not in seen:
+                seen.add(later)
+                left.append((later, count + 1))
+    return None
+
+
+def behind(level, inputs):
+    for it in inputs:
+        level = pushed(level, it)
+    return level
+
+
+def wins_last(level, inputs):
+    """Whether the last of these presses wins, and none before."""
+    return [is_won(behind(level, inputs[: count + 1])) for count in range(len(inputs))] == [False] * (len(inputs) - 1) + [True]
+
+
+def numbers_of(line):
+    return [WORDS.index(it) for it in line.split()]
+
+
+class OfLevels(OfAGame):
+    """The example's game, and its two levels as they are drawn."""
+
+    def setUp(self):
+        super().setUp()
+        self.first, self.second = self.source.partition("LEVELS\n=======\n")[2].strip("\n").split("\n\n")
+
+    def with_level(self, number, drawing):
+        """The game with another level in the place of one of its two."""
+        levels = [self.first, self.second]
+        levels[number] = drawing.strip("\n")
+        head = self.source.partition("LEVELS\n=======\n")
+        return self.write("game.txt", head[0] + head[1] + "\n" + "\n\n".join(levels) + "\n")
+
+
+@plays
+class DayOfSolving(OfLevels):
+    def test_each_level_has_a_shortest_solution(self):
+        answer = run("solve", self.game)
+        lines = answer.out.splitlines()
+        self.assertEqual((answer.status, len(lines), lines[-1]), (0, 5, "2 solved, 0 can't be won, 0 not known"))
+        for place, (drawing, count) in enumerate(zip((self.first, self.second), SHORTEST)):
+            self.assertEqual(lines[2 * place], f"level {place + 1}: solved in {count} presses, and in no fewer")
+            inputs = numbers_of(lines[2 * place + 1])
+            self.assertEqual((len(inputs), shortest(read(drawing))), (count, count))
+            self.assertTrue(wins_last(read(drawing), inputs))
+
+    def test_solutions_are_saved_as_recordings_that_pass(self):
+        saved = self.room / "solved.json"
+        self.assertEqual(run("solve", self.game, "--save", saved).status, 0)
+        entries = json.loads(saved.read_text(encoding="utf-8"))
+        self.assertEqual([(name, body[0], len(body[1]), body[3]) for name, body in entries], [("level 1, solved in 33 presses", "", 33, 0), ("level 2, solved in 16 presses", "", 16, 1)])
+        answer = run("test", self.game, saved)
+        self.assertEqual((answer.status, answer.out.splitlines()[:2]), (0, ["passed, solved up to level 1: level 1, solved in 33 presses", "passed, solved: level 2, solved in 16 presses"]))
+        again = run("solve", self.game, "--level", 2, "--save", saved)
+        self.assertIn("solve: level 2, solved in 16 presses: it is in ", again.errors)
+        self.assertEqual(json.loads(saved.read_text(encoding="utf-8")), entries)
+
+    def test_a_level_that_can_not_be_won_and_one_of_which_nothing_is_known(self):
+        self.assertIsNone(shortest(read(DEAD)))
+        game = self.with_level(1, DEAD)
+        answer = run("solve", game, "--level", "2")
+        self.assertEqual((answer.status, answer.out), (1, "level 2: can't be won: no presses win it\n0 solved, 1 can't be won, 0 not known\n"))
+        answer = run("solve", game, "--level", "all", "--levels", "10")
+        self.assertEqual((answer.status, answer.out.splitlines()[-1]), (2, "0 solved, 1 can't be won, 1 not known"))
+        self.assertRegex(answer.out, "^level 1: not known: no list of up to [0-9]+ press(es)? wins it, and longer ones lead to more than 10 levels of play, as many as are kept")
+
+    def test_what_can_not_be_searched_is_refused(self):
+        for words, said in (
+            (("--level", "3"), "has 2 levels, but no level 3"),
+            (("--level", "0"), "must be the number of a level"),
+            (("--levels", "0"), "must be a number of levels from 1"),
+            (("--save", self.room), "can't be"),
+        ):
+            answer = run("solve", self.game, *words)
+            self.assertEqual((answer.status, answer.out), (2, ""), words)
+            self.assertIn(said, answer.errors)
+        answer = run("solve", self.write("game.txt", self.source.replace("[ > Player | Crate ] ->", "[ > Player | Crat ] ->")))
+        self.assertEqual((answer.status, answer.out), (2, ""))
+        self.assertIn("Unknown", answer.errors)
+
+    def test_levels_of_a_suite_must_be_solvable(self):
+        answer = run("test", self.game, self.write_entries(self.entries[:4]), "--solvable", "--quiet")
+        self.assertEqual(answer.status, 0, answer.out)
+        game = self.with_level(1, DEAD)
+        halfway = self.write_entries(self.entries[2:4])
+        self.assertEqual(run("test", game, halfway).status, 0)
+        answer = run("test", game, halfway, "--solvable", "--quiet", "--github")
+        self.assertEqual(answer.status, 1)
+        self.assertIn(f"{game}: level 2: unsolvable: can't be won: no presses win it\n", answer.out)
+        self.assertIn("; 1 level can't be won", answer.out)
+        line = game.read_text(encoding="utf-8").split("\n").index("#*..#")
+        self.assertIn(f",line={line},", answer.out)
+        out = self.room / "out.xml"
+        answer = run("test", game, halfway, "--solvable", "--levels", "10", "--quiet", "--junit", out)
+        self.assertEqual(answer.status, 2)
+        self.assertIn("level 1: not known: no list of up to ", answer.out)
+        self.assertIn("; 1 level can't be won; 1 level not known", answer.out)
+        self.assertIn('tests="4" failures="1" errors="1"', out.read_text(encoding="utf-8"))
+        answer = run("test", self.write_entries(self.entries), "--solvable")
+        self.assertEqual((answer.status, answer.out), (2, ""))
+
+
+@plays
+class DayOfMending(OfLevels):
+    # With a wall where the player went, the second level's recordings end before it is won; with another one they push a crate where it is lost.
+    WALLED = "######\n#....#\n#..P.#\n#.*@.#\n#.O@##\n#....#\n######"
+
+    # A press up loses it.
+    LOSING = "#####\n#...#\n#.*.#\n#OP.#\n#####"
+
+    def commit(self):
+        if shutil.which("git") is None:
+            self.skipTest("there is no git")
+        for words in (["init", "--quiet"], ["add", "--all"], ["-c", "user.name=a", "-c", "user.email=a@example", "commit", "--quiet", "--message", "a text"]):
+            subprocess.run(["git", "-C", self.room, *words], check=True, stdout=subprocess.DEVNULL)
+
+    def told(self, answer, number):
+        """What is told of a session: how many inputs stay, and the presses that follow."""
+        lines = answer.out.splitlines()
+        place = next(at for at, it in enumerate(lines) if it.startswith(f"session {number}, "))
+        return lines[place].partition(": mended: ")[2], numbers_of(lines[place + 1])
+
+    def test_broken_recordings_are_mended_by_one_call(self):
+        self.commit()
+        game, before = self.with_level(1, self.WALLED), self.recordings.read_bytes()
+        shown = run("mend", game, self.recordings)
+        self.assertEqual(self.recordings.read_bytes(), before)
+        self.assertIn("2 of 5 recordings mended, and not written: --in-place does", shown.out)
+        answer = run("mend", game, self.recordings, "--in-place")
+        self.assertEqual(answer.out.splitlines()[:-1], shown.out.splitlines()[:-1])
+        entries = json.loads(self.recordings.read_text(encoding="utf-8"))
+        self.assertEqual(entries[2:], self.entries[2:])
+        for number, drawing, skipped in ((0, self.WALLED, SHORTEST[0]), (1, self.WALLED, 0)):
+            old, new = self.entries[number][1][1], entries[number][1][1]
+            said, presses = self.told(answer, number)
+            kept = len(new) - len(presses)
+            self.assertEqual((new[:kept], new[kept:]), (old[:kept], presses))
+            self.assertTrue(wins_last(read(drawing), new[skipped:]))
+            self.assertEqual(len(presses), shortest(behind(read(drawing), old[skipped:kept])))
+            self.assertTrue(all(shortest(behind(read(drawing), old[skipped:more])) is None for more in range(kept + 1, len(old) + 1)))
+        self.assertEqual(run("test", game, self.recordings, "--filter", "*level*", "--solved", "*level*").status, 0)
+
+    def test_the_longest_beginning_stays_from_which_the_level_can_be_won(self):
+        """Behind presses that lose the level."""
+        lost, inputs = None, self.entries[1][1][1]
+        for count in range(len(inputs)):
+            for press in STEPS:
+                tried = [*inputs[:count], press, *inputs[count:]]
+                if shortest(behind(read(self.second), tried)) is None and not any(is_won(behind(read(self.second), tried[:it])) for it in range(len(tried) + 1)):
+                    lost = tried
+        self.assertIsNotNone(lost)
+        kept = max(it for it in range(len(lost) + 1) if shortest(behind(read(self.second), lost[:it])) is not None)
+        self.assertLess(kept, len(lost))
+        entry = ["lost", ["", lost, self.entries[1][1][2], 1], "solved"]
+        recordings = self.write_entries([entry])
+        answer = run("mend", self.game, recordings, "--in-place")
+        self.assertEqual(answer.status, 0, answer.out + answer.errors)
+        said, presses = self.told(answer, 0)
+        self.assertTrue(said.startswith(f"{kept} of its {len(lost)} inputs stay, and "), said)
+        self.assertEqual(len(presses), shortest(behind(read(self.second), lost[:kept])))
+        (name, (source, inputs, level, index), demand), = json.loads(recordings.read_text(encoding="utf-8"))
+        self.assertEqual((name, source, inputs, index, demand), ("lost", "", [*lost[:kept], *presses], 1, "solved"))
+        self.assertEqual(run("test", self.game, recordings).status, 0)
+
+    def test_what_was_taken_back_may_win_again(self):
+        """A level is lost, and then the press is taken back: all inputs stay."""
+        lost = behind(read(self.LOSING), [0])
+        self.assertIsNone(shortest(lost))
+        game = self.with_level(1, self.LOSING)
+        recordings = self.write_entries([["back", ["", [0, "undo"], self.entries[1][1][2], 1], "solved"]])
+        answer = run("mend", game, recordings, "--in-place")
+        self.assertEqual(answer.status, 0, answer.out + answer.errors)
+        said, presses = self.told(answer, 0)
+        self.assertEqual(said, f"all of its 2 inputs stay, and {shortest(read(self.LOSING))} presses follow")
+        self.assertTrue(wins_last(read(self.LOSING), presses))
+        self.assertEqual(run("test", game, recordings).status, 0)
+
+    def test_a_recording_that_is_to_win_no_level_is_mended_only_by_name(self):
+        answer = run("mend", self.game, self.recordings, "--in-place")
+        self.assertEqual((answer.status, json.loads(self.recordings.read_text(encoding="utf-8"))), (1, self.entries))
+        self.assertIn("session 4, a recording that has gone stale: differs: not mended: whether it is to win a level isn't known: --only NAME has it mended", answer.out)
+        answer = run("mend", self.game, self.recordings, "--only", "a recording*", "--in-place")
+        self.assertEqual(answer.status, 0, answer.out)
+        entries = json.loads(self.recordings.read_text(encoding="utf-8"))
+        self.assertEqual(entries[:4], self.entries[:4])
+        self.assertTrue(wins_last(read(self.first), entries[4][1][1]))
+        self.assertEqual(run("test", self.game, self.recordings).status, 0)
+
+    def test_what_can_not_be_mended_stays(self):
+        self.commit()
+        answer = run("mend", self.with_level(1, DEAD), self.recordings, "--in-place")
+        self.assertEqual((answer.status, json.loads(self.recordings.read_text(encoding="utf-8"))), (1, self.entries))
+        self.assertIn("session 1, the second level alone: differs: not mended: level 2, from its beginning, can't be won: no presses win it\n", answer.out)
+        self.assertTrue(answer.out.endswith("0 of 5 recordings mended\n"))
+        answer = run("mend", self.game, self.recordings, "--only", "no such")
+        self.assertEqual((answer.status, answer.out), (2, ""))
+        answer = run("mend", self.write("game.txt", self.source.replace("[ > Player | Crate ] ->", "[ > Player | Crat ] ->")), self.recordings)
+        self.assertEqual((answer.status, answer.out), (2, ""))
+        self.assertIn("is not played: ", answer.errors)
+        beyond = self.write_entries([["beyond", ["", [], self.entries[1][1][2], 9], "solved"]])
+        answer = run("mend", self.write("game.txt", self.source), beyond)
+        self.assertEqual(answer.status, 1)
+        self.assertIn("session 0, beyond: refused: not mended: it is not played: ", answer.out)
+
+
+class AnswersOfASolver(unittest.TestCase):
+    def test_a_line_is_an_answer(self):
+        for text, wanted in (
+            ({"solved": [0, 1, 2, 3, 4]}, Solved([0, 1, 2, 3, 4])),
+            ({"unsolvable": True}, Unsolvable()),
+            ({"outOfBounds": {"inputs": 3, "levels": 10}}, OutOfBounds(10, 3)),
+            ({"over": True}, Unasked("all levels are won")),
+            ({"stopped": True}, Unasked("the session was stopped before")),
+            ({"refused": True}, Unasked("the game is refused")),
+        ):
+            self.assertEqual(answer_in(json.dumps({"session": 0, "solution": text}).encode()), wanted)
+
+    def test_another_line_is_none(self):
+        for text in (b"", b"{}", b"[]", b'{"solution":{}}', b'{"solution":{"solved":[5]}}', b'{"solution":{"solved":[true]}}', b'{"solution":{"solved":[0],"over":true}}', b'{"solution":{"other":1}}', b"\xff", b"[" * 10_000):
+            with self.assertRaises(Refused, msg=text[:60]):
+                answer_in(text)
+
+    def test_a_solver_that_fails_or_does_not_end_is_told(self):
+        entry = Entry(0, "a", "title a\n", [], "", 0, {}, False)
+        for script, said in (("exit 3", "it ended with status 3"), ("echo no", "no answer"), ("echo read-fault >&2; exit 2", "read-fault")):
+            with mock.patch.object(solving, "solver_words", lambda: ["/bin/sh", "-c", script]), self.assertRaises(Refused) as caught:
+                solving.solution_of(entry, Bounds(1))
+            self.assertIn(said, str(caught.exception))
+        with mock.patch.object(solving, "solver_words", lambda: ["/bin/sh", "-c", "echo memory >&2; exit 2"]):
+            self.assertEqual(solving.solution_of(entry, Bounds(1)), Unasked("there is not enough memory: let it keep fewer (--levels)"))
+        self.assertEqual(solving.solution_of(entry, Bounds(1, end=0)), Unasked(solving.LATE))
+        with mock.patch.object(solving, "solver_words", lambda: ["/bin/sh", "-c", "sleep 60"]):
+            self.assertEqual(solving.solution_of(entry, Bounds(1, 0.2)), Unasked("not answered in 0.2 s"))
+
+    def test_the_levels_that_are_kept_have_room(self):
+        source = (Path(__file__).parent.parent / "examples/day/game.txt").read_text(encoding="utf-8")
+        small = Entry(0, "a", source, [], "", 0, {}, False)
+        self.assertEqual((Bounds(7).levels_for(small), solving.MOST_BYTES // solving.bytes_of_level(small)), (7, Bounds().levels_for(small)))
+        wide = small._replace(source=source + "\n" + "\n".join(["#" * 200] * 80) + "\n")
+        self.assertLess(Bounds().levels_for(wide) * 100, Bounds().levels_for(small))
