@@ -1,7 +1,7 @@
 // What an input led to, frame by frame: the ticks of `again` at the game's pace, and a won level for a moment before the next.
+import { settingsOf } from "./descriptions.mjs";
 import { firstFrom } from "./recording.mjs";
 import { framesOf, isPlayed, sourceOf } from "./replaying.mjs";
-import { cutAtSpace, fold, linesOf } from "./source.mjs";
 
 export const WON = 700; // milliseconds for which a won level is shown
 const TICK = 100; // milliseconds for which a tick is, where the game names no pace,
@@ -9,8 +9,7 @@ const LONGEST = 5000; // and at most
 
 // Milliseconds between two ticks of a game.
 export function paceOf(source) {
-  const named = linesOf(source).filter((line) => line.section === "prelude").map((line) => cutAtSpace(line.text)).find(([word]) => fold(word) === "again_interval");
-  const seconds = Number.parseFloat(named?.[1]);
+  const seconds = Number.parseFloat(settingsOf(source).find(({ keyword }) => keyword === "again_interval")?.value);
   return seconds > 0 ? Math.min(LONGEST, 1000 * seconds) : TICK;
 }
 

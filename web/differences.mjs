@@ -1,75 +1,85 @@
 // Where the site may decide otherwise: which of the differences of docs/differences.md a session that differs has the form of. The twin of
 // python/saxtegun/differences.py.
-import { shortened } from "./game.mjs";
-import { fold, linesOf, wordsOf } from "./source.mjs";
+import { before, descriptionOf, settingsOf } from "./descriptions.mjs";
+import { fold, shortened } from "./texts.mjs";
 
 const WHERE_TOLD = "docs/differences.md";
-const BRACKETS = /[[\]|]/g;
-const MOST_OF_A_RULE = 1000; // letters of a rule that are looked at
+const MOST_OF_A_RULE = 500; // words of a rule that are looked at,
+const MOST_OF_A_LINE = 1000; // and letters of its line
+const MOST_MOVED = 1000; // names that rules move that are looked at
 const MOST_PROPERTIES = 50; // properties of a source that are looked at
 const BEHIND_A_COMMENT = /\([^()]*\)\s*(?:again|win|restart|cancel|checkpoint|message|sfx\d+)\b/i;
 
-const ROW = /\[([^[\]]*)\]/g;
+const ROW_MARKS = ["[", "]", "|"];
+const COMMAND_WORD = /^(?:again|win|restart|cancel|checkpoint|message|sfx\d+)$/;
 const WORDS_THAT_TURN = new Set([..."^v<>", "parallel", "perpendicular"]);
 const DIRECTIONS = new Set(["up", "down", "left", "right", "horizontal", "vertical", "orthogonal"]);
 const BEFORE_A_NAME = new Set(["no", "action", "stationary", "moving", ...WORDS_THAT_TURN, ...DIRECTIONS]);
 const START = "run_rules_on_level_start";
 
-const rulesOf = (source) => linesOf(source).filter((line) => line.section === "rules").map(({ number, text }) => ({ number, text: fold(text) }));
+const hasKeyword = (source, word) => settingsOf(source).some(({ keyword }) => keyword === word);
+
+// The words of a rule left and right of its arrow, as far as they are looked at.
+function sidesOf({ words }) {
+  const looked = words.slice(0, MOST_OF_A_RULE), left = before("->", looked);
+  return { left, right: looked.slice(left.length + 1) };
+}
+
+const isLate = ({ words }) => before("[", words).includes("late");
 
 // The words on the left of rules, each with the first line that has it.
 function namesOnTheLeft(rules) {
   const found = new Map();
-  for (const { number, text } of rules) {
-    for (const word of wordsOf(text.split("->", 1)[0].replace(BRACKETS, " "))) if (!found.has(word)) found.set(word, number);
-  }
+  for (const { line, words } of rules) for (const word of before("->", words)) if (!found.has(word)) found.set(word, line);
   return found;
 }
 
 // The properties of one layer that stand on the left of a rule, [{ name, members, line }]: the first of them, since a source may have many.
 function propertiesOf(game, rules) {
-  const named = [...namesOnTheLeft(rules)].filter(([name]) => game.definitions.get(name)?.how === "or").slice(0, MOST_PROPERTIES);
+  const named = [...namesOnTheLeft(rules)].filter(([name]) => game.isProperty(name)).slice(0, MOST_PROPERTIES);
   return named.map(([name, line]) => ({ name, line, members: game.members(name) }))
     .filter(({ members }) => members.length > 1 && new Set(members.map((it) => game.layers.get(it))).size === 1);
 }
 
-const hasKeyword = (source, keyword) => linesOf(source).some((line) => line.section === "prelude" && wordsOf(fold(line.text))[0] === keyword);
+// Whether a comment stands directly before a command of a rule that has both.
+function isBehindAComment(rule, text, written) {
+  const hasBoth = sidesOf(rule).right.some((word) => COMMAND_WORD.test(word)) && text.length < written.trim().length;
+  return hasBoth && BEHIND_A_COMMENT.test(written.slice(0, MOST_OF_A_LINE).split("->").slice(1).join("->"));
+}
 
 // A form of a rule that the site reads otherwise, or nothing.
 function ruleTold(source, rules) {
-  let isLate = false;
-  for (const { number, text } of rules) {
-    const begin = text.split("[", 1)[0];
-    if (text.startsWith("+") && isLate && !begin.includes("late")) return `the rule on line ${number} has \`+\` below a late rule: on the site it isn't late`;
-    isLate = wordsOf(begin).includes("late") || (text.startsWith("+") && isLate);
+  let isBehindLate = false;
+  for (const rule of rules) {
+    const joins = rule.words[0] === "+";
+    if (joins && isBehindLate && !isLate(rule)) return `the rule on line ${rule.line} has \`+\` below a late rule: on the site it isn't late`;
+    isBehindLate = isLate(rule) || (joins && isBehindLate);
   }
-  const numbers = new Set(rules.map(({ number }) => number)), lines = source.split("\n");
-  const at = lines.findIndex((line, place) => numbers.has(place + 1) && BEHIND_A_COMMENT.test(line.slice(0, MOST_OF_A_RULE).split("->").slice(1).join("->")));
-  return at < 0 ? "" : `a comment stands before a command on line ${at + 1}: on the site it ends the rule`;
+  const written = source.split("\n"), texts = new Map(descriptionOf(source).lines.map(([number, , , text]) => [number, text]));
+  const found = rules.find((rule) => isBehindAComment(rule, texts.get(rule.line), written[rule.line - 1]));
+  return found === undefined ? "" : `a comment stands before a command on line ${found.line}: on the site it ends the rule`;
 }
-
-// A text before and behind the first place of another, and whether it stands there.
-function parted(text, by) {
-  const at = text.indexOf(by);
-  return at < 0 ? { before: text, behind: "", isThere: false } : { before: text.slice(0, at), behind: text.slice(at + by.length), isThere: true };
-}
-
-const wordsIn = (side) => wordsOf(side.replace(BRACKETS, " "));
-const sidesOf = (text) => parted(text.slice(0, MOST_OF_A_RULE), "->");
 
 // A rule of several rows of one cell, which the site scans in its own direction, or nothing.
 function scanTold(rules) {
-  for (const { number, text } of rules) {
-    const { before, behind, isThere } = sidesOf(text);
-    const isTurned = [...wordsIn(before), ...wordsIn(behind)].some((it) => WORDS_THAT_TURN.has(it)) || wordsOf(before.split("[", 1)[0]).some((it) => DIRECTIONS.has(it));
-    if (isThere && !before.includes("|") && before.split("[").length > 2 && behind.includes("[") && isTurned) {
-      return `the rows of the rule on line ${number} have one cell: on the site it takes places in its own direction, not column by column`;
-    }
-  }
-  return "";
+  const found = rules.find((rule) => {
+    const { left, right } = sidesOf(rule), isTurned = [...left, ...right].some((it) => WORDS_THAT_TURN.has(it)) || before("[", left).some((it) => DIRECTIONS.has(it));
+    return !left.includes("|") && left.filter((it) => it === "[").length > 1 && right.includes("[") && isTurned;
+  });
+  return found === undefined ? "" : `the rows of the rule on line ${found.line} have one cell: on the site it takes places in its own direction, not column by column`;
 }
 
-const cellsIn = (side) => [...side.matchAll(ROW)].flatMap(([, row]) => row.split("|"));
+// The cells of the rows of a side, by their words.
+function cellsIn(words) {
+  const cells = [];
+  let isIn = false;
+  for (const word of words) {
+    if (word === "[" || word === "|") cells.push([]);
+    else if (isIn && word !== "]") cells.at(-1).push(word);
+    isIn = word === "[" || (isIn && word !== "]");
+  }
+  return cells;
+}
 
 // The layers of the objects that names of a game stand for, as the bits of a number: that of a layer is at its number plus one, that of no layer is the
 // first. Each name is gone through once, since many words of rules may be one name of many objects.
@@ -79,27 +89,23 @@ class Layers {
   }
 
   of(name) {
-    const meaning = this.game.meaningOf(name);
-    if (!this.known.has(meaning)) this.known.set(meaning, this.bitsOf(this.game.members(meaning)));
-    return this.known.get(meaning);
-  }
-
-  bitsOf(members) {
-    const numbers = new Set(members.map((it) => (this.game.layers.get(it) ?? -1) + 1));
-    const most = members.length === 0 ? 0 : [...numbers].reduce((one, other) => Math.max(one, other));
-    return BigInt(`0b${Array.from({ length: most + 1 }, (_, place) => (numbers.has(most - place) ? "1" : "0")).join("")}`);
+    if (!this.known.has(name)) {
+      const numbers = this.game.members(name).map((it) => (this.game.layers.get(it) ?? -1) + 1);
+      this.known.set(name, numbers.reduce((bits, number) => bits | (1n << BigInt(number)), 0n));
+    }
+    return this.known.get(name);
   }
 
   // The names of a cell that have no word before them, each with its layers: { named, all }, the second of all its names.
   ofCell(cell) {
     const named = new Map();
-    let all = 0n, before = "";
-    for (const word of wordsOf(cell)) {
+    let all = 0n, above = "";
+    for (const word of cell) {
       if (!BEFORE_A_NAME.has(word)) {
         all |= this.of(word);
-        if (before === "") named.set(word, this.of(word));
+        if (above === "") named.set(word, this.of(word));
       }
-      before = BEFORE_A_NAME.has(word) ? word : "";
+      above = BEFORE_A_NAME.has(word) ? word : "";
     }
     return { named, all };
   }
@@ -108,24 +114,21 @@ class Layers {
 // The layers in which rules move something, and that of the player.
 function movedLayers(rules, layers) {
   const names = ["player"];
-  for (const { text } of rules) {
-    const words = wordsIn(sidesOf(text).behind);
+  for (const rule of rules) {
+    const words = sidesOf(rule).right.filter((it) => !ROW_MARKS.includes(it));
     words.slice(1).forEach((name, at) => { if (BEFORE_A_NAME.has(words[at]) && words[at] !== "no" && words[at] !== "stationary") names.push(name); });
   }
-  return names.slice(0, MOST_OF_A_RULE).reduce((all, name) => all | layers.of(name), 0n);
+  return names.slice(0, MOST_MOVED).reduce((all, name) => all | layers.of(name), 0n);
 }
 
 // A rule that places an object without a word where its left cell has nothing of its layer, and something may move; or nothing.
 function placedTold(game, rules) {
   const layers = new Layers(game), moved = movedLayers(rules, layers);
-  for (const { number, text } of rules) {
-    if (wordsOf(text.split("[", 1)[0]).includes("late")) continue;
-    const { before, behind } = sidesOf(text), lefts = cellsIn(before), rights = cellsIn(behind);
-    for (const [at, right] of rights.slice(0, lefts.length).entries()) {
-      const there = layers.ofCell(lefts[at]).all;
-      for (const [name, of] of layers.ofCell(right).named) {
-        if ((of & moved) !== 0n && (of & there) === 0n) return `the rule on line ${number} places \`${shortened(name)}\`, which takes over what moves in its layer: on the site it is still`;
-      }
+  for (const rule of rules.filter((it) => !isLate(it))) {
+    const { left, right } = sidesOf(rule), lefts = cellsIn(left);
+    for (const [at, cell] of cellsIn(right).slice(0, lefts.length).entries()) {
+      const there = layers.ofCell(lefts[at]).all, [name] = [...layers.ofCell(cell).named].find(([, of]) => (of & moved) !== 0n && (of & there) === 0n) ?? [];
+      if (name !== undefined) return `the rule on line ${rule.line} places \`${shortened(name)}\`, which takes over what moves in its layer: on the site it is still`;
     }
   }
   return "";
@@ -152,7 +155,7 @@ function heedlessTold(source, inputs) {
 
 // The difference that a session has most likely met, in a sentence without its end, or null.
 export function likelyTold({ source, game, inputs, frames }) {
-  const rules = rulesOf(source);
+  const { rules } = descriptionOf(source);
   const told = heedlessTold(source, inputs) || startTold(source, frames) || propertyTold(game, rules, frames[0]?.level) || ruleTold(source, rules) || scanTold(rules)
     || placedTold(game, rules);
   return told === "" ? null : `the site may decide otherwise: ${told} (${WHERE_TOLD})`;

@@ -1,11 +1,13 @@
 // Draws a level on a canvas, from the look of its game: { ground, objects }. The ground is a colour; each object is
 // [name, layer, colours, sprite], where a colour that is null is transparent, and a sprite is 25 letters (a digit for a colour,
-// or "." for none), or "" for a block of the first colour.
+// or "." for none), or "" for a block of the first colour. A game without objects is one that couldn't be read: its cells are drawn by letters.
 import { drawArrows } from "./arrows.mjs";
 import { differing, heightOf, isDrawn, numberAt, placeOf } from "./levels.mjs";
 
 export const SIDE = 5; // pixels of a sprite
 const ON_CANVAS = new WeakMap(); // for each canvas what it shows: { level, pictures, scale, marked }
+const LETTER = 40; // pixels of a cell that is drawn by a letter
+const BRIGHT = "#ffffff";
 const DARK = "#000000"; // of the inner line of a frame
 
 function paintObject(context, [, , colours, sprite]) {
@@ -18,11 +20,19 @@ function paintObject(context, [, , colours, sprite]) {
   }
 }
 
+// Draws a cell by the first letter of a name in it, that of the background only where there is no other.
+function paintLetter(context, names) {
+  const name = names.find((it) => it !== "background") ?? names[0] ?? " ";
+  Object.assign(context, { font: `${0.8 * LETTER}px monospace`, fillStyle: BRIGHT, textAlign: "center", textBaseline: "middle" });
+  context.fillText(name === "background" ? "." : [...name][0], LETTER / 2, LETTER / 2);
+}
+
 // The pictures of a game's cells, each drawn once. `labels` says for a label which objects stand in the cell, by their names.
 export class Pictures {
   constructor(look, labels) {
     this.ground = look.ground;
     this.objects = new Map(look.objects.map((object) => [object[0], object]));
+    this.side = look.objects.length === 0 ? LETTER : SIDE;
     this.labels = labels;
     this.pictures = new Map();
   }
@@ -34,11 +44,12 @@ export class Pictures {
 
   paint(names) {
     const picture = document.createElement("canvas");
-    picture.width = SIDE;
-    picture.height = SIDE;
+    picture.width = this.side;
+    picture.height = this.side;
     const context = picture.getContext("2d");
     context.fillStyle = this.ground;
-    context.fillRect(0, 0, SIDE, SIDE);
+    context.fillRect(0, 0, this.side, this.side);
+    if (this.side === LETTER) paintLetter(context, names);
     const objects = names.map((name) => this.objects.get(name)).filter(Boolean);
     objects.sort((one, other) => one[1] - other[1]).forEach((object) => paintObject(context, object));
     return picture;

@@ -10,6 +10,7 @@ import { StagesPanel } from "./stages-panel.mjs";
 import { chosenStage, stagesNow } from "./staging.mjs";
 import { Strip } from "./strip.mjs";
 import { SessionList } from "./session-list.mjs";
+import { isSolvable, solutionNow, solutionTold } from "./solving.mjs";
 import { SourcePanel } from "./source-panel.mjs";
 import { isSavable, namesakeOf } from "./filing.mjs";
 import { framesOf, gameOf, isAtEnd, isPlayed, shownOf, sourceOf, takenOf } from "./replaying.mjs";
@@ -51,26 +52,33 @@ export class Drawn {
 
   draw(state, doing, isBusy) {
     const when = (...words) => this.changes.when(...words);
-    const frames = framesOf(state), shown = shownOf(state), isNow = isPlayed(state), isStage = chosenStage(state) !== null;
+    const frames = framesOf(state), shown = shownOf(state), isNow = isPlayed(state);
     this.drawTabs(state);
     this.panel.set(state.text);
     when("fault", [state.played, state.text, isNow], () => this.panel.showFault(faultOfText(state)));
-    when("levels", [sourceOf(state), state.work.index], () => this.drawLevels(state));
+    if (!doing.isTyping) this.drawRead(state, when);
     when("recording", [frames, shown, state.work.inputs, state.played], () => this.drawRecording(state));
-    when("level", [frames, shown, state.order, state.suite, state.comparison, state.file, state.work, isStage && state.staging.came, chosenStage(state), at("stage").clientWidth], () => this.level.draw(state));
     when("likely", [sourceOf(state), state.work, state.suite, state.played, state.file], () => this.level.drawLikely(state));
     when("stages", [state.staging.isOpen, stagesNow(state), chosenStage(state)], () => this.stages.draw(state));
     when("acted", [state.staging, state.played, shown, state.work, state.order, state.text, doing.coverage], () => this.stages.drawActed(state, doing.coverage, this.panel));
     tell("status", statusOf(state));
     say("own", ownTold(state));
     at("take-text").hidden = state.work.own === null;
-    this.drawClock(clockTold(state));
+    if (!doing.isTyping) this.drawClock(clockTold(state));
     this.drawMessage(state.messages[0]);
     this.drawPlaying(state, doing.play);
     this.drawButtons(state);
+    this.drawSolving(state, doing.solution);
     this.drawFile(state, doing.suite);
     when("list", [state.file, state.suite, state.comparison, state.seen, state.work.opened, state.text, state.order, state.isHeld, state.isTicked], () => this.list.show(rowsOf(state), state.work.opened));
     document.documentElement.dataset.busy = String(isBusy);
+  }
+
+  // What is read of the text: not while it is being typed.
+  drawRead(state, when) {
+    const isStage = chosenStage(state) !== null;
+    when("levels", [sourceOf(state), state.work.index], () => this.drawLevels(state));
+    when("level", [framesOf(state), shownOf(state), state.order, state.suite, state.comparison, state.file, state.work, isStage && state.staging.came, chosenStage(state), at("stage").clientWidth], () => this.level.draw(state));
   }
 
   drawTabs(state) {
@@ -132,6 +140,17 @@ export class Drawn {
     if (at("name").value !== state.work.name) at("name").value = state.work.name;
     for (const button of at("pad").querySelectorAll("button")) button.disabled = !isPlayable && isPlayed(state);
     say("saved", state.saved);
+  }
+
+  // What is looked for that wins, and what was found.
+  drawSolving(state, search) {
+    const isFound = solutionNow(state) !== null, { ghost } = state;
+    at("solve").disabled = !isSolvable(state) || search !== null;
+    at("stop-solve").hidden = search === null;
+    for (const id of ["show-solution", "take-solution"]) at(id).hidden = !isFound;
+    at("show-solution").setAttribute("aria-pressed", String(ghost !== undefined));
+    at("stage").classList.toggle("ghost", ghost !== undefined);
+    say("solution", ghost === undefined ? solutionTold(state) : `A ghost shows press ${ghost.count} of ${ghost.of}: it stands in no recording.`);
   }
 
   drawFile(state, suite) {

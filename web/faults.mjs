@@ -1,8 +1,9 @@
 // What the cause of a session is, in words, with the culprit: the name that isn't there, the keyword that isn't played, the lines of a loop. The
 // twin of what python/saxtegun/explanations.py and culprits.py say.
-import { nameLinesOf, shortened } from "./game.mjs";
+import { before, descriptionOf, settingsOf } from "./descriptions.mjs";
 import { nearest } from "./nearest.mjs";
-import { fold, lineOf, linesOf, readSource, wordsOf } from "./source.mjs";
+import { fold, shortened } from "./texts.mjs";
+import { CLOCK } from "./ticks.mjs";
 
 const STOPS = {
   "loop-limit": "a group of rules or a loop still changed something in its 200th pass",
@@ -35,10 +36,9 @@ const FAULTS = {
 };
 const OF_THE_WHOLE = { Section: "a section that must be there is missing" };
 const NEEDED = ["objects", "legend", "collisionlayers", "levels"]; // the sections that must be there
-const OUTSIDE = ["random", "randomdir", "rigid", "realtime_interval"];
-const SYNTAX = /[[\]|,=]|->|\.\.\./g;
+const OUTSIDE = ["random", "randomdir", "rigid"];
 const RULE_WORDS = new Set((
-  "up down left right late rigid random randomdir horizontal vertical orthogonal moving stationary perpendicular parallel action no "
+  "[ ] | -> ... up down left right late rigid random randomdir horizontal vertical orthogonal moving stationary perpendicular parallel action no "
   + "> < ^ v + startloop endloop cancel checkpoint restart win again message all any some on and or").split(" "));
 const COMMAND = /^sfx\d+$/;
 const MOST_LINES = 8;
@@ -65,80 +65,105 @@ function quoted(words, tell = (word) => `\`${shortened(word)}\``) {
   return told.length > 0 ? `: ${told.join(", ")}${more}` : "";
 }
 
-const namesIn = (game) => new Set([...game.firstNames.keys(), ...game.definitions.keys()]);
+// All names, as they are compared.
+const namesIn = ({ objects, legend }) => new Set([...objects.flatMap(({ names }) => names), ...legend.map(({ left }) => left[0])].map(fold));
 
-// The words of a line that are neither a name nor a word of the language, as they stand there.
-function unknownIn(line, game) {
-  const known = namesIn(game);
-  const text = line.section === "legend" ? line.text.slice(line.text.includes("=") ? line.text.indexOf("=") + 1 : line.text.length) : line.text.replace(SYNTAX, " ");
-  return [...new Set(wordsOf(text))].filter((word) => !known.has(fold(word)) && !RULE_WORDS.has(fold(word)) && !COMMAND.test(fold(word)));
+// The words of a line, which are told in small letters, as they are written there.
+function asWritten({ lines }, { line, words }) {
+  const [, , , text] = lines.find(([number]) => number === line), small = fold(text);
+  let at = 0;
+  return words.map((word) => {
+    const begin = small.indexOf(word, at);
+    at = begin + word.length;
+    return text.slice(begin, at);
+  });
 }
 
-// Which name isn't there, and the nearest one that is.
-function unknownTold(line, game) {
-  if (line === null) return "";
-  const names = namesIn(game);
-  return quoted(unknownIn(line, game), (word) => {
+// The words of a line in which names may stand, as they are written there.
+function wordsAt(told, number) {
+  const definition = told.legend.find(({ line }) => line === number);
+  if (definition !== undefined) return definition.right;
+  const layers = told.layers.map(({ line, names }) => ({ line, words: names })), found = [...layers, ...told.rules, ...told.wins].find(({ line }) => line === number);
+  return found === undefined ? [] : asWritten(told, found).slice(0, before("message", found.words).length);
+}
+
+// The words of a line that are neither a name nor a word of the language, and for each the nearest name that is there.
+function unknownTold(told, number) {
+  const names = namesIn(told), isKnown = (word) => names.has(word) || RULE_WORDS.has(word) || COMMAND.test(word);
+  return quoted(wordsAt(told, number).filter((word) => !isKnown(fold(word))), (word) => {
     const near = nearest(fold(word), names);
     return `\`${shortened(word)}\`${near === null ? "" : ` (near: \`${shortened(near)}\`)`}`;
   });
 }
 
-// The letters of a row of a level that draw nothing, as far as the row is read.
-function glyphsTold(source, game, number) {
-  let width = 0;
-  for (const line of linesOf(source).filter((it) => it.section === "levels" && it.number <= number)) {
-    // a level is as wide as its first row, behind an empty line or a message
-    const isRow = line.text !== "" && fold(line.text.split(" ", 1)[0]) !== "message";
-    width = isRow ? width || [...line.text].length : 0;
-    if (line.number === number) return quoted([...line.text].slice(0, width).filter((letter) => !game.draws(fold(letter))));
-  }
-  return "";
+// Tells of a name what it is in the end, behind its synonyms: "object", or a name joined by "and" or by "or".
+function kinds({ objects, legend }) {
+  const ofObjects = new Set(objects.flatMap(({ names }) => names).map(fold)), rights = new Map();
+  for (const { left, right } of legend) if (!rights.has(fold(left[0]))) rights.set(fold(left[0]), right.map(fold));
+  const known = new Map(); // what is found out is kept for all synonyms on the way
+  return (name) => {
+    const way = new Set();
+    let word = name;
+    while (!known.has(word) && !ofObjects.has(word) && rights.get(word)?.length === 1 && !way.has(word)) {
+      way.add(word);
+      [word] = rights.get(word);
+    }
+    const kind = known.get(word) ?? (ofObjects.has(word) ? "object" : rights.get(word)?.[1]);
+    for (const synonym of way) known.set(synonym, kind);
+    return kind;
+  };
+}
+
+// The letters of a row of a level that draw nothing, as far as the row is read: a level is as wide as its first row.
+function glyphsTold(told, number) {
+  const places = new Map(told.lines.filter(([, section, isHeading]) => section === "levels" && !isHeading).map(([line], place) => [line, place]));
+  const rowIn = ({ line, rows }) => rows?.[places.get(number) - places.get(line)], level = told.levels.find((it) => rowIn(it) !== undefined), kindOf = kinds(told);
+  if (level === undefined) return "";
+  return quoted([...rowIn(level)].slice(0, [...level.rows[0]].length).filter((letter) => !["object", "and"].includes(kindOf(fold(letter)))));
 }
 
 // The names of a line that are there already, in it or above it.
-function againTold(source, number) {
-  const names = new Set(), ofObjects = nameLinesOf(source);
-  for (const line of linesOf(source).filter((it) => ofObjects.has(it.number) || it.section === "legend")) {
-    const words = wordsOf(line.section === "objects" ? line.text : line.text.slice(0, line.text.indexOf("=", 1)));
-    const folded = words.map(fold);
-    const again = words.filter((_, place) => names.has(folded[place]) || names.size === names.add(folded[place]).size);
-    if (line.number === number) return quoted(again);
+function againTold({ objects, legend }, number) {
+  const known = new Set(), lines = [...objects.map(({ line, names }) => [line, names]), ...legend.map(({ line, left }) => [line, left])];
+  for (const [line, words] of lines.sort(([one], [other]) => one - other)) {
+    const again = words.filter((word) => known.size === known.add(fold(word)).size);
+    if (line === number) return quoted(again);
   }
   return "";
 }
 
 // Which of the two names that must be there is no object and no property.
-function missingTold(game) {
-  const isThere = (name) => game.members(name).length > 0 && !(game.draws(name) && !game.firstNames.has(name));
-  return quoted(["background", "player"].filter((name) => !isThere(name)));
+function missingTold(told) {
+  const kindOf = kinds(told);
+  return quoted(["background", "player"].filter((name) => !["object", "or"].includes(kindOf(name))));
 }
 
 // Which sections are missing.
-function missingSectionsTold(source) {
-  const { headings } = readSource(source);
-  return quoted(NEEDED.filter((name) => !headings.includes(name)).map((name) => name.toUpperCase()));
+function missingSectionsTold({ lines }) {
+  const headings = new Set(lines.filter(([, , isHeading]) => isHeading).map(([, section]) => section));
+  return quoted(NEEDED.filter((name) => !headings.has(name)).map((name) => name.toUpperCase()));
 }
 
 // The keyword of a line that isn't played here, or the row with two `...`.
-function outsideTold(source, number, line) {
-  const text = line?.text ?? lineOf(source, number) ?? "";
-  const words = wordsOf(fold(text.replace(SYNTAX, " "))), found = OUTSIDE.find((word) => words.includes(word));
+function outsideTold(source, number) {
+  const words = before("message", descriptionOf(source).rules.find(({ line }) => line === number)?.words ?? []);
+  const found = settingsOf(source).some(({ line, keyword }) => line === number && keyword === CLOCK) ? CLOCK : OUTSIDE.find((word) => words.includes(word));
   if (found) return `; here it is \`${found}\``;
-  return text.split("...").length > 2 ? "; here it is a row with two `...`" : "";
+  return words.filter((word) => word === "...").length > 1 ? "; here it is a row with two `...`" : "";
 }
 
 // What of a line is the culprit of a fault, in words that go on behind its sentence, or nothing.
-function culpritOfFault({ code, line: number }, source, game) {
-  const line = linesOf(source).find((it) => it.number === number) ?? null;
+function culpritOfFault({ code, line }, source) {
+  const told = descriptionOf(source);
+  if (told.why !== undefined) return "";
   switch (code) {
-    case "Section": return number === 0 ? missingSectionsTold(source) : "";
-    case "Unknown": return unknownTold(line, game);
-    case "OutsideProfile": return outsideTold(source, number, line);
-    case "BadGlyph": return glyphsTold(source, game, number);
-    case "Duplicate": return againTold(source, number);
-    case "NoLayer": return quoted(line === null ? [] : wordsOf(line.text).slice(0, 1));
-    case "Missing": return missingTold(game);
+    case "Section": return line === 0 ? missingSectionsTold(told) : "";
+    case "Unknown": return unknownTold(told, line);
+    case "OutsideProfile": return outsideTold(source, line);
+    case "BadGlyph": return glyphsTold(told, line);
+    case "Duplicate": return againTold(told, line);
+    case "NoLayer": return quoted(told.objects.filter((it) => it.line === line).map(({ names }) => names[0]));
+    case "Missing": return missingTold(told);
     default: return "";
   }
 }
@@ -147,17 +172,16 @@ function culpritOfFault({ code, line: number }, source, game) {
 function repeatedIn(source) {
   const found = [];
   let begin = null, group = [];
-  const lines = linesOf(source).filter((line) => line.section === "rules" && line.text !== "");
-  for (const { number, text } of [...lines, { number: 0, text: "" }]) {
-    if (!text.startsWith("+")) {
+  for (const { line, words } of [...descriptionOf(source).rules, { line: 0, words: [""] }]) {
+    if (words[0] !== "+") {
       if (group.length > 0) found.push({ first: group[0], last: group.at(-1), isLoop: false });
       group = [];
     }
-    if (fold(text) === "startloop") begin = number;
-    else if (fold(text) === "endloop" && begin !== null) {
-      found.push({ first: begin, last: number, isLoop: true });
+    if (words[0] === "startloop") begin = line;
+    else if (words[0] === "endloop" && begin !== null) {
+      found.push({ first: begin, last: line, isLoop: true });
       begin = null;
-    } else group.push(number);
+    } else group.push(line);
   }
   return found;
 }
@@ -190,8 +214,8 @@ function stopTold(cause, source, inputs, frames) {
 }
 
 // Why a session was refused or stopped: a sentence, and the line that is named, or null. `frames` are those that it showed.
-export function culpritTold(cause, { source, inputs, game, frames = [] }) {
+export function culpritTold(cause, { source, inputs, frames = [] }) {
   const fault = faultIn(cause);
-  const behind = fault ? culpritOfFault(fault, source, game) : ["loop-limit", "again-limit", "match-limit"].includes(cause) ? stopTold(cause, source, inputs, frames) : "";
+  const behind = fault ? culpritOfFault(fault, source) : ["loop-limit", "again-limit", "match-limit"].includes(cause) ? stopTold(cause, source, inputs, frames) : "";
   return { sentence: `${causeTold(cause)}${behind}`, line: fault && fault.line > 0 ? fault.line : null };
 }

@@ -1,8 +1,9 @@
 // Recordings that were found in a text, as sessions of a file: their names, those that are there already, and what is said of the rest. The twin of
 // python/saxtegun/recordings.py.
+import { descriptionOf } from "./descriptions.mjs";
 import { plural } from "./elements.mjs";
-import { Game, entriesOfLevels } from "./game.mjs";
-import { fold, isSpace, readSource } from "./source.mjs";
+import { entriesOfLevels, titleOf } from "./game.mjs";
+import { fold, withoutEnd } from "./texts.mjs";
 
 const HOW = "in PuzzleScript's editor play, press Ctrl+J, and copy all that the console prints then";
 const SKIPPED = {
@@ -27,14 +28,9 @@ export function allSkippedTold(skipped) {
 export function nothingTold(text) {
   if (text.trim() === "") return `it is empty: ${HOW}`;
   if (text.includes('"source"') && text.includes("{")) return `${OBJECTS}: ${HOW}`;
-  return readSource(text).headings.length > 0 ? null : `it has no recording, and is no text of a game, since it has no heading as OBJECTS or LEVELS: ${HOW}`;
-}
-
-// A text without the white space of a game behind its last line.
-function withoutEnd(text) {
-  let end = text.length;
-  while (isSpace(text[end - 1])) end -= 1;
-  return text.slice(0, end);
+  const { lines, fault, why } = descriptionOf(text);
+  if (fault?.code === "TooLong") return `it has no recording, and is longer than a game's text may be: ${HOW}`;
+  return why !== undefined || lines.some(([, , isHeading]) => isHeading) ? null : `it has no recording, and is no text of a game, since it has no heading as OBJECTS or LEVELS: ${HOW}`;
 }
 
 // A text without what two that are the same may differ in: how lines end, and what stands behind the last. One that is too long to be played stays as it
@@ -55,7 +51,7 @@ class Titles {
     if (!this.known.has(source)) {
       const numbers = [1];
       for (const rows of entriesOfLevels(source)) numbers.push(numbers.at(-1) + (rows.length > 0));
-      this.known.set(source, { title: new Game(source).title, numbers });
+      this.known.set(source, { title: titleOf(source), numbers });
     }
     return this.known.get(source);
   }

@@ -2,7 +2,8 @@
 import { forgetNote, namesNoted, noted, noteDown } from "./notes.mjs";
 import { FIRST, formerVisit, giveBack, isFree, newName, noteLeaving, noteName } from "./visits.mjs";
 
-const DATABASE = "saxtegun", STORE = "kept";
+const DATABASE = "saxtegun";
+const STORE = "kept";
 const PATIENCE = 5000; // milliseconds that a page that was left may take to be gone
 const LATE = 2000; // milliseconds that the database may take before it is said that it hasn't kept the last changes
 

@@ -3,7 +3,7 @@ import { isPlayOf } from "./replaying.mjs";
 import { MOST_INPUTS } from "./session-file.mjs";
 import { playedText } from "./ticks.mjs";
 
-// The last win shows no frame of its own; with one more input that runs no rule, play that is over shows it.
+// The press that wins the last level shows a `move`, as others do; that play is over then is shown behind one more input, which runs no rule.
 export const ONE_MORE = "undo";
 
 // How many inputs two lists begin with that are the same.

@@ -1,5 +1,5 @@
 // Level texts, read as docs/sessions.md has them: cells as labels of sets of names. The twin of python/saxtegun/levels.py.
-import { fold } from "./source.mjs";
+import { fold } from "./texts.mjs";
 
 const MOST_DIGITS = 9; // more cells than any level has
 

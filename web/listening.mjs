@@ -4,13 +4,14 @@ import { download, fileNameOf } from "./handing.mjs";
 import { meaningOf, swipeOf } from "./keys.mjs";
 import { accepted, followed, namesakeOf, removed, withOtherFile } from "./filing.mjs";
 import { gameOf } from "./replaying.mjs";
+import { solutionTaken, solveAsked, solveStopped } from "./solving.mjs";
 import { coverageStopped, covered, opened, stageStepped } from "./staging.mjs";
 import { differenceOf, playedAgain, seenOf } from "./suite.mjs";
-import { ACTION, begunAnew, cutBack, fromLevel, inOrder, named, putBack, released, ticked, withOwnText } from "./work.mjs";
+import { ACTION, begunAnew, fromLevel, inOrder, named, putBack, released, ticked, withOwnText } from "./work.mjs";
 
 function movesOf(page) {
   return {
-    back: () => page.step(-1), on: () => page.step(1), first: () => page.step(-Infinity), last: () => page.step(Infinity), cut: () => page.act(cutBack), play: () => page.playFrames(),
+    back: () => page.step(-1), on: () => page.step(1), first: () => page.step(-Infinity), last: () => page.step(Infinity), cut: () => page.cut(), play: () => page.playFrames(),
     next: () => page.openNext(1, false), previous: () => page.openNext(-1, false), "next-failure": () => page.openNext(1, true), "previous-failure": () => page.openNext(-1, true),
     larger: () => page.page.boards.zoomBy(1), smaller: () => page.page.boards.zoomBy(-1), fit: () => page.page.boards.fit(), blink: () => page.page.boards.blink(),
     "stage-back": () => page.act(stageStepped, -1), "stage-on": () => page.act(stageStepped, 1),
@@ -79,6 +80,10 @@ function listenToButtons(page, moves) {
   click("stop-play", () => page.runner.stopPlay());
   click("begin-play", () => page.act(released));
   click("save-game", () => download(fileNameOf(gameOf(page.state.text).title), page.state.text));
+  click("solve", () => page.act(solveAsked));
+  click("stop-solve", () => page.act(solveStopped));
+  click("show-solution", () => page.haunt());
+  click("take-solution", () => page.act(solutionTaken));
   click("cover", () => page.act(covered));
   click("stop-cover", () => page.act(coverageStopped));
   at("stages-panel").addEventListener("toggle", () => page.act(opened, at("stages-panel").open));

@@ -1,18 +1,8 @@
 // The messages of LEVELS, where the site shows them: where a game begins, before a level that comes next, and behind the last.
-import { cutAtSpace, fold, linesOf, trimmed } from "./source.mjs";
+import { descriptionOf } from "./descriptions.mjs";
 
 // The entries of LEVELS: the text of a message, or null for a level.
-export function messagesOf(source) {
-  const found = [];
-  let isInLevel = false;
-  for (const { text } of linesOf(source).filter((line) => line.section === "levels")) {
-    const [word, rest] = cutAtSpace(text), isMessage = fold(word) === "message";
-    if (isMessage) found.push(trimmed(rest));
-    else if (text !== "" && !isInLevel) found.push(null);
-    isInLevel = text !== "" && !isMessage;
-  }
-  return found;
-}
+export const messagesOf = (source) => descriptionOf(source).levels.map(({ message }) => message ?? null);
 
 // The messages directly before an entry.
 function messagesBefore(entries, index) {

@@ -1,7 +1,8 @@
 // What is noted of a value where the database doesn't have it yet: a page that is left has no time for that. A browser has little room for notes, so what
 // the database surely has is left out of them.
 const NOTE = "saxtegun-left ";
-const decoder = new TextDecoder("utf-8", { ignoreBOM: true }), encoder = new TextEncoder();
+const decoder = new TextDecoder("utf-8", { ignoreBOM: true });
+const encoder = new TextEncoder();
 
 // A value as a text. Bytes of it are those of texts.
 export const textOfValue = (value) => JSON.stringify(value, (_, it) => (it instanceof Uint8Array ? { text: decoder.decode(it) } : it));

@@ -1,5 +1,6 @@
-// The engine in the page: the module that stands in it, played in workers alone, so that the page answers whatever a game does.
+// The engine in the page: the module that stands in it. Games are played in workers alone, so that the page answers whatever a game does.
 import { load } from "../engine/saxtegun.mjs";
+import { readBy } from "./descriptions.mjs";
 import { at } from "./elements.mjs";
 import { KeptOpen, ONE_MORE } from "./kept-open.mjs";
 import { MOST_INPUTS } from "./session-file.mjs";
@@ -48,6 +49,15 @@ export function actedBy(engine, { source, index, order, inputs, isTicked, from, 
     lines.push([...new Set(stages.flatMap((stage) => stage.lines ?? []))]);
   }
   return { lines, fault: null };
+}
+
+// What wins a recording from where it ends, and the frames that this shows: { solution, frames, fault }.
+export function solutionBy(engine, { source, index, order, inputs, isTicked, levels }) {
+  if (!engine.hasSolutions) return { solution: null, frames: [], fault: "no-solutions" };
+  const played = playedText(source, isTicked), found = engine.solution({ source: played, index, inputs }, { levels }), presses = found.solution?.solved;
+  if (presses === undefined) return { ...found, frames: [] };
+  const shown = engine.frames({ source: played, index, inputs: [...inputs, ...presses] }, { order, from: inputs.length + 1 });
+  return { solution: shown.fault === null ? found.solution : null, frames: shown.frames, fault: shown.fault };
 }
 
 // A worker that answers one question at a time. One whose answer isn't wanted any more is given a moment, and then ended, whatever it does.
@@ -113,10 +123,11 @@ function hand(answer) {
 // What the worker does: it answers whatever it is asked, also where it can't. Behind what it played it keeps a session open, to which a key is given alone.
 export function servePlayer() {
   let engine = null, open = null, timer = 0;
-  const answerTo = async ({ wanted, staged, covered, bytes, order }) => {
+  const answerTo = async ({ wanted, staged, covered, sought, bytes, order }) => {
     const module = await engine;
     if (wanted) return (await open).played(wanted) ?? playedBy(module, wanted);
     if (staged) return stagesBy(module, staged);
+    if (sought) return solutionBy(module, sought);
     return covered ? actedBy(module, covered) : module.replay(bytes, { order });
   };
   const follow = (wanted) => open.then((kept) => kept.follow(wanted)).catch(() => {});
@@ -124,6 +135,7 @@ export function servePlayer() {
     if (data.wanted) clearTimeout(timer);
     if (data.module) {
       engine = load(data.module);
+      engine.then(readBy).catch(() => {});
       open = engine.then((module) => new KeptOpen(module));
       open.catch(() => {});
       return;
@@ -150,11 +162,18 @@ export async function startEngine() {
   const address = URL.createObjectURL(new Blob([at("script").textContent], { type: "text/javascript" }));
   const begin = (name) => new Worker(address, { name });
   const engine = await load(module, { worker: begin }), [player, few] = [new PlayerThread(begin, module), new PlayerThread(begin, module)];
+  readBy(engine);
   // few sessions are played by a worker that is there already
   const playAll = async (bytes, options) => {
     const answer = bytes.length > FEW ? null : await soon(few, { bytes, order: options.order }, options.signal);
     return answer ?? engine.replayInWorkers(bytes, options);
   };
+  // each search has a worker of its own, with which what it has kept is given back
+  const solution = async (question, signal) => {
+    const solver = new PlayerThread(begin, module), answer = await solver.ask({ sought: question }, signal);
+    solver.end();
+    return answer;
+  };
   const asked = (kind) => (question, signal) => player.ask({ [kind]: question }, signal);
-  return { play: asked("wanted"), stages: asked("staged"), acted: asked("covered"), playAll };
+  return { play: asked("wanted"), stages: asked("staged"), acted: asked("covered"), solution, playAll };
 }

@@ -75,7 +75,7 @@ export class Player {
   }
 
   showSource() {
-    const lines = this.session.source;
+    const { source } = this.session, lines = typeof source === "number" ? json(`session-${source}`).source : source;
     at("source").hidden = lines.length === 0;
     fill(at("source"), lines.map(([number, text, isHere]) => make("span", isHere ? "row here" : "row", `${String(number).padStart(5)}  ${text}`)));
   }

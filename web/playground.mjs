@@ -2,6 +2,7 @@
 // the next (work.mjs, suite.mjs), which is drawn (drawn.mjs), played (running.mjs) and kept (keeping.mjs).
 import { Animation } from "./animating.mjs";
 import { Drawn } from "./drawn.mjs";
+import { Ghost } from "./ghost.mjs";
 import { at, isMotionReduced, json } from "./elements.mjs";
 import { download, handed, takeFiles } from "./handing.mjs";
 import { keptOf, stateOfVisit } from "./kept-work.mjs";
@@ -17,7 +18,7 @@ import { keepingTold, visitTold } from "./page-words.mjs";
 import { say } from "./saying.mjs";
 import { linePointedAt, lookedAtActed, stageChosen } from "./staging.mjs";
 import { sessionOpened } from "./suite.mjs";
-import { RECORDED_ORDER, edited, inOrder, lookedAt, lookedAtInput, pressed, released, withGame } from "./work.mjs";
+import { RECORDED_ORDER, cutBack, edited, inOrder, lookedAt, lookedAtInput, pressed, released, withGame } from "./work.mjs";
 
 const FRAME_PAUSE = 160; // milliseconds between two frames when playing
 
@@ -33,6 +34,7 @@ class Playground {
     };
     this.page = new Drawn(acts);
     this.animation = new Animation(() => this.runner.show(), isMotionReduced);
+    this.ghost = new Ghost(() => this.runner.show());
     this.runner = new Runner(state, { engine, draw: (...words) => this.draw(...words), keep: (...words) => this.keep(...words) });
   }
 
@@ -42,18 +44,20 @@ class Playground {
 
   draw(state, ...words) {
     this.animation.follow(state);
-    this.page.draw(this.animation.seen(state), ...words);
+    this.page.draw(this.ghost.seen(this.animation.seen(state)), ...words);
   }
 
   // Does something to the state. Frames that are shown one after another stop.
   act(change, ...words) {
     this.pause();
     this.animation.end();
+    this.ghost.end();
     this.runner.update((state) => change(state, ...words));
   }
 
   // Takes a key. What it led to before is shown to its end first; a message that comes there waits for a key of its own.
   press(input) {
+    if (this.ghost.end()) return this.runner.show();
     if (this.animation.end() && this.state.messages.length > 0) return this.runner.show();
     return this.act(pressed, input);
   }
@@ -67,6 +71,7 @@ class Playground {
   }
 
   playFrames() {
+    this.ghost.end();
     if (this.timer !== 0) return this.pause();
     if (this.state.isHeld) return this.act(released);
     if (framesOf(this.state).length < 2) return null;
@@ -77,6 +82,20 @@ class Playground {
       if (isAtEnd(this.state)) this.pause();
     }, FRAME_PAUSE);
     return this.timer;
+  }
+
+  // Leaves out inputs; under a ghost it ends that first, as a key does.
+  cut() {
+    if (this.ghost.end()) this.runner.show();
+    else this.act(cutBack);
+  }
+
+  // Shows the presses that win, or no longer.
+  haunt() {
+    this.pause();
+    this.animation.end();
+    if (this.ghost.end()) this.runner.show();
+    else this.ghost.begin(this.state);
   }
 
   step(count) {

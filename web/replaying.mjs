@@ -78,7 +78,7 @@ export function causeOf(cause, { source, inputs, frames }) {
   if (cause === "engine:memory") return { sentence: "its frames need more memory than a page has: leave out inputs, or look at it by the command", line: null };
   if (cause.startsWith("engine:")) return { sentence: `the engine gave no answer: ${refusalTold(cause.slice(7))}`, line: null };
   if (source.trim() === "") return { sentence: "there is no text of a game: open it, paste it, or write it here", line: null };
-  return culpritTold(cause, { source, inputs, game: gameOf(source), frames });
+  return culpritTold(cause, { source, inputs, frames });
 }
 
 // The keys that wait behind one that was left out: where they were pressed.

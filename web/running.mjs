@@ -2,6 +2,7 @@
 import { playedInParts } from "./parts.mjs";
 import { answered, isWanted, wantedPlay } from "./replaying.mjs";
 import { coverageCame, isCoverageWanted, isStagesWanted, stagesCame, wantedCoverage, wantedStages } from "./staging.mjs";
+import { isSolutionWanted, solutionCame, wantedSolution } from "./solving.mjs";
 import { seeing, suiteCame, wantedSuite } from "./suite.mjs";
 import { playedText } from "./ticks.mjs";
 import { held } from "./work.mjs";
@@ -10,12 +11,12 @@ const SLOW = 500; // milliseconds, after which it is said that something is bein
 const TYPING_PAUSE = 250; // milliseconds without a letter, after which what was typed is played
 
 export class Runner {
-  // engine.play, engine.stages and engine.acted, each of (request, signal), and engine.playAll(bytes, { order, signal, progress }) are asked; draw(state, doing, isBusy) shows what there
+  // engine.play, engine.stages, engine.acted and engine.solution, each of (request, signal), and engine.playAll(bytes, { order, signal, progress }) are asked; draw(state, doing, isBusy) shows what there
   // is, and keep(state, isPlaying) keeps it.
   constructor(state, { engine, draw, keep, pause = TYPING_PAUSE }) {
     Object.assign(this, { state, engine, draw, keep, pause });
-    this.doing = { play: null, suite: null, stages: null, coverage: null }; // what is asked now: { wanted, controller, done, total, isSlow }
-    this.typing = 0;
+    this.doing = { play: null, suite: null, stages: null, coverage: null, solution: null, isTyping: false }; // what is asked now: { wanted, controller, done, total, isSlow }
+    this.timer = 0;
     this.coming = 0; // files that are being read
     this.waiting = [];
   }
@@ -27,11 +28,12 @@ export class Runner {
     this.show();
   }
 
-  // Takes what is typed, which is played once nothing more is typed for a while.
+  // Takes what is typed, which is read and played once nothing more is typed for a while.
   type(act) {
-    clearTimeout(this.typing);
-    this.typing = setTimeout(() => {
-      this.typing = 0;
+    clearTimeout(this.timer);
+    this.doing.isTyping = true;
+    this.timer = setTimeout(() => {
+      this.doing.isTyping = false;
       this.update((state) => state);
     }, this.pause);
     this.update(act);
@@ -52,8 +54,8 @@ export class Runner {
   }
 
   get isBusy() {
-    const { play, suite, stages } = this.doing;
-    return this.typing !== 0 || play !== null || suite !== null || stages !== null;
+    const { play, suite, stages, isTyping } = this.doing;
+    return isTyping || play !== null || suite !== null || stages !== null;
   }
 
   // Settles once nothing is typed, asked or wanted.
@@ -62,10 +64,11 @@ export class Runner {
   }
 
   ask() {
-    if (this.typing !== 0) return;
+    if (this.doing.isTyping) return;
     this.askPlay();
     this.askSuite();
     this.askFor("stages", wantedStages, isStagesWanted, (...words) => this.engine.stages(...words), stagesCame);
+    this.askFor("solution", wantedSolution, isSolutionWanted, (...words) => this.engine.solution(...words), solutionCame);
     this.askFor("coverage", wantedCoverage, isCoverageWanted, (...words) => this.engine.acted(...words), coverageCame);
   }
 

@@ -1,9 +1,9 @@
 // The stages of the input that is looked at, in the state of the page: what the engine is wanted to say of them, which of them is chosen, and in which
 // inputs the rules of a line acted. Rules of one group or loop act together: the engine names the lines of all.
+import { descriptionOf } from "./descriptions.mjs";
 import { isSameList } from "./past.mjs";
 import { firstFrom } from "./recording.mjs";
 import { framesOf, isAtEnd, isPlayOf, isPlayed, shownOf, sourceOf, wantedPlay } from "./replaying.mjs";
-import { linesOf } from "./source.mjs";
 import { lookedAtInput } from "./work.mjs";
 
 const withStaging = (state, more) => ({ ...state, staging: { ...state.staging, ...more } });
@@ -104,10 +104,14 @@ export function coverageOf(state) {
 
 export const isComplete = ({ done, total }) => total > 0 && done === total;
 
+// The lines of a source that have rules.
+const ruleLinesOf = (source) => descriptionOf(source).rules.filter(({ words }) => words.includes("->")).map(({ line }) => line);
+
 // The line that is asked about, or null.
 export function lineNow(state) {
   const { isOpen, line } = state.staging;
-  return isOpen && state.work.own === null && line !== null && line.source === state.text ? line.number : null;
+  const isThere = isOpen && state.work.own === null && line !== null && line.source === state.text && isPlayed(state);
+  return isThere && ruleLinesOf(line.source).includes(line.number) ? line.number : null;
 }
 
 export function wantedCoverage(state) {
@@ -134,21 +138,10 @@ export const covered = (state) => withStaging(state, { isCovered: !state.staging
 
 export const coverageStopped = (state) => withStaging(state, { isStopped: true });
 
-const rulesRead = { source: null, lines: [] }; // of the source that was read last
-
-// The lines of a source that have rules.
-function ruleLinesOf(source) {
-  if (rulesRead.source !== source) {
-    const lines = linesOf(source).filter(({ section, text }) => section === "rules" && text.includes("->")).map(({ number }) => number);
-    Object.assign(rulesRead, { source, lines });
-  }
-  return rulesRead.lines;
-}
-
-// Asks where the rule on a line acted; on another line nothing is asked.
+// Asks where the rule on a line acted; on another line nothing is asked. While the text isn't played, it isn't looked whether there is a rule.
 export function linePointedAt(state, number) {
   if (!state.staging.isOpen || state.work.own !== null || number === lineNow(state)) return state;
-  const line = ruleLinesOf(state.text).includes(number) ? { source: state.text, number } : null;
+  const line = !isPlayed(state) || ruleLinesOf(state.text).includes(number) ? { source: state.text, number } : null;
   return line === null && state.staging.line === null ? state : withStaging(state, { line, ...ASKED });
 }
 

@@ -5,7 +5,7 @@ import { isSameList } from "./past.mjs";
 import { framesOf, isAtEnd, isPlayed, sourceOf } from "./replaying.mjs";
 import { refusalTold } from "./session-file.mjs";
 import { isFailure } from "./session-list.mjs";
-import { clocks, isRefusedForClock } from "./ticks.mjs";
+import { clocks, hasClock, isRefusedForClock } from "./ticks.mjs";
 import { withWork } from "./work.mjs";
 
 // ---- how all sessions closed
@@ -28,13 +28,14 @@ export const runWithFrames = ({ lines, runs }, number) => ({ ...runs[number], fr
 // Whether a session has a text of its own that isn't the one at hand.
 export const isOther = (state, number) => ![ "", state.text ].includes(state.file.entries[number].source);
 
-const CLOCKS_OF = new WeakMap(); // for each file what is known of the texts of its sessions: { text, isWithClock }
+const CLOCKS_OF = new WeakMap(); // for each file what is known of the texts of its sessions
 
-// Tells of a text of a session whether it has a clock; each is read once while the file and the text at hand stay the same.
+// Tells of a text of a session whether it has a clock. Those that the file has are read once; the one at hand changes with each letter.
 function clockOf({ file, text }) {
-  if (file === null) return clocks();
-  if (CLOCKS_OF.get(file)?.text !== text) CLOCKS_OF.set(file, { text, isWithClock: clocks() });
-  return CLOCKS_OF.get(file).isWithClock;
+  if (file === null) return hasClock;
+  if (!CLOCKS_OF.has(file)) CLOCKS_OF.set(file, clocks());
+  const isWithClock = CLOCKS_OF.get(file);
+  return (source) => (source === text ? hasClock(source) : isWithClock(source));
 }
 
 // How many sessions are refused since their games have a clock, or are played without it.

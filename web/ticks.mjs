@@ -1,10 +1,11 @@
 // Games with a clock, `realtime_interval`, which are refused. A recording has its ticks among its inputs, so it is played without that line where that is
 // wanted: each answer says so.
-import { cutAtSpace, fold, linesOf, trimmed } from "./source.mjs";
+import { descriptionOf, settingsOf } from "./descriptions.mjs";
+import { fold } from "./texts.mjs";
 
-const CLOCK = "realtime_interval";
+export const CLOCK = "realtime_interval";
 
-const clockLinesOf = (source) => linesOf(source).filter(({ section, text }) => section === "prelude" && fold(cutAtSpace(text)[0]) === CLOCK);
+const clockLinesOf = (source) => settingsOf(source).filter(({ keyword }) => keyword === CLOCK).map(({ line }) => line);
 
 let lastAsked = { source: "", isThere: false }; // the text of which it was asked last
 
@@ -23,12 +24,13 @@ export function clocks(isThere = hasClock) {
   };
 }
 
-// The text of a game without its clock. All other lines keep their numbers.
+// The text of a game without its clock. All other lines keep their numbers, and no comment begins behind a keyword.
 export function withoutClock(source) {
-  const lines = source.split("\n");
-  for (const { number, text } of clockLinesOf(source)) {
-    const line = trimmed(lines[number - 1]);
-    lines[number - 1] = line.slice(0, line.length - text.length);
+  if (!hasClock(source)) return source;
+  const lines = source.split("\n"), clockLines = new Set(clockLinesOf(source));
+  for (const [number, , , text] of descriptionOf(source).lines.filter(([it]) => clockLines.has(it))) {
+    const line = lines[number - 1];
+    lines[number - 1] = line.slice(0, Math.max(0, line.lastIndexOf(text)));
   }
   return lines.join("\n");
 }

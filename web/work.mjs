@@ -50,6 +50,7 @@ export function beginning(example) {
     told: null, // what was said of the last act
     saved: "",
     staging: UNSTAGED,
+    solving: { asked: null, came: null }, // what is looked for that wins, and what was found
   };
 }
 

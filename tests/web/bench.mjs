@@ -1,18 +1,17 @@
 // The page without a browser: its state, played by the module in Node, with what is drawn left out. For the tests of the page's logic.
-import { existsSync, readFileSync } from "node:fs";
-import { load } from "../../engine/saxtegun.mjs";
+import { readFileSync } from "node:fs";
 import { keptOf, stateOfVisit } from "../../web/kept-work.mjs";
 import { KeptOpen } from "../../web/kept-open.mjs";
-import { actedBy, playedBy, stagesBy } from "../../web/page-engine.mjs";
+import { actedBy, playedBy, solutionBy, stagesBy } from "../../web/page-engine.mjs";
 import { Runner } from "../../web/running.mjs";
 import { beginning } from "../../web/work.mjs";
+import { module } from "./module.mjs";
 
 const TOP = new URL("../../", import.meta.url);
-const MODULE = ["engine/out/saxtegun.wasm", "released/saxtegun.wasm"].map((name) => new URL(name, TOP)).find((it) => existsSync(it));
 
+export { module };
 export const read = (name) => readFileSync(new URL(name, TOP));
 export const GAME = read("examples/day/game.txt").toString();
-export const module = MODULE && (await load(await WebAssembly.compile(readFileSync(MODULE))));
 
 // What the program makes of sessions: how each closed.
 export function closesOf(entries, order) {
@@ -23,13 +22,13 @@ export function closesOf(entries, order) {
 
 export class Bench {
   constructor(state = beginning(GAME)) {
-    const [stages, acted] = [stagesBy, actedBy].map((answer) => async (wanted) => answer(module, wanted)), open = new KeptOpen(module);
+    const [stages, acted, solution] = [stagesBy, actedBy, solutionBy].map((answer) => async (wanted) => answer(module, wanted)), open = new KeptOpen(module);
     const play = async (wanted) => {
       const answer = open.played(wanted) ?? playedBy(module, wanted);
       open.follow(wanted);
       return answer;
     };
-    this.engine = { play, stages, acted, playAll: async (bytes, { order }) => module.replay(bytes, { order }) };
+    this.engine = { play, stages, acted, solution, playAll: async (bytes, { order }) => module.replay(bytes, { order }) };
     this.begin(state);
   }
 

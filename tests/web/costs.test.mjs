@@ -9,10 +9,11 @@ import { toAdd } from '../../web/findings.mjs';
 import { findingsIn } from '../../web/console.mjs';
 import { likelyTold } from '../../web/differences.mjs';
 import { rowsInWords } from '../../web/cells.mjs';
+import { descriptionOf, readBy } from '../../web/descriptions.mjs';
 import { Game } from '../../web/game.mjs';
 import { SessionFile } from '../../web/session-file.mjs';
-import { lineOf, linesOf, trimmed } from '../../web/source.mjs';
 import { clocks } from '../../web/ticks.mjs';
+import { module } from './module.mjs';
 
 const HEAD = 'OBJECTS\nBackground .\nblack\nPlayer p\nwhite\n';
 const LETTERS = Array.from({ length: 20_000 }, (_, k) => String.fromCharCode(0x4e00 + k));
@@ -20,23 +21,21 @@ const MOST = 2.3, LEAST_MS = 40, LARGE = 1_000_000;
 
 function told(code, text, before = 'RULES\n') {
   const source = `${HEAD}${before}${text}\n`;
-  return culpritTold(`${code}:${source.split('\n').length - 1}`, { source, inputs: [], game: new Game(source) });
+  return culpritTold(`${code}:${source.split('\n').length - 1}`, { source, inputs: [] });
 }
 
-function chain(size) {
-  const names = Array.from({ length: size }, (_, k) => `a${k}`);
-  return `${HEAD}LEGEND\n${names.map((it, k) => `${it} = a${k + 1}`).join('\n')}\nCOLLISIONLAYERS\n${names.join(' ')}\n`;
-}
+// Letters of which each stands for the next, and the last for nothing.
+const chain = size => `LEGEND\n${LETTERS.slice(0, size).map((it, k) => `${it} = ${LETTERS[k + 1]}`).join('\n')}\nLEVELS\n`;
 
 // A game of so many objects, each in a layer of its own, with a name for all of them.
-function objectsInLayers(size, joint, rest) {
+function objectsInLayers(size) {
   const names = Array.from({ length: size }, (_, k) => `a${k}`);
-  return `OBJECTS\nBackground .\nblack\n\nPlayer p\nwhite\n\n${names.map(it => `${it}\nred\n\n`).join('')}LEGEND\nall = ${names.join(` ${joint} `)}\n${rest}COLLISIONLAYERS\nBackground\nPlayer\n${names.join('\n')}\n`;
+  return `OBJECTS\nBackground .\nblack\n\nPlayer p\nwhite\n\n${names.map(it => `${it}\nred\n\n`).join('')}LEGEND\nall = ${names.join(' or ')}\nCOLLISIONLAYERS\nBackground\nPlayer\n${names.join('\n')}\n`;
 }
 
-// Looks at as many rules as the property in them has objects.
+// Looks at so many rules, with a property of many objects in them.
 function propertyInRules(size) {
-  const source = `${objectsInLayers(size, 'or', '')}RULES\n${'[ > Player | all ] -> [ > Player | > all ]\n'.repeat(size)}`;
+  const source = `${objectsInLayers(90)}RULES\n${'[ > Player | all ] -> [ > Player | > all ]\n'.repeat(size)}WINCONDITIONS\nLEVELS\np.\n`;
   assert.equal(likelyTold({ source, game: new Game(source), inputs: [], frames: [] }), null);
 }
 
@@ -61,11 +60,9 @@ function inWords(size) {
 }
 
 const READINGS = {
-  'blanks behind a title': [100_000, size => trimmed(`title x${' '.repeat(size)}x`)],
-  'returns at the end of a line': [100_000, size => lineOf(`${'\r'.repeat(size)}x`, 1)],
-  'names that stand for one another': [2000, size => new Game(chain(size))],
-  'letters that stand for one another': [2000, size => new Game(`${HEAD}LEGEND\n${LETTERS.slice(0, size).map((it, k) => `${it} = ${LETTERS[k + 1]}`).join('\n')}\n`)],
-  'letters that stand for all objects': [500, size => new Game(objectsInLayers(size, 'and', LETTERS.slice(0, size).map(it => `${it} = all\n`).join('')))],
+  'blanks in a title': [100_000, size => new Game(`title x${' '.repeat(size)}x\n${HEAD}`)],
+  'letters that stand for one another': [2000, size => told('BadGlyph', LETTERS.slice(0, size).join(''), chain(size))],
+  'objects': [2000, size => new Game(`${HEAD}${'a\nred\n\n'.repeat(size)}`)],
   'objects of a property in rules': [500, propertyInRules],
   'names of cells in words': [1000, inWords],
   'a name that is not there, of many letters': [10_000, size => told('Unknown', `[ ${'ab'.repeat(size)} ]`, `${'ba'.repeat(size)}\nred\nRULES\n`)],
@@ -76,7 +73,7 @@ const READINGS = {
   'recordings of one name': [2000, size => toAdd(Array.from({ length: size }, (_, index) => ({ name: 'one name', source: '', inputs: [], level: '', index })), [], '')],
   'recordings of one text': [500, recordingsOfOneText],
   'sessions that follow a text': [4000, sessionsThatFollow],
-  'brackets': [20_000, size => linesOf(`${'('.repeat(size)}${')'.repeat(size)}\n${HEAD}`)],
+  'brackets': [20_000, size => descriptionOf(`${'('.repeat(size)}${')'.repeat(size)}\n${HEAD}`)],
 };
 
 setFlagsFromString('--expose-gc');
@@ -84,6 +81,7 @@ const collect = runInNewContext('gc');
 
 /** Milliseconds of the processor, which others that use it take least from, without what earlier acts left in memory. */
 function timeOf(act, size) {
+  readBy(module); // which knows no text yet
   collect();
   const begin = process.cpuUsage();
   act(size);
@@ -113,18 +111,6 @@ for (const [what, [size, act]] of Object.entries(READINGS)) {
     assert.equal(timed, null, `${growths}`);
   });
 }
-
-test('of synonyms each is gone through once', () => {
-  const game = new Game(`${HEAD}LEGEND\n${LETTERS.slice(0, 2000).map((it, k) => `${it} = ${LETTERS[k + 1]}\n`).join('')}${LETTERS[2000]} = Player\nCOLLISIONLAYERS\nBackground\nPlayer\n`);
-  assert.ok(game.namesLeft > 490_000, `${game.namesLeft}`);
-  assert.deepEqual(game.members(LETTERS[0]), ['player']);
-});
-
-test('a name of more objects than a call takes arguments stands for all of them', () => {
-  const game = new Game(objectsInLayers(150_000, 'or', ''));
-  assert.equal(game.members('all').length, 150_000);
-  assert.equal(game.look().objects.length, 150_002);
-});
 
 const FORM = readFileSync(new URL('../forms/console-with-headings.txt', import.meta.url), 'utf-8');
 const LONG = 2_600_000, SHORTER = 400_000, MOST_MS = 3000;

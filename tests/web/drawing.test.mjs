@@ -1,7 +1,7 @@
 // What is drawn on a canvas: all of a level at first, and then only the cells that changed or had a mark, so that it shows what it would if all were drawn.
 import assert from "node:assert/strict";
 import test from "node:test";
-import { drawLevel } from "../../web/drawing.mjs";
+import { Pictures, drawLevel } from "../../web/drawing.mjs";
 
 // A canvas that knows what stands in each cell of so many pixels, and how many were drawn.
 class Canvas {
@@ -95,4 +95,17 @@ test("a level that can't be read back hides the canvas, and what stood there is 
   assert.equal(canvas.hidden, true);
   drawLevel(canvas, it, PICTURES, SCALE);
   assert.deepEqual([canvas.hidden, canvas.drawn], [false, 1]);
+});
+
+test("the cells of a game that couldn't be read are letters", () => {
+  const drawn = [], context = { fillRect: (...where) => drawn.push(where), fillText: (letter) => drawn.push(letter) };
+  globalThis.document = { createElement: () => ({ getContext: () => context }) };
+  const labels = [["background"], ["background", "crate"], ["\u{1f600}x"], []], unread = new Pictures({ ground: "#000000", objects: [] }, labels);
+  const sides = labels.map((_, label) => unread.of(label).width);
+  assert.deepEqual(drawn.filter((it) => typeof it === "string"), [".", "c", "\u{1f600}", " "]);
+  assert.ok(sides.every((side) => side === sides[0] && side > 5));
+  drawn.length = 0;
+  assert.equal(new Pictures({ ground: "#000000", objects: [["crate", 0, ["#ffffff"], ""]] }, labels).of(1).width, 5);
+  assert.deepEqual(drawn, [[0, 0, 5, 5], [0, 0, 5, 5]]);
+  delete globalThis.document;
 });

@@ -8,6 +8,7 @@ import { keepingTold, visitTold } from "../../web/page-words.mjs";
 import { SessionFile } from "../../web/session-file.mjs";
 import { beginning, edited, named, withGame } from "../../web/work.mjs";
 import { OneTab, until } from "./storages.mjs";
+import "./module.mjs";
 
 const GAME = "title A game", LONG = Array.from({ length: 6 }, (_, number) => `title ${number} ${"x".repeat(10_000)}`);
 const FILE = new SessionFile("mine.json", new TextEncoder().encode(JSON.stringify([["one", ["", [1, 2], "background:0,"]]])));

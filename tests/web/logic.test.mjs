@@ -14,6 +14,7 @@ import { firstFrom, joined, markOf, windowAround } from "../../web/recording.mjs
 import { Refusal, SessionFile, refusalTold } from "../../web/session-file.mjs";
 import { findingsIn } from "../../web/console.mjs";
 import { following, isFailure, listed } from "../../web/session-list.mjs";
+import "./module.mjs";
 
 const bytesOf = (text) => new TextEncoder().encode(text);
 const textOf = (bytes) => new TextDecoder().decode(bytes);

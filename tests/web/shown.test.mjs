@@ -4,6 +4,8 @@ import test from "node:test";
 import { Animation, WON, paceOf, scenesOf } from "../../web/animating.mjs";
 import { rowsInWords } from "../../web/cells.mjs";
 import { cut, readable } from "../../web/elements.mjs";
+import { descriptionOf, readBy } from "../../web/descriptions.mjs";
+import { nothingTold } from "../../web/findings.mjs";
 import { Game, levelsOf } from "../../web/game.mjs";
 import { fileNameOf } from "../../web/handing.mjs";
 import { swipeOf } from "../../web/keys.mjs";
@@ -15,6 +17,7 @@ import { SessionFile } from "../../web/session-file.mjs";
 import { withOtherFile } from "../../web/filing.mjs";
 import { rowsOf, sessionOpened } from "../../web/suite.mjs";
 import { hasClock, withoutClock } from "../../web/ticks.mjs";
+import { lineNow, linePointedAt, opened } from "../../web/staging.mjs";
 import { Bench, module } from "./bench.mjs";
 
 const it = (name, act) => test(name, { skip: module === undefined && "there is no module" }, act);
@@ -51,17 +54,18 @@ message the end
 // The same with two cells more, where an action and then each tick take the player one step on.
 const TICKING = FALLING.replace("RULES\n", "RULES\n[ action Player ] -> [ right Player ] again\n[ stationary Player ] -> [ right Player ] again\n").replaceAll("p.g", "p...g");
 
-test("of levels and notes no more are shown than a page bears", () => {
+it("of levels and notes no more are shown than a page bears", () => {
   assert.equal(levelsOf(`LEVELS\n${"p\n\n".repeat(1024)}`).length, 1024);
   assert.equal(levelsOf(`LEVELS\n${"p\n\n".repeat(3000)}`).length, 1024);
   const told = (count) => notesTold(new Game(`OBJECTS\n${Array.from({ length: count }, (_, number) => `o${number}\nc${number}\n`).join("")}`));
   assert.equal(told(0), "");
   assert.equal(told(1), "its colour c0 is drawn as grey.");
   assert.match(told(50), /; its colour c49 is drawn as grey\.$/);
-  assert.match(told(3000), /; its colour c49 is drawn as grey; and 2950 more notes\.$/);
+  // the engine tells of 512 objects at most
+  assert.match(told(3000), /; its colour c49 is drawn as grey; and 462 more notes\.$/);
 });
 
-test("the messages of LEVELS stand between its levels", () => {
+it("the messages of LEVELS stand between its levels", () => {
   assert.deepEqual(messagesOf(FALLING), ["first (of all)", null, "second", "third", null, "the end"]);
   assert.deepEqual([0, 1, 2].map((won) => messagesAt(FALLING, 1, won)), [["first (of all)"], ["second", "third"], ["the end"]]);
   assert.deepEqual([messagesAt(FALLING, 2, 0), messagesAt(FALLING, 4, 1), messagesAt("title none\n", 0, 0)], [["second", "third"], ["the end"], []]);
@@ -131,13 +135,13 @@ it("frames are shown one after another, which any act ends", async () => {
   assert.equal(still.seen(bench.state), bench.state);
 });
 
-test("a game has a pace", () => {
+it("a game has a pace", () => {
   assert.deepEqual(["title a\nagain_interval 0.5\n", "AGAIN_INTERVAL .03", "again_interval 99", "again_interval x", "title again_interval 3", ""].map(paceOf), [500, 30, 5000, 100, 100, 100]);
 });
 
 const CLOCKED = FALLING.replace("title Falling", "title Falling\n(a) Realtime_Interval 0.5 (b)");
 
-test("a clock is taken from the text, and its lines keep their numbers", () => {
+it("a clock is taken from the text, and its lines keep their numbers", () => {
   assert.deepEqual([hasClock(CLOCKED), hasClock(FALLING), hasClock("title realtime_interval 1\nOBJECTS\nrealtime_interval\nred\n")], [true, false, false]);
   assert.equal(withoutClock(CLOCKED), CLOCKED.replace("(a) Realtime_Interval 0.5 (b)", "(a) "));
   assert.equal(withoutClock("(\n) realtime_interval 1\nx"), "(\n) \nx");
@@ -162,6 +166,60 @@ it("a game with a clock is played without it where that is wanted, which the ver
   assert.deepEqual([rowsOf(bench.state)[0].close, clockTold(bench.state).isAsked], ["refused", true]);
 });
 
+// Does something while texts are read by another engine.
+async function readByAnother(engine, act) {
+  readBy(engine);
+  await Promise.resolve(act()).finally(() => readBy(module));
+}
+
+it("an older engine, which tells nothing of a text, plays it all the same, and that is said", async () => {
+  await readByAnother({ description: () => ({ description: null, fault: "no-descriptions" }) }, async () => {
+    const game = new Game(FALLING), bench = new Bench();
+    assert.deepEqual([game.title, game.look().objects, levelsOf(FALLING), messagesOf(FALLING), nothingTold("anything"), hasClock(`${CLOCKED}\n`)], ["a game", [], [], [], null, false]);
+    assert.match(notesTold(game), /^the engine of this page is an older one, .* drawn by letters/);
+    await bench.act(withGame, FALLING);
+    for (const input of [3, 3]) await bench.act(pressed, input);
+    assert.deepEqual([bench.state.work.inputs, framesOf(bench.state).at(-1).kind], [[3, 3], "load"]);
+    await bench.act(edited, "LEVELS\n");
+    assert.match(statusOf(bench.state).text, /^Not played: a section that must be there is missing/);
+  });
+});
+
+it("that an engine has no memory for a text, or stops at it, is said, and a text that is too long is one of no game", async () => {
+  for (const [fault, told] of [["memory", "there is not enough memory to read the text"], ["broken", "the engine stopped at a fault of its own as it read the text"]]) {
+    await readByAnother({ description: () => ({ description: null, fault }) }, () => assert.deepEqual(new Game("title x").notes, [`${told}: objects are drawn by letters`]));
+  }
+  await readByAnother({ description: () => ({ description: null, fault: "too-many" }) }, () => assert.deepEqual(descriptionOf("").fault, { code: "TooLong", line: 0 }));
+  assert.match(nothingTold(`OBJECTS\n${"x".repeat(1_048_576)}`), /^it has no recording, and is longer than a game's text may be: /);
+  assert.equal(nothingTold("OBJECTS\n"), null);
+});
+
+it("each text is read once as long as it is kept, and half a letter is another one", async () => {
+  const asked = [], engine = { description: (bytes) => { asked.push(new TextDecoder().decode(bytes)); return module.description(bytes); } };
+  await readByAnother(engine, () => {
+    for (let turn = 0; turn < 3; turn += 1) for (let number = 0; number < 64; number += 1) assert.equal(new Game(`title ${number}`).title, `${number}`);
+    assert.equal(asked.length, 64);
+    for (const source of ["title 64", "title 1", "title 0", "title 1"]) descriptionOf(source);
+    assert.deepEqual(asked.slice(64), ["title 64", "title 0"]);
+    for (const source of ["x".repeat(1_000_000), "y".repeat(1_000_000), "x".repeat(1_000_000)]) descriptionOf(source);
+    assert.equal(asked.length, 69);
+    assert.equal(new Game("title \ud800").title, "\ufffd");
+  });
+});
+
+it("what is being typed is read behind a pause, also for the line that is pointed at", async () => {
+  const asked = [], engine = { description: (bytes) => { asked.push(new TextDecoder().decode(bytes)); return module.description(bytes); } };
+  const bench = new Bench(), line = TICKING.split("\n").indexOf("[ action Player ] -> [ right Player ] again") + 1;
+  await bench.act(opened, true);
+  await readByAnother(engine, async () => {
+    bench.runner.type((state) => edited(state, TICKING));
+    bench.runner.update((state) => linePointedAt(state, line));
+    assert.deepEqual([asked, lineNow(bench.state), bench.runner.isBusy], [[], null, true]);
+    await bench.runner.idle();
+    assert.deepEqual([lineNow(bench.state), lineNow(linePointedAt(bench.state, line + 2)), asked], [line, null, [TICKING]]);
+  });
+});
+
 test("a swipe goes one way", () => {
   assert.deepEqual([swipeOf(3, -30), swipeOf(-30, 3), swipeOf(3, 30), swipeOf(30, 3), swipeOf(20, 20)], [0, 1, 2, 3, null]);
 });
@@ -181,7 +239,7 @@ test("a level is told row by row, in both orders of cells", () => {
   assert.deepEqual(rowsInWords(null, () => []), []);
 });
 
-test("a key that the game switches off is left out, as on the site, and what stands in LEVELS switches nothing off", () => {
+it("a key that the game switches off is left out, as on the site, and what stands in LEVELS switches nothing off", () => {
   const off = FALLING.replace("again_interval 0.25", "NoAction\nnoundo\nnorestart (all three)");
   for (const [input, word] of [[4, "noaction"], ["undo", "noundo"], ["restart", "norestart"]]) {
     const state = { ...edited(beginning("title none\n"), off), messages: [] }, next = pressed(state, input);

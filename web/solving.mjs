@@ -1,0 +1,90 @@
+// What wins from the frame that is looked at, in the state of the page: what the engine is asked for, what it found, and its presses as a ghost, which stands
+// in no recording.
+import { levelsOf } from "./game.mjs";
+import { isSameList } from "./past.mjs";
+import { firstFrom } from "./recording.mjs";
+import { framesOf, gameOf, isPlayOf, isPlayed, sourceOf, takenOf } from "./replaying.mjs";
+import { refusalTold } from "./session-file.mjs";
+import { withWork } from "./work.mjs";
+
+const ROOM = 2 ** 28; // bytes of the levels of play that a search keeps, as far as that is known beforehand
+const MOST_SEARCHED = 1_000_000; // of these levels
+const BYTES_OF_CELL = 32; // of a level that is kept,
+const BYTES_OF_LINE = 16; // and of each object in each row and column,
+const TWICE = 2; // and as many by what is beside them
+const OBJECTS_OF_WORD = 128; // objects for which a cell has one word; beyond that it has two, or four
+const PRESSES = ["up", "left", "down", "right", "action"];
+
+const pressesTold = (count) => (count === 1 ? "1 press" : `${count} presses`);
+
+const withSolving = (state, solving) => ({ ...state, solving, told: null });
+
+// How many levels of play a search keeps, by the largest level of the game.
+function levelsKept(source) {
+  const { length } = gameOf(source).objects, words = length <= OBJECTS_OF_WORD ? 1 : length <= 2 * OBJECTS_OF_WORD ? 2 : 4;
+  const sizes = levelsOf(source).map(({ width, height }) => TWICE * (BYTES_OF_CELL * words * width * height + BYTES_OF_LINE * length * (width + height)));
+  return sizes.length === 0 ? 1 : Math.max(1, Math.min(MOST_SEARCHED, Math.floor(ROOM / Math.max(...sizes))));
+}
+
+// Whether there is a frame from which a solution can be looked for.
+export const isSolvable = (state) => isPlayed(state) && framesOf(state).length > 0 && state.played.cause === null;
+
+// Asks what wins from the frame that is looked at.
+export function solveAsked(state) {
+  if (!isSolvable(state)) return state;
+  const { work: { index, inputs }, order, isTicked } = state, source = sourceOf(state);
+  return withSolving(state, { asked: { source, index, order, isTicked, inputs: inputs.slice(0, takenOf(state)), levels: levelsKept(source) }, came: null });
+}
+
+export const solveStopped = (state) => withSolving(state, { asked: null, came: null });
+
+// What was asked, as long as the recording still begins so; or null.
+function askedNow({ solving: { asked }, work, order, isTicked, text }) {
+  if (asked === null) return null;
+  const isSame = isPlayOf(asked, { source: work.own ?? text, index: work.index, order, isTicked });
+  return isSame && isSameList(work.inputs.slice(0, asked.inputs.length), asked.inputs) ? asked : null;
+}
+
+export const wantedSolution = (state) => (state.solving.came === null ? askedNow(state) : null);
+
+export const isSolutionWanted = (state, asked) => wantedSolution(state) === asked;
+
+export const solutionCame = (state, asked, answer) => (isSolutionWanted(state, asked) ? { ...state, solving: { asked, came: answer } } : state);
+
+// The word of the game that switches off a key which some of these presses is, or undefined: the site takes no such key.
+const switchedOff = (source, presses) => presses.map((it) => gameOf(source).switches.get(it)).find((word) => word !== undefined);
+
+// The presses that win, and what they show: { asked, presses, frames }; or null.
+export function solutionNow(state) {
+  const asked = askedNow(state), { came } = state.solving, presses = came?.solution?.solved;
+  return asked === null || presses === undefined || switchedOff(asked.source, presses) ? null : { asked, presses, frames: came.frames };
+}
+
+// What is said of the search.
+export function solutionTold(state) {
+  const asked = askedNow(state), { came } = state.solving;
+  if (asked === null) return "";
+  const from = asked.inputs.length === 0 ? "the start" : `input ${asked.inputs.length}`;
+  if (came === null) return `Looking for presses that win from ${from} on \u2026`;
+  if (came.solution === null) return `Nothing is known: ${refusalTold(came.fault)}.`;
+  const { solved, unsolvable, outOfBounds, over } = came.solution;
+  const word = solved && switchedOff(asked.source, solved);
+  if (word) return `Not known: the fewest presses that win have one that this game switches off by \`${word}\`.`;
+  if (solved) return `Won in ${pressesTold(solved.length)} from ${from} on, and in no fewer: ${solved.map((it) => PRESSES[it]).join(" ")}.`;
+  if (unsolvable) return `No presses win from ${from} on.`;
+  if (outOfBounds) return `Not known: no list of up to ${pressesTold(outOfBounds.inputs)} wins from there, and longer ones lead to more than ${outOfBounds.levels.toLocaleString("en")} levels of play, as many as are kept.`;
+  return over ? "All levels are won." : "There is no level to win.";
+}
+
+// Puts the presses that win behind those from which they were looked for.
+export function solutionTaken(state) {
+  const found = solutionNow(state);
+  return found === null ? state : withWork(state, { ...state.work, inputs: [...found.asked.inputs, ...found.presses] });
+}
+
+// The state as it would be behind so many of the presses that win: what a ghost shows.
+export function ghostOf(state, count) {
+  const { asked, presses, frames } = solutionNow(state), before = framesOf(state).slice(0, firstFrom(framesOf(state), asked.inputs.length + 1));
+  const all = [...before, ...frames], inputs = [...asked.inputs, ...presses];
+  return { ...state, work: { ...state.work, inputs }, played: { ...state.played, inputs, frames: all }, looked: firstFrom(all, asked.inputs.length + count + 1) - 1, messages: [], ghost: { count, of: presses.length } };
+}
