@@ -1,6 +1,7 @@
 #!/usr/bin/env node
-// engine/describe.mjs FILE..: what the engine has read of each source, as one line of JSON. The exit status is 0, or 2 with a line of failure; a source that is
-// refused is described too. SAXTEGUN_MODULE may name another module than out/saxtegun.wasm.
+// engine/describe.mjs [--levels | --sessions] FILE..: what the engine has read of each source, as one line of JSON; of each level text, or of each file of sessions.
+// The exit status is 0, or 2 with a line of failure; a source that is refused is described too, and what is no level text is null. SAXTEGUN_MODULE may name another
+// module than out/saxtegun.wasm.
 import { closeSync } from 'node:fs';
 import { Refusal, loadNamed, open, readInput, run, told } from './streams.mjs';
 
@@ -24,10 +25,18 @@ function bytesIn(file) {
   }
 }
 
+/** What is told of bytes, by the word that asks for it; without one, a source is. */
+const KINDS = {
+  '--levels': (engine, bytes) => engine.levelDescriptionOf(bytes),
+  '--sessions': (engine, bytes) => engine.fileDescriptionOf(bytes),
+};
+
 async function describe(words) {
-  if (words.length === 0) throw new Refusal('bad command line');
-  const engine = await loadNamed();
-  for (const word of words) told(asLine(engine.descriptionOf(bytesIn(word))));
+  const kind = Object.hasOwn(KINDS, words[0] ?? '') ? words[0] : null;
+  const files = kind === null ? words : words.slice(1);
+  if (files.length === 0) throw new Refusal('bad command line');
+  const engine = await loadNamed(), ask = KINDS[kind] ?? ((its, bytes) => its.descriptionOf(bytes));
+  for (const file of files) told(asLine(ask(engine, bytesIn(file))));
   return 0;
 }
 

@@ -130,6 +130,18 @@ export interface Block {
   loop: boolean;
 }
 
+/** The cells of a level text, in its order: each cell's set of names by its place in `sets`. Each set stands there once, its names separated by spaces. */
+export interface LevelDescription {
+  cells: number[];
+  sets: string[];
+}
+
+/** The sessions of a file: each by the place of its source in `sources`, where each text stands once, and `index`, at which entry of LEVELS it starts. */
+export interface FileDescription {
+  sessions: { index: number; inputs: Session['inputs']; level: LevelDescription; name: string; source: number }[];
+  sources: string[];
+}
+
 /**
  * What a search, breadth first, tells of the level in which a session stands: presses that win, and no shorter list does; that no list wins; or that none of
  * at most `inputs` presses does, while one press more reaches more than `levels` levels, which is the bound. `over`: its last level was won; `stopped`,
@@ -204,6 +216,12 @@ export interface Engine {
   description(source: string | ArrayBuffer | ArrayBufferView): { description: Description | null; fault: string | null };
   /** The same as bytes of JSON. The status of an answer is 0 or 2. */
   descriptionOf(source: string | ArrayBuffer | ArrayBufferView): Answer;
+  /** The cells that the engine has read of a level text; null, without a fault, of what is no level text. */
+  levelDescription(level: string | ArrayBuffer | ArrayBufferView): { description: LevelDescription | null; fault: string | null };
+  levelDescriptionOf(level: string | ArrayBuffer | ArrayBufferView): Answer;
+  /** What the engine has read of a file of sessions, or the file's fault. */
+  fileDescription(text: string | ArrayBuffer | ArrayBufferView): { description: FileDescription | null; fault: string | null };
+  fileDescriptionOf(text: string | ArrayBuffer | ArrayBufferView): Answer;
   /** Whether the module keeps sessions open. */
   readonly hasOpenSessions: boolean;
   /** Opens a session, and gives it its inputs: what came with the last of them, or with its start. There is no session where there is a fault, or it is refused. */

@@ -24,7 +24,8 @@ const MOST_WORKERS = 64;
 const PARTS_OF_A_WORKER = 8;
 const WORKER = 'saxtegun-worker';
 // exports that older modules don't have
-const STAGES = 'saxtegun_stages', FIRINGS = 'saxtegun_firings', DESCRIPTION = 'saxtegun_description', OPEN = 'saxtegun_open', SOLUTIONS = 'saxtegun_solutions';
+const STAGES = 'saxtegun_stages', FIRINGS = 'saxtegun_firings', DESCRIPTION = 'saxtegun_description',
+  LEVEL_DESCRIPTION = 'saxtegun_level_description', FILE_DESCRIPTION = 'saxtegun_file_description', OPEN = 'saxtegun_open', SOLUTIONS = 'saxtegun_solutions';
 const MOST_NUMBER = 0xffff_ffff; // that the module is told; no file has so many sessions or inputs, and no memory so many levels
 const MOST_LEVELS = 1_000_000; // that a search keeps where no bound is named
 
@@ -344,14 +345,34 @@ class Engine {
   }
 
   descriptionOf(source) {
-    if (!this.#has(DESCRIPTION)) return refused('no-descriptions');
-    if (bytesOf(source)?.length > MOST_BYTES) return refused('too-many');
-    return this.#ask(source, (exports, input, room, outcome) =>
-      exports[DESCRIPTION](input.at, BigInt(input.size), room.at, BigInt(room.size), outcome));
+    return this.#describe(DESCRIPTION, source);
   }
 
   description(source) {
     return valueOf('description', this.descriptionOf(source));
+  }
+
+  levelDescriptionOf(level) {
+    return this.#describe(LEVEL_DESCRIPTION, level);
+  }
+
+  levelDescription(level) {
+    return valueOf('description', this.levelDescriptionOf(level));
+  }
+
+  fileDescriptionOf(text) {
+    return this.#describe(FILE_DESCRIPTION, text);
+  }
+
+  fileDescription(text) {
+    return valueOf('description', this.fileDescriptionOf(text));
+  }
+
+  #describe(asked, text) {
+    if (!this.#has(asked)) return refused('no-descriptions');
+    if (bytesOf(text)?.length > MOST_BYTES) return refused('too-many');
+    return this.#ask(text, (exports, input, room, outcome) =>
+      exports[asked](input.at, BigInt(input.size), room.at, BigInt(room.size), outcome));
   }
 
   get hasSolutions() {

@@ -1,1 +1,4 @@
 mod WorkedDescriptions
+mod DistinctTexts
+mod Joining
+mod CellPlaces

@@ -2,3 +2,4 @@ pub mod Values
 pub mod Sections
 pub mod Program
 pub mod Description
+pub mod Recordings

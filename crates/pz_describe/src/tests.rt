@@ -1,6 +1,7 @@
-//! What is told of a source.
+//! What is told of a source, of a level text, and of a file of sessions.
 
-use crate::describe;
+use crate::{describe, describe_level, describe_recordings};
+use pz_entries::file::read_sessions;
 use std::test::Fail;
 
 const WALK: &str =
@@ -36,5 +37,50 @@ fn tells_a_game(rt: HostRuntime) -> Result<(), Fail> {
 fn tells_the_fault_of_an_empty_source(rt: HostRuntime) -> Result<(), Fail> {
     let text = describe(rt.alloc(), "")?;
     assert!(rt; text.as_slice() == REFUSED.as_bytes());
+    Ok(())
+}
+
+#[test]
+fn tells_the_cells_of_a_level_text(rt: HostRuntime) -> Result<(), Fail> {
+    for (text, told) in [
+        ("", r#"{"cells":[],"sets":[]}"#),
+        (":0,\n", r#"{"cells":[0],"sets":[""]}"#),
+        (
+            "b:0,B  a:1,\n0,1,\n",
+            r#"{"cells":[0,1,0,1],"sets":["b","a b"]}"#,
+        ),
+        (
+            "a b:0,b a A:1,1,c:2,0,",
+            r#"{"cells":[0,0,0,1,0],"sets":["a b","c"]}"#,
+        ),
+        ("a:0", "null"),
+        ("a:1,", "null"),
+        ("0,", "null"),
+    ] {
+        let line = describe_level(rt.alloc(), text)?;
+        assert!(rt; line.as_slice() == told.as_bytes());
+    }
+    Ok(())
+}
+
+const FILE: &str =
+    r#"[["one",["S",[0,1,2,3,4,"undo","restart","tick"],"a:0,"]],["two",["T",[],"",7]],["\"three",["S",[],"b:0,0,",null]]]"#;
+
+const SESSIONS: &str = concat!(
+    r#"{"sessions":[{"index":0,"inputs":[0,1,2,3,4,"undo","restart","tick"],"level":{"cells":[0],"sets":["a"]},"name":"one","source":0},"#,
+    r#"{"index":7,"inputs":[],"level":{"cells":[],"sets":[]},"name":"two","source":1},"#,
+    r#"{"index":0,"inputs":[],"level":{"cells":[0,0],"sets":["b"]},"name":"\"three","source":0}],"sources":["S","T"]}"#,
+);
+
+#[test]
+fn tells_the_sessions_of_a_file(rt: HostRuntime) -> Result<(), Fail> {
+    for (file, told) in [("[]", r#"{"sessions":[],"sources":[]}"#), (FILE, SESSIONS)] {
+        let entries = match read_sessions(rt.alloc(), file) {
+            Ok(entries) => entries,
+            Err(fault) => return Err(Fail::new(format_args!("{fault:?}"))),
+        };
+        let text = describe_recordings(rt.alloc(), &entries)?;
+        assert!(rt; text.as_slice() == told.as_bytes());
+    }
     Ok(())
 }

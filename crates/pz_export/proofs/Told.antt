@@ -8,7 +8,7 @@ use Rattle.pz_engine.specs.Engine.{IsPlayed}
 use Rattle.pz_engine.specs.Sessions.{sessions_in}
 use Rattle.pz_engine.specs.declared.engine.Played.{Played}
 use Rattle.std.specs.Str.{IsUtf8}
-use Rattle.pz_export.specs.Description.{IsDescribed, IsDescription, IsUndescribed}
+use Rattle.pz_export.specs.Description.{IsDescribed, IsDescribedFile, IsDescription, IsFileDescription, IsUndescribed}
 use Rattle.pz_export.specs.Lines.{AreStaged, IsAnswered, IsRefused, IsStaged, IsTold, IsToldWhy}
 use Rattle.pz_export.specs.Outcome.{status_of}
 use Rattle.pz_export.specs.Solutions.{AreSolved, IsSolvedFile}
@@ -33,11 +33,17 @@ pub solved : (levels : ℕ) (file room_before room : List ℕ) (outcome : Outcom
 solved levels file room_before room outcome count (Ok played) are told why other = record { answer = played; are_solved = are; told = told }
 solved levels file room_before room outcome count (Err cause) are told why other = absurd (other why.says.status)
 
-pub described : (source room_before room : List ℕ) (outcome : Outcome) (count : ℕ) (r : Result Played FileFault)
-    → IfOk r (IsDescription source) → IfOk r (λ played. IsTold played room_before room outcome count) → IfErr r (λ cause. IsToldWhy cause room_before room outcome count)
-    → outcome.status ≢ 2 → IsDescribed source room_before room outcome count
-described source room_before room outcome count (Ok played) is told why other = record { answer = played; is_description = is; told = told }
-described source room_before room outcome count (Err cause) is told why other = absurd (other why.says.status)
+pub described : (description room_before room : List ℕ) (outcome : Outcome) (count : ℕ) (r : Result Played FileFault)
+    → IfOk r (IsDescription description) → IfOk r (λ played. IsTold played room_before room outcome count) → IfErr r (λ cause. IsToldWhy cause room_before room outcome count)
+    → outcome.status ≢ 2 → IsDescribed description room_before room outcome count
+described description room_before room outcome count (Ok played) is told why other = record { answer = played; is_description = is; told = told }
+described description room_before room outcome count (Err cause) is told why other = absurd (other why.says.status)
+
+pub described_file : (file room_before room : List ℕ) (outcome : Outcome) (count : ℕ) (r : Result Played FileFault)
+    → IfOk r (IsFileDescription file) → IfOk r (λ played. IsTold played room_before room outcome count) → IfErr r (λ cause. IsToldWhy cause room_before room outcome count)
+    → outcome.status ≢ 2 → IsDescribedFile file room_before room outcome count
+described_file file room_before room outcome count (Ok played) is told why other = record { answer = played; is_description = is; told = told }
+described_file file room_before room outcome count (Err cause) is told why other = absurd (other why.says.status)
 
 is_other : (passed : Bool) → status_of passed ≡ 2 → ⊥
 is_other true e = omega (arith, e)

@@ -1,6 +1,8 @@
 //! What a host sees.
 
-use crate::description::saxtegun_description;
+use crate::description::{
+    saxtegun_description, saxtegun_file_description, saxtegun_level_description,
+};
 use crate::held::Held;
 use crate::lines::{saxtegun_firings, saxtegun_frames, saxtegun_lines, saxtegun_stages};
 use crate::open::{saxtegun_back, saxtegun_close, saxtegun_copy, saxtegun_give, saxtegun_open};
@@ -229,6 +231,69 @@ fn describes_no_bytes_that_are_no_text(rt: HostRuntime) -> Result<(), Fail> {
     assert!(rt; count == 0);
     assert!(rt; outcome.status == 2 && outcome.fault == 2 && outcome.entry == 0);
     assert!(rt; room.iter().all(|byte| *byte == 7));
+    Ok(())
+}
+
+#[test]
+fn describes_a_level_text(rt: HostRuntime) -> Result<(), Fail> {
+    let told = r#"{"cells":[0,1,0],"sets":["a","a b"]}"#;
+    for (level, told) in [("a:0,B a:1,0,", told), ("a:1,", "null")] {
+        let mut room = vec![in rt.alloc(); 7; 100]?;
+        let mut outcome = played(false);
+        let count = saxtegun_level_description(
+            rt.alloc(),
+            level.as_bytes(),
+            room.as_mut_slice(),
+            &mut outcome,
+        );
+        assert!(rt; count == told.len());
+        assert!(rt; room.as_slice().starts_with(told.as_bytes()));
+        assert!(rt; room.iter().skip(count).all(|byte| *byte == 7));
+        assert!(rt; outcome.status == 0 && outcome.fault == 0 && outcome.entry == 0);
+    }
+    let mut room = vec![in rt.alloc(); 7; 10]?;
+    let mut outcome = played(false);
+    let count = saxtegun_level_description(rt.alloc(), b"\xff", room.as_mut_slice(), &mut outcome);
+    assert!(rt; count == 0);
+    assert!(rt; outcome.status == 2 && outcome.fault == 2 && outcome.entry == 0);
+    assert!(rt; room.iter().all(|byte| *byte == 7));
+    Ok(())
+}
+
+#[test]
+fn describes_a_file(rt: HostRuntime) -> Result<(), Fail> {
+    let file = r#"[["a",["S",[4,"tick"],"p:0,",2]]]"#;
+    let told =
+        r#"{"sessions":[{"index":2,"inputs":[4,"tick"],"level":{"cells":[0],"sets":["p"]},"name":"a","source":0}],"sources":["S"]}"#;
+    let mut room = vec![in rt.alloc(); 7; 200]?;
+    let mut outcome = played(false);
+    let count = saxtegun_file_description(
+        rt.alloc(),
+        file.as_bytes(),
+        room.as_mut_slice(),
+        &mut outcome,
+    );
+    assert!(rt; count == told.len());
+    assert!(rt; room.as_slice().starts_with(told.as_bytes()));
+    assert!(rt; room.iter().skip(count).all(|byte| *byte == 7));
+    assert!(rt; outcome.status == 0 && outcome.fault == 0 && outcome.entry == 0);
+    for (file, fault, entry) in [
+        ("", 2, 0),
+        ("[[\"\",[\"\",[],\"\"]],3]", 3, 1),
+        ("[[\"\",[\"\",[],\"x\"]]]", 4, 0),
+    ] {
+        let mut room = vec![in rt.alloc(); 7; 10]?;
+        let mut outcome = played(false);
+        let count = saxtegun_file_description(
+            rt.alloc(),
+            file.as_bytes(),
+            room.as_mut_slice(),
+            &mut outcome,
+        );
+        assert!(rt; count == 0);
+        assert!(rt; outcome.status == 2 && outcome.fault == fault && outcome.entry == entry);
+        assert!(rt; room.iter().all(|byte| *byte == 7));
+    }
     Ok(())
 }
 

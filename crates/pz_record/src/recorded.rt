@@ -55,4 +55,12 @@ impl Recorded {
     {
         &self.sets[self.cells[number] as usize]
     }
+
+    /// The sets of names that the cells have, and for each cell which of them. Two sets may be equal.
+    pub fn parts(&self) -> (&[CellNames], &[u32])
+        ensures cells { self.now ≡ map (λ set. slice_index_or result.0.now set []) result.1.now }
+        ensures within { All (λ set. set < length result.0.now) result.1.now }
+    {
+        (&self.sets, &self.cells)
+    }
 }
