@@ -64,10 +64,10 @@ export function withOtherFile(state, file) {
 }
 
 // Adds recordings that were found in a text: those that aren't there yet. What was skipped beside them is told.
-export function withRecordings(state, recordings, skipped = []) {
+export function withRecordings(state, recordings, skipped = [], titles = undefined) {
   const one = theOneText({ entries: recordings }), isUntouched = state.text.trim() === "" || state.text === state.example;
   const text = state.file === null && isUntouched ? one ?? state.text : state.text, former = state.file ?? SessionFile.empty(RECORDINGS);
-  const found = toAdd(recordings, former.entries, text), file = former.withAll(found.added), saved = addedTold(found, file.name, skipped);
+  const found = toAdd(recordings, former.entries, text, titles), file = former.withAll(found.added), saved = addedTold(found, file.name, skipped);
   if (found.added.length === 0) return { ...state, tab: "sessions", told: null, saved };
   return { ...withFile(state, file, { text, isNew: true, tab: "sessions" }), saved };
 }

@@ -3,6 +3,7 @@
 import { descriptionOf } from "./descriptions.mjs";
 import { plural } from "./elements.mjs";
 import { entriesOfLevels, titleOf } from "./game.mjs";
+import { eachInPieces } from "./pieces.mjs";
 import { fold, withoutEnd } from "./texts.mjs";
 
 const HOW = "in PuzzleScript's editor play, press Ctrl+J, and copy all that the console prints then";
@@ -46,6 +47,11 @@ class Titles {
     this.known = new Map();
   }
 
+  // Reads the texts of recordings; whether it came to the end.
+  async read(recordings, ...words) {
+    return eachInPieces([...new Set(recordings.map(({ source }) => source))].filter((source) => source !== ""), (source) => this.of(source), ...words);
+  }
+
   // A text by { title, numbers }: of each entry of LEVELS the number of the level that is there, or comes next.
   of(source) {
     if (!this.known.has(source)) {
@@ -61,6 +67,12 @@ class Titles {
     const { title, numbers } = this.of(source), level = numbers[index] ?? numbers.at(-1);
     return WITHOUT_NAME.includes(name) || fold(name) === fold(title) ? `${title}, level ${level}` : name;
   }
+}
+
+// The titles that recordings need for their names, or null where that was stopped.
+export async function titlesOf(recordings, ...words) {
+  const titles = new Titles();
+  return (await titles.read(recordings, ...words)) ? titles : null;
 }
 
 export const ownName = (recording) => new Titles().nameOf(recording);
@@ -118,8 +130,8 @@ class Known {
 
 // What of some recordings is added to the entries of a file, under names that no other has, and how many are there already: { added, known }. Those of
 // the text at hand follow it.
-export function toAdd(recordings, entries, text) {
-  const known = new Known(entries.map((it) => ({ ...it, source: it.source || text }))), names = new Names(entries.map(({ name }) => name)), titles = new Titles(), added = [];
+export function toAdd(recordings, entries, text, titles = new Titles()) {
+  const known = new Known(entries.map((it) => ({ ...it, source: it.source || text }))), names = new Names(entries.map(({ name }) => name)), added = [];
   for (const it of recordings) {
     const whole = { ...it, source: it.source || text };
     if (!known.take(whole)) continue;
