@@ -7,6 +7,7 @@ import { remembering } from "./past.mjs";
 import { framesOf, isPlayed } from "./replaying.mjs";
 import { Refusal, SessionFile } from "./session-file.mjs";
 import { isOther, runWithFrames, runsOfNow, sessionOpened } from "./suite.mjs";
+import { isTooLong } from "./texts.mjs";
 import { RECORDED_ORDER } from "./work.mjs";
 
 export const RECORDINGS = "recordings.json";
@@ -72,10 +73,10 @@ export function withRecordings(state, recordings, skipped = [], titles = undefin
   return { ...withFile(state, file, { text, isNew: true, tab: "sessions" }), saved };
 }
 
-// The text that all sessions of a file have as their own, or null.
+// The text that all sessions of a file have as their own, or null. One that is too long to be played comes not to hand: a browser takes minutes to lay it out.
 function theOneText({ entries }) {
   const source = entries[0]?.source ?? "";
-  return source !== "" && entries.every((entry) => entry.source === source) ? source : null;
+  return source !== "" && !isTooLong(source) && entries.every((entry) => entry.source === source) ? source : null;
 }
 
 // ---- another engine

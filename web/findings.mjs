@@ -4,7 +4,7 @@ import { descriptionOf } from "./descriptions.mjs";
 import { plural } from "./elements.mjs";
 import { entriesOfLevels, titleOf } from "./game.mjs";
 import { eachInPieces } from "./pieces.mjs";
-import { fold, withoutEnd } from "./texts.mjs";
+import { fold, isTooLong, withoutEnd } from "./texts.mjs";
 
 const HOW = "in PuzzleScript's editor play, press Ctrl+J, and copy all that the console prints then";
 const SKIPPED = {
@@ -14,7 +14,6 @@ const SKIPPED = {
 const OBJECTS = 'it has objects in braces, and a recording is a list, ["name", ["source", [inputs], "level", index]]';
 const WITHOUT_NAME = ["", "untitled test"]; // a recording without a name of its own
 const SKIPPED_TOLD = 3;
-const MOST_OF_A_SOURCE = 1_048_576; // bytes
 const DEMAND = "solved"; // what stands behind the body of a recording that must be solved
 
 const skippedTold = ({ line, what }) => `line ${line}: skipped ${Object.hasOwn(SKIPPED, what) ? SKIPPED[what] : `a recording with a fault: ${what}`}`;
@@ -36,10 +35,7 @@ export function nothingTold(text) {
 
 // A text without what two that are the same may differ in: how lines end, and what stands behind the last. One that is too long to be played stays as it
 // is, and so is the same as no other that is played.
-function endless(text) {
-  const isTooLong = 3 * text.length > MOST_OF_A_SOURCE && new TextEncoder().encode(text).length > MOST_OF_A_SOURCE;
-  return isTooLong ? text : withoutEnd(text.replaceAll("\r\n", "\n"));
-}
+const endless = (text) => (isTooLong(text) ? text : withoutEnd(text.replaceAll("\r\n", "\n")));
 
 // The titles of texts and the numbers of their levels, each text read once, since many recordings may be of one.
 class Titles {

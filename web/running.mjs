@@ -143,6 +143,7 @@ export class Runner {
     const isSame = (wanted) => wanted.file === file && wanted.order === order && wanted.isTicked === isTicked && (wanted.text === text || !file.isOverAGame);
     this.begin("suite", wantedSuite(this.state), isSame, async (doing) => {
       const { wanted, controller: { signal } } = doing, begun = performance.now();
+      doing.total = wanted.file.entries.length;
       const progress = (done, total) => this.progress(doing, done, total);
       const answer = await this.playSuite(wanted, { order: wanted.order, signal, progress }).catch((error) => ({ fault: error.message, lines: null }));
       return (state) => suiteCame(state, wanted, answer, performance.now() - begun);

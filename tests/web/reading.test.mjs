@@ -4,10 +4,11 @@ import test from "node:test";
 import { readBy } from "../../web/descriptions.mjs";
 import { withOtherFile, withRecordings } from "../../web/filing.mjs";
 import { titlesOf, toAdd } from "../../web/findings.mjs";
+import { isTyped } from "../../web/handing.mjs";
 import { clockTold, readingTold, tabTold, verdictOf } from "../../web/page-words.mjs";
 import { SessionFile } from "../../web/session-file.mjs";
-import { rowsOf } from "../../web/suite.mjs";
-import { edited, ticked } from "../../web/work.mjs";
+import { rowsOf, sessionOpened } from "../../web/suite.mjs";
+import { beginning, edited, ticked, withOwnText } from "../../web/work.mjs";
 import { Bench, GAME, module } from "./bench.mjs";
 
 const MANY = 80; // more texts than are kept as they were read
@@ -85,4 +86,18 @@ it("what comes is read one behind the other, and nothing is left where that is s
 
 test("how far texts are read is said where it takes long", () => {
   assert.deepEqual([null, { isSlow: false }, { isSlow: true, done: 3, total: 70 }].map((reading) => readingTold(reading)?.text ?? null), [null, null, "Reading the texts of recordings: 3 of 70."]);
+});
+
+it("a text that is too long to be played comes not to hand, in which a browser would lay it out for minutes", () => {
+  for (const [source, isTaken] of [[`${GAME}\n`, true], [`title ${"x".repeat(1_048_576)}`, false], [`title ${"\u20ac".repeat(400_000)}`, false]]) {
+    const found = [{ name: "a", source, inputs: [], level: "", index: 0 }], begun = beginning(GAME), opened = withOtherFile(begun, fileOf(found));
+    assert.deepEqual([opened, withRecordings(begun, found)].map(({ text }) => text === source), [isTaken, isTaken]);
+    const taken = withOwnText(sessionOpened({ ...opened, text: GAME }, 0));
+    assert.deepEqual([taken.text === source, taken.told?.text ?? null], [isTaken, isTaken ? null : "Its text is longer than a game's text may be, and stays where it is."]);
+  }
+});
+
+test("what is pasted into a field is left to it, but for a text that is far too long for one", () => {
+  const field = { matches: (words) => words === "textarea, input" }, level = { matches: () => false }, long = "x".repeat(2 ** 21 + 1);
+  assert.deepEqual([["x", field], ["", field], [long, field], ["x", level], ["", level], ["x", {}]].map((words) => isTyped(...words)), [true, true, false, false, true, false]);
 });
