@@ -5,7 +5,7 @@ import { Ghost } from "../../web/ghost.mjs";
 import { searchesIn } from "../../web/page-engine.mjs";
 import { framesOf, shownOf } from "../../web/replaying.mjs";
 import { ghostOf, solutionNow, solutionTaken, solutionTold, solveAsked, solveStopped, wantedSolution } from "../../web/solving.mjs";
-import { cutBack, edited, lookedAtInput, pressed, putBack } from "../../web/work.mjs";
+import { cutBack, edited, lookedAtInput, pressed, putBack, ticked } from "../../web/work.mjs";
 import { Bench, GAME, module } from "./bench.mjs";
 
 const it = (name, act, isSkipped = module === undefined) => test(name, { skip: isSkipped && "there is no module for it" }, act);
@@ -55,6 +55,17 @@ it("each answer is told", async () => {
     [[], { solution: null, frames: [], fault: "no-solutions" }, "Nothing is known: the engine of this page is an older one, which solves no levels."],
   ]) {
     const bench = await solved(inputs, answer);
+    assert.equal(solutionTold(bench.state), told);
+  }
+});
+
+it("of a game with a clock it is said that ticks are not tried", async () => {
+  for (const [answer, told] of [[found([0]), "Won in 1 press from the start on, and in no fewer: up. Its ticks are not tried."], [{ solution: { unsolvable: true }, frames: [], fault: null }, "No presses win from the start on. Its ticks are not tried."]]) {
+    const bench = await played([], answer);
+    await bench.act(edited, GAME.replace("OBJECTS", "realtime_interval 1\nOBJECTS"));
+    await bench.act(ticked, true);
+    await bench.act(solveAsked);
+    await moved();
     assert.equal(solutionTold(bench.state), told);
   }
 });
