@@ -5,15 +5,15 @@ const rest = () => new Promise((settle) => { setTimeout(settle); });
 
 // Does something with each of some things, of which `done` are told between the pieces; whether it came to the end.
 export async function eachInPieces(things, act, signal, progress = () => {}) {
-  let done = 0;
-  for (const rested = { at: -Infinity }; done < things.length; done += 1) {
-    if (performance.now() - rested.at > PIECE) {
+  let rested = -Infinity;
+  for (const [done, thing] of things.entries()) {
+    if (performance.now() - rested > PIECE) {
       progress(done, things.length);
       await rest();
       if (signal.aborted) return false;
-      rested.at = performance.now();
+      rested = performance.now();
     }
-    act(things[done]);
+    act(thing);
   }
   return true;
 }

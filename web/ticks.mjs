@@ -35,9 +35,9 @@ export class Clocks {
 
   // Reads texts that aren't known yet; whether it came to the end.
   async read(sources, signal) {
-    const unknown = [...new Set(sources)].filter((source) => !this.known.has(source)), isLong = (source) => WORD.test(source);
-    unknown.filter((source) => !isLong(source)).forEach((source) => this.known.set(source, source));
-    return eachInPieces(unknown.filter(isLong), (source) => this.known.set(source, this.without(source)), signal);
+    const unknown = [...new Set(sources)].filter((source) => !this.known.has(source)), hasWord = (source) => WORD.test(source);
+    unknown.filter((source) => !hasWord(source)).forEach((source) => this.known.set(source, source));
+    return eachInPieces(unknown.filter(hasWord), (source) => this.known.set(source, this.without(source)), signal);
   }
 
   // A text without its clock, as far as it is read.
