@@ -144,6 +144,16 @@ class Report(OnSessions):
         self.assertEqual([it[0] for it in session["source"]], list(range(23, 30)))
         self.assertEqual(session["source"][3], [26, "random [ Player ] -> [ Player ]", True])
 
+    def test_lines_that_a_cause_is_about_are_in_the_page_once_for_each_source(self):
+        source = json.loads(case("the-word-random-in-a-rule")[0].read_text(encoding="utf-8"))[0][1][0]
+        sources = [source, f"(another)\n{source}", source, f"(another)\n{source}", source]
+        causes = ["OutsideProfile:26", "OutsideProfile:27", "OutsideProfile:26", "OutsideProfile:27", "OutsideProfile:5"]
+        closes = [{"cause": cause, "close": "refused", "frames": 0, "name": str(number), "session": number} for number, cause in enumerate(causes)]
+        page = self.page(self.write("sessions.json", json.dumps([[str(number), [it, [], ""]] for number, it in enumerate(sources)])), self.write("lines", "".join(json.dumps(it) + "\n" for it in closes)))
+        shown = [page.json(f"session-{number}")["source"] for number in range(len(sources))]
+        self.assertEqual([it if isinstance(it, int) else [row[0] for row in it] for it in shown], [list(range(23, 30)), list(range(24, 31)), 0, 1, list(range(2, 9))])
+        self.assertEqual(shown[0][3], [26, "random [ Player ] -> [ Player ]", True])
+
     def test_colours_and_sprites_are_read_as_the_language_has_them(self):
         source = (
             "color_palette gameboycolour\nbackground_color (not here) #123\nOBJECTS\nBackground\n#AbC transparent DarkGray\n01201\n.....\n00000\n00000\n00000\n"

@@ -7,6 +7,7 @@ import { remembering } from "./past.mjs";
 import { framesOf, isPlayed } from "./replaying.mjs";
 import { Refusal, SessionFile } from "./session-file.mjs";
 import { isOther, runWithFrames, runsOfNow, sessionOpened } from "./suite.mjs";
+import { isTooLong } from "./texts.mjs";
 import { RECORDED_ORDER } from "./work.mjs";
 
 export const RECORDINGS = "recordings.json";
@@ -64,18 +65,18 @@ export function withOtherFile(state, file) {
 }
 
 // Adds recordings that were found in a text: those that aren't there yet. What was skipped beside them is told.
-export function withRecordings(state, recordings, skipped = []) {
+export function withRecordings(state, recordings, skipped = [], titles = undefined) {
   const one = theOneText({ entries: recordings }), isUntouched = state.text.trim() === "" || state.text === state.example;
   const text = state.file === null && isUntouched ? one ?? state.text : state.text, former = state.file ?? SessionFile.empty(RECORDINGS);
-  const found = toAdd(recordings, former.entries, text), file = former.withAll(found.added), saved = addedTold(found, file.name, skipped);
+  const found = toAdd(recordings, former.entries, text, titles), file = former.withAll(found.added), saved = addedTold(found, file.name, skipped);
   if (found.added.length === 0) return { ...state, tab: "sessions", told: null, saved };
   return { ...withFile(state, file, { text, isNew: true, tab: "sessions" }), saved };
 }
 
-// The text that all sessions of a file have as their own, or null.
+// The text that all sessions of a file have as their own, or null. One that is too long to be played comes not to hand: a browser takes minutes to lay it out.
 function theOneText({ entries }) {
   const source = entries[0]?.source ?? "";
-  return source !== "" && entries.every((entry) => entry.source === source) ? source : null;
+  return source !== "" && !isTooLong(source) && entries.every((entry) => entry.source === source) ? source : null;
 }
 
 // ---- another engine

@@ -3,7 +3,8 @@
 import { descriptionOf } from "./descriptions.mjs";
 import { plural } from "./elements.mjs";
 import { entriesOfLevels, titleOf } from "./game.mjs";
-import { fold, withoutEnd } from "./texts.mjs";
+import { eachInPieces } from "./pieces.mjs";
+import { fold, isTooLong, withoutEnd } from "./texts.mjs";
 
 const HOW = "in PuzzleScript's editor play, press Ctrl+J, and copy all that the console prints then";
 const SKIPPED = {
@@ -13,7 +14,6 @@ const SKIPPED = {
 const OBJECTS = 'it has objects in braces, and a recording is a list, ["name", ["source", [inputs], "level", index]]';
 const WITHOUT_NAME = ["", "untitled test"]; // a recording without a name of its own
 const SKIPPED_TOLD = 3;
-const MOST_OF_A_SOURCE = 1_048_576; // bytes
 const DEMAND = "solved"; // what stands behind the body of a recording that must be solved
 
 const skippedTold = ({ line, what }) => `line ${line}: skipped ${Object.hasOwn(SKIPPED, what) ? SKIPPED[what] : `a recording with a fault: ${what}`}`;
@@ -35,15 +35,17 @@ export function nothingTold(text) {
 
 // A text without what two that are the same may differ in: how lines end, and what stands behind the last. One that is too long to be played stays as it
 // is, and so is the same as no other that is played.
-function endless(text) {
-  const isTooLong = 3 * text.length > MOST_OF_A_SOURCE && new TextEncoder().encode(text).length > MOST_OF_A_SOURCE;
-  return isTooLong ? text : withoutEnd(text.replaceAll("\r\n", "\n"));
-}
+const endless = (text) => (isTooLong(text) ? text : withoutEnd(text.replaceAll("\r\n", "\n")));
 
 // The titles of texts and the numbers of their levels, each text read once, since many recordings may be of one.
 class Titles {
   constructor() {
     this.known = new Map();
+  }
+
+  // Reads the texts of recordings; whether it came to the end.
+  async read(recordings, ...words) {
+    return eachInPieces([...new Set(recordings.map(({ source }) => source))].filter((source) => source !== ""), (source) => this.of(source), ...words);
   }
 
   // A text by { title, numbers }: of each entry of LEVELS the number of the level that is there, or comes next.
@@ -61,6 +63,12 @@ class Titles {
     const { title, numbers } = this.of(source), level = numbers[index] ?? numbers.at(-1);
     return WITHOUT_NAME.includes(name) || fold(name) === fold(title) ? `${title}, level ${level}` : name;
   }
+}
+
+// The titles that recordings need for their names, or null where that was stopped.
+export async function titlesOf(recordings, ...words) {
+  const titles = new Titles();
+  return (await titles.read(recordings, ...words)) ? titles : null;
 }
 
 export const ownName = (recording) => new Titles().nameOf(recording);
@@ -118,8 +126,8 @@ class Known {
 
 // What of some recordings is added to the entries of a file, under names that no other has, and how many are there already: { added, known }. Those of
 // the text at hand follow it.
-export function toAdd(recordings, entries, text) {
-  const known = new Known(entries.map((it) => ({ ...it, source: it.source || text }))), names = new Names(entries.map(({ name }) => name)), titles = new Titles(), added = [];
+export function toAdd(recordings, entries, text, titles = new Titles()) {
+  const known = new Known(entries.map((it) => ({ ...it, source: it.source || text }))), names = new Names(entries.map(({ name }) => name)), added = [];
   for (const it of recordings) {
     const whole = { ...it, source: it.source || text };
     if (!known.take(whole)) continue;

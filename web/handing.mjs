@@ -6,6 +6,8 @@ import { Refusal, codingOf, textOf } from "./session-file.mjs";
 
 const MOST_OF_A_FILE = 64 * 2 ** 20; // of a file that is read, as python/saxtegun/files.py has it
 
+const MOST_TYPED = 2 ** 21; // letters that are pasted into a field: a game's text has half of them at most, and a browser takes minutes to lay out many more
+
 const unreadableTold = (name) => `${name} can't be read`;
 
 // Why a file isn't read, by its size, or null.
@@ -67,6 +69,9 @@ export async function takeEach(files, take, refuse) {
   }
 }
 
+// Whether a text that is pasted into an element is left to it.
+export const isTyped = (text, element) => text === "" || (text.length <= MOST_TYPED && Boolean(element.matches?.("textarea, input")));
+
 // Hands on files that are chosen, dropped or pasted, as above. That some are being read is told by during(promise).
 export function takeFiles(take, refuse, during) {
   const takeAll = (files) => during(takeEach(files, take, refuse));
@@ -82,7 +87,7 @@ export function takeFiles(take, refuse, during) {
   });
   document.addEventListener("paste", (event) => {
     const text = event.clipboardData.getData("text/plain");
-    if (text === "" || event.target.matches?.("textarea, input")) return;
+    if (isTyped(text, event.target)) return;
     event.preventDefault();
     take("pasted", new TextEncoder().encode(text));
   });

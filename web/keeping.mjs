@@ -1,5 +1,5 @@
 // Keeps what is worked on between visits, in the browser's own storage on this machine. Each tab keeps its own, so none overwrites another's.
-import { forgetNote, namesNoted, noted, noteDown } from "./notes.mjs";
+import { forgetNote, namesNoted, noted, noteDown, numberKept } from "./notes.mjs";
 import { FIRST, formerVisit, giveBack, isFree, newName, noteLeaving, noteName } from "./visits.mjs";
 
 const DATABASE = "saxtegun";
@@ -36,7 +36,7 @@ async function keptUnder(name) {
   return { name, value, note };
 }
 
-const timeOf = ({ value, note }) => Math.max(value?.kept ?? 0, note?.kept ?? 0);
+const lastOf = ({ value, note }, name) => Math.max(numberKept(value, name), numberKept(note, name));
 
 // What this browser keeps for one tab.
 export class Store {
@@ -64,7 +64,7 @@ export class Store {
   async read(first) {
     const isThere = ({ value, note }) => value !== undefined || note !== null;
     const own = first === null ? [] : [await keptUnder(first)], others = await Promise.all(this.left.map(keptUnder));
-    this.entries = [...own, ...others.sort((one, other) => timeOf(other) - timeOf(one))].filter(isThere);
+    this.entries = [...own, ...others.sort((one, other) => lastOf(other, "kept") - lastOf(one, "kept"))].filter(isThere);
   }
 
   // Goes on with those entries that were read; all others stay as they are, for other tabs.
@@ -77,7 +77,7 @@ export class Store {
       await isFree(this.name);
     } else {
       this.there = own.value ?? null;
-      this.turn = Math.max(own.value?.turn ?? 0, own.note?.turn ?? 0);
+      this.turn = lastOf(own, "turn");
     }
     noteName(this.name);
   }

@@ -1,5 +1,5 @@
 // A state as it is kept between visits, and back. What is kept has a version; what can't be read is no state.
-import { textOfValue, withNote } from "./notes.mjs";
+import { keyOfValue, withNote } from "./notes.mjs";
 import { packed, takePack, unpacked } from "./packing.mjs";
 import { MOST_PAST, remembering } from "./past.mjs";
 import { SessionFile } from "./session-file.mjs";
@@ -31,16 +31,19 @@ function wanted(isSo) {
 const isText = (value) => typeof value === "string";
 const isWhole = (value) => Number.isSafeInteger(value) && value >= 0;
 
+// Whether a value is a list of such things; of one with gaps they are no things.
+const isListOf = (value, isOne) => Array.isArray(value) && [...value].every(isOne);
+
 const isKeptInput = (input) => ["undo", "restart", "tick"].includes(input) || (isWhole(input) && input <= 4);
 
 function workFrom({ own, index, inputs, name, opened }, file) {
-  wanted((own === null || isText(own)) && isWhole(index) && isText(name) && Array.isArray(inputs) && inputs.every(isKeptInput));
+  wanted((own === null || isText(own)) && isWhole(index) && isText(name) && isListOf(inputs, isKeptInput));
   return { own, index, inputs, name, opened: isWhole(opened) && opened < (file?.entries.length ?? 0) ? opened : null };
 }
 
 function queueFrom(queue) {
   const isKey = ({ input, behind, looked }) => isKeptInput(input) && [behind, looked].every((number) => number === null || isWhole(number));
-  wanted(Array.isArray(queue) && queue.every(isKey));
+  wanted(isListOf(queue, isKey));
   return queue.map(({ input, behind, looked }) => ({ input, behind, looked }));
 }
 
@@ -71,7 +74,7 @@ export function stateFrom(value, example) {
     const { version, text, order, work, queue = [], file: bytes, isUnsaved, past, tab, isTicked, isBusy } = value.version === undefined ? fromFirst(value) : value;
     wanted(version === VERSION && isText(text) && ORDERS_OF_CELLS.includes(order) && Array.isArray(past));
     const file = fileFrom(bytes);
-    return { ...beginning(example), text, order, work: workFrom(work, file), queue: queueFrom(queue), file, isUnsaved: Boolean(isUnsaved), past: past.map(lostFrom).slice(-MOST_PAST), tab: tab === "sessions" ? tab : "game", isTicked: Boolean(isTicked), isHeld: Boolean(isBusy) };
+    return { ...beginning(example), text, order, work: workFrom(work, file), queue: queueFrom(queue), file, isUnsaved: Boolean(isUnsaved), past: Array.from(past, lostFrom).slice(-MOST_PAST), tab: tab === "sessions" ? tab : "game", isTicked: Boolean(isTicked), isHeld: Boolean(isBusy) };
   } catch {
     return null;
   }
@@ -94,8 +97,8 @@ function leftBy({ text, work, file, isUnsaved, past, example }) {
 
 // What another tab left, but for what a state has itself, as a copy of one that isn't gone does.
 function leftBeside(other, state) {
-  const textOf = (lost) => textOfValue(keptLoss(lost)), there = new Set(leftBy(state).map(textOf));
-  return leftBy(other).filter((lost) => !there.has(textOf(lost)));
+  const keyOf = (lost) => keyOfValue(keptLoss(lost)), there = new Set(leftBy(state).map(keyOf));
+  return leftBy(other).filter((lost) => !there.has(keyOf(lost)));
 }
 
 // What other tabs left as it can be put back in a state, as long as there is room, and the names of those for which there is none.

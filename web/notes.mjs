@@ -6,6 +6,16 @@ const encoder = new TextEncoder();
 
 // A value as a text. Bytes of it are those of texts.
 export const textOfValue = (value) => JSON.stringify(value, (_, it) => (it instanceof Uint8Array ? { text: decoder.decode(it) } : it));
+
+// By what it is known that two values are the same: their texts, or a value itself that has none, as nothing has that a page keeps.
+export function keyOfValue(value) {
+  try {
+    return textOfValue(value);
+  } catch {
+    return value;
+  }
+}
+
 const valueOfText = (text) => JSON.parse(text, (key, it) => (key === "bytes" && it?.text !== undefined ? encoder.encode(it.text) : it));
 
 // The names under which something is noted.
@@ -53,12 +63,15 @@ export function noteDown(name, value, isThere) {
   return false;
 }
 
-// Whether a note was made behind a value of the database. Earlier pages counted no turns.
-const isBehind = (note, value) => ((note.turn ?? 0) - (value.turn ?? 0) || (note.kept ?? 0) - (value.kept ?? 0)) > 0;
+// A number that something was kept with. Earlier pages counted no turns, and other pages may have written anything.
+export const numberKept = (it, name) => (Number.isSafeInteger(it?.[name]) ? it[name] : 0);
+
+// Whether a note was made behind a value of the database.
+const isBehind = (note, value) => (numberKept(note, "turn") - numberKept(value, "turn") || numberKept(note, "kept") - numberKept(value, "kept")) > 0;
 
 // What the database has together with what was noted since; null where that is nothing.
 export function withNote(value, note) {
   if (note === null || !Array.isArray(note.past) || !isBehind(note, value)) return null;
-  const again = new Set(note.past.map(textOfValue));
-  return { ...value, ...note, past: [...(value.past ?? []).filter((lost) => !again.has(textOfValue(lost))), ...note.past] };
+  const again = new Set(note.past.map(keyOfValue));
+  return { ...value, ...note, past: [...(value.past ?? []).filter((lost) => !again.has(keyOfValue(lost))), ...note.past] };
 }

@@ -156,6 +156,15 @@ async function soon(thread, question, signal) {
   return answer;
 }
 
+// What answers searches: each has a worker of its own, with which what it has kept is given back, and so gets no answer of another.
+export function searchesIn(begin, module) {
+  return async (question, signal) => {
+    const solver = new PlayerThread(begin, module), answer = await solver.ask({ sought: question }, signal);
+    solver.end();
+    return answer;
+  };
+}
+
 // Loads the module. Workers are started from the page's own script, which does nothing but play in them.
 export async function startEngine() {
   const module = await WebAssembly.compile(await moduleBytes());
@@ -168,12 +177,6 @@ export async function startEngine() {
     const answer = bytes.length > FEW ? null : await soon(few, { bytes, order: options.order }, options.signal);
     return answer ?? engine.replayInWorkers(bytes, options);
   };
-  // each search has a worker of its own, with which what it has kept is given back
-  const solution = async (question, signal) => {
-    const solver = new PlayerThread(begin, module), answer = await solver.ask({ sought: question }, signal);
-    solver.end();
-    return answer;
-  };
   const asked = (kind) => (question, signal) => player.ask({ [kind]: question }, signal);
-  return { play: asked("wanted"), stages: asked("staged"), acted: asked("covered"), solution, playAll };
+  return { play: asked("wanted"), stages: asked("staged"), acted: asked("covered"), solution: searchesIn(begin, module), playAll };
 }

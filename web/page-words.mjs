@@ -71,6 +71,9 @@ export function notesTold({ notes }) {
   return notes.length === 0 ? "" : `${[...notes.slice(0, MOST_NOTES), ...(more > 0 ? [`and ${plural(more, "more note")}`] : [])].join("; ")}.`;
 }
 
+// How far something is read that came, where that takes long; or null.
+export const readingTold = (reading) => (reading?.isSlow ? { text: `Reading the texts of recordings: ${reading.done} of ${reading.total}.`, close: null } : null);
+
 // What stands above the level: { text, close }.
 export function statusOf(state) {
   if (state.told !== null) return state.told;

@@ -4,6 +4,7 @@ import { Animation } from "./animating.mjs";
 import { Drawn } from "./drawn.mjs";
 import { Ghost } from "./ghost.mjs";
 import { at, isMotionReduced, json } from "./elements.mjs";
+import { titlesOf } from "./findings.mjs";
 import { download, handed, takeFiles } from "./handing.mjs";
 import { keptOf, stateOfVisit } from "./kept-work.mjs";
 import { Store } from "./keeping.mjs";
@@ -130,7 +131,7 @@ class Playground {
   async take(name, bytes) {
     try {
       const it = handed(name, bytes);
-      if (it.kind === "recordings") this.act(withRecordings, it.found.map((one) => ({ ...one, source: one.source.replaceAll("\r\n", "\n") })), it.skipped);
+      if (it.kind === "recordings") await this.add(it.found.map((one) => ({ ...one, source: one.source.replaceAll("\r\n", "\n") })), it.skipped);
       else if (it.kind === "sessions") this.act(withOtherFile, new SessionFile(name, it.bytes));
       else if (it.kind === "lines") await this.runner.idle().then(() => this.act(comparedWithLines, name, it.text));
       else this.takeGame(it.text);
@@ -138,6 +139,13 @@ class Playground {
       if (!(error instanceof Refusal)) console.error(error);
       this.refuse(error.message);
     }
+  }
+
+  // Adds recordings, once the texts are read that they are of.
+  async add(recordings, skipped) {
+    const titles = await this.runner.reading((...words) => titlesOf(recordings, ...words));
+    if (titles === null) throw new Refusal("it was stopped while its texts were read");
+    this.act(withRecordings, recordings, skipped, titles);
   }
 
   // Says why a file isn't opened.

@@ -3,8 +3,7 @@ import { playedInParts } from "./parts.mjs";
 import { answered, isWanted, wantedPlay } from "./replaying.mjs";
 import { coverageCame, isCoverageWanted, isStagesWanted, stagesCame, wantedCoverage, wantedStages } from "./staging.mjs";
 import { isSolutionWanted, solutionCame, wantedSolution } from "./solving.mjs";
-import { seeing, suiteCame, wantedSuite } from "./suite.mjs";
-import { playedText } from "./ticks.mjs";
+import { partsPlayed, seeing, suiteCame, wantedSuite } from "./suite.mjs";
 import { held } from "./work.mjs";
 
 const SLOW = 500; // milliseconds, after which it is said that something is being played
@@ -15,9 +14,10 @@ export class Runner {
   // is, and keep(state, isPlaying) keeps it.
   constructor(state, { engine, draw, keep, pause = TYPING_PAUSE }) {
     Object.assign(this, { state, engine, draw, keep, pause });
-    this.doing = { play: null, suite: null, stages: null, coverage: null, solution: null, isTyping: false }; // what is asked now: { wanted, controller, done, total, isSlow }
+    this.doing = { play: null, suite: null, stages: null, coverage: null, solution: null, reading: null, isTyping: false }; // what is asked now: { wanted, controller, done, total, isSlow }
     this.timer = 0;
     this.coming = 0; // files that are being read
+    this.read = Promise.resolve(); // what came before, once it is read
     this.waiting = [];
   }
 
@@ -47,6 +47,30 @@ export class Runner {
     this.show();
   }
 
+  // Reads something that came, by read(signal, progress), behind what came before. It is null where it was stopped.
+  reading(read) {
+    const answer = this.read.then(() => this.readNow(read));
+    this.read = answer.catch(() => {});
+    return answer;
+  }
+
+  async readNow(read) {
+    const doing = { wanted: null, controller: new AbortController(), done: 0, total: 0, isSlow: false };
+    doing.timer = setTimeout(() => this.showSlow(doing), SLOW);
+    this.doing.reading = doing;
+    try {
+      return await read(doing.controller.signal, (done, total) => this.progress(doing, done, total));
+    } finally {
+      clearTimeout(doing.timer);
+      this.doing.reading = null;
+    }
+  }
+
+  progress(doing, done, total) {
+    Object.assign(doing, { done, total });
+    this.draw(this.state, this.doing, true);
+  }
+
   show() {
     this.draw(this.state, this.doing, this.isBusy || this.coming > 0);
     this.keep(this.state, this.doing.play?.isSlow ?? false);
@@ -54,8 +78,8 @@ export class Runner {
   }
 
   get isBusy() {
-    const { play, suite, stages, isTyping } = this.doing;
-    return isTyping || play !== null || suite !== null || stages !== null;
+    const { play, suite, stages, reading, isTyping } = this.doing;
+    return isTyping || play !== null || suite !== null || stages !== null || reading !== null;
   }
 
   // Settles once nothing is typed, asked or wanted.
@@ -119,19 +143,23 @@ export class Runner {
     const isSame = (wanted) => wanted.file === file && wanted.order === order && wanted.isTicked === isTicked && (wanted.text === text || !file.isOverAGame);
     this.begin("suite", wantedSuite(this.state), isSame, async (doing) => {
       const { wanted, controller: { signal } } = doing, begun = performance.now();
-      const progress = (done, total) => {
-        Object.assign(doing, { done, total });
-        this.draw(this.state, this.doing, true);
-      };
-      const parts = wanted.file.partsOver(wanted.text, (source) => playedText(source, wanted.isTicked)), count = wanted.file.entries.length;
-      const answer = await playedInParts(this.engine, parts, count, { order: wanted.order, signal, progress }).catch((error) => ({ fault: error.message, lines: null }));
+      doing.total = wanted.file.entries.length;
+      const progress = (done, total) => this.progress(doing, done, total);
+      const answer = await this.playSuite(wanted, { order: wanted.order, signal, progress }).catch((error) => ({ fault: error.message, lines: null }));
       return (state) => suiteCame(state, wanted, answer, performance.now() - begun);
     });
   }
 
-  // Ends what is played, at the wish of whoever sits before the page.
+  async playSuite(wanted, options) {
+    const count = wanted.file.entries.length, parts = await partsPlayed(wanted, options.signal);
+    return parts === null ? null : playedInParts(this.engine, parts, count, options);
+  }
+
+  // Ends what is read or played, at the wish of whoever sits before the page.
   stopPlay() {
-    this.update(held);
+    const { reading } = this.doing;
+    if (reading === null) this.update(held);
+    else reading.controller.abort();
   }
 
   stopSuite() {

@@ -5,6 +5,7 @@ import { isSameList } from "./past.mjs";
 import { firstFrom } from "./recording.mjs";
 import { framesOf, gameOf, isPlayOf, isPlayed, sourceOf, takenOf } from "./replaying.mjs";
 import { refusalTold } from "./session-file.mjs";
+import { hasClock } from "./ticks.mjs";
 import { withWork } from "./work.mjs";
 
 const ROOM = 2 ** 28; // bytes of the levels of play that a search keeps, as far as that is known beforehand
@@ -60,6 +61,9 @@ export function solutionNow(state) {
   return asked === null || presses === undefined || switchedOff(asked.source, presses) ? null : { asked, presses, frames: came.frames };
 }
 
+// What is said beside where time goes on by itself: a search is for presses alone, and by ticks more may be won, or by fewer presses.
+const ticksTold = ({ source, isTicked }) => (isTicked && hasClock(source) ? " Its ticks are not tried." : "");
+
 // What is said of the search.
 export function solutionTold(state) {
   const asked = askedNow(state), { came } = state.solving;
@@ -70,8 +74,8 @@ export function solutionTold(state) {
   const { solved, unsolvable, outOfBounds, over } = came.solution;
   const word = solved && switchedOff(asked.source, solved);
   if (word) return `Not known: the fewest presses that win have one that this game switches off by \`${word}\`.`;
-  if (solved) return `Won in ${pressesTold(solved.length)} from ${from} on, and in no fewer: ${solved.map((it) => PRESSES[it]).join(" ")}.`;
-  if (unsolvable) return `No presses win from ${from} on.`;
+  if (solved) return `Won in ${pressesTold(solved.length)} from ${from} on, and in no fewer: ${solved.map((it) => PRESSES[it]).join(" ")}.${ticksTold(asked)}`;
+  if (unsolvable) return `No presses win from ${from} on.${ticksTold(asked)}`;
   if (outOfBounds) return `Not known: no list of up to ${pressesTold(outOfBounds.inputs)} wins from there, and longer ones lead to more than ${outOfBounds.levels.toLocaleString("en")} levels of play, as many as are kept.`;
   return over ? "All levels are won." : "There is no level to win.";
 }

@@ -5,7 +5,7 @@ import { isSameList } from "./past.mjs";
 import { framesOf, isAtEnd, isPlayed, sourceOf } from "./replaying.mjs";
 import { refusalTold } from "./session-file.mjs";
 import { isFailure } from "./session-list.mjs";
-import { clocks, hasClock, isRefusedForClock } from "./ticks.mjs";
+import { Clocks, hasClock, isRefusedForClock, playedText } from "./ticks.mjs";
 import { withWork } from "./work.mjs";
 
 // ---- how all sessions closed
@@ -30,12 +30,18 @@ export const isOther = (state, number) => ![ "", state.text ].includes(state.fil
 
 const CLOCKS_OF = new WeakMap(); // for each file what is known of the texts of its sessions
 
-// Tells of a text of a session whether it has a clock. Those that the file has are read once; the one at hand changes with each letter.
-function clockOf({ file, text }) {
-  if (file === null) return hasClock;
-  if (!CLOCKS_OF.has(file)) CLOCKS_OF.set(file, clocks());
-  const isWithClock = CLOCKS_OF.get(file);
-  return (source) => (source === text ? hasClock(source) : isWithClock(source));
+function clocksIn(file) {
+  if (!CLOCKS_OF.has(file)) CLOCKS_OF.set(file, new Clocks());
+  return CLOCKS_OF.get(file);
+}
+
+// Tells of a text of a session whether it has a clock. Those that the file has are read before it is played; the one at hand changes with each letter.
+const clockOf = ({ file, text }) => (source) => (file === null || source === text ? hasClock(source) : clocksIn(file).isThere(source));
+
+// Files of the sessions as the engine is to play them, or null where that was stopped. Each of their texts is read for its clock before.
+export async function partsPlayed({ file, text, isTicked }, signal) {
+  const clocks = clocksIn(file), isRead = await clocks.read(file.entries.map(({ source }) => source), signal);
+  return isRead ? file.partsOver(text, (source) => (source === text ? playedText(source, isTicked) : isTicked ? clocks.playedOf(source) : source)) : null;
 }
 
 // How many sessions are refused since their games have a clock, or are played without it.

@@ -2,10 +2,14 @@
 
 // What Unicode calls white space.
 const SPACE = /[\t-\r \x85\xa0\u1680\u2000-\u200a\u2028\u2029\u202f\u205f\u3000]/;
+const MOST_OF_A_SOURCE = 1_048_576; // bytes of a text that is played
 const MOST_LETTERS = 200; // of a text of a stranger that is read in a line among others
 
 // A name as names are compared: the case of ASCII letters is ignored, and of no others.
 export const fold = (text) => text.replace(/[A-Z]/g, (letter) => letter.toLowerCase());
+
+// Whether a text is longer than one that is played.
+export const isTooLong = (text) => 3 * text.length > MOST_OF_A_SOURCE && new TextEncoder().encode(text).length > MOST_OF_A_SOURCE;
 
 export const shortened = (text) => {
   const letters = [...text];

@@ -6,6 +6,7 @@ import { behindAll, remembering } from "./past.mjs";
 import { firstFrom } from "./recording.mjs";
 import { cutToPlayed, framesOf, gameOf, isAtEnd, isPlayed, sourceOf, takenOf } from "./replaying.mjs";
 import { MOST_INPUTS } from "./session-file.mjs";
+import { isTooLong } from "./texts.mjs";
 
 export const RECORDED_ORDER = "columns"; // the one of the published level texts, in which `saxtegun test` plays
 
@@ -133,6 +134,7 @@ export function withGame(state, text) {
 // Takes the text of the session that is open to hand.
 export function withOwnText(state) {
   const { own } = state.work;
+  if (own !== null && isTooLong(own)) return { ...state, told: { text: "Its text is longer than a game's text may be, and stays where it is.", close: null } };
   return own === null ? state : withWork(state, { ...state.work, own: null }, { ...AFRESH, text: own, tab: "game" });
 }
 

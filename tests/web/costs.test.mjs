@@ -12,7 +12,8 @@ import { rowsInWords } from '../../web/cells.mjs';
 import { descriptionOf, readBy } from '../../web/descriptions.mjs';
 import { Game } from '../../web/game.mjs';
 import { SessionFile } from '../../web/session-file.mjs';
-import { clocks } from '../../web/ticks.mjs';
+import { Clocks } from '../../web/ticks.mjs';
+import { eachInPieces } from '../../web/pieces.mjs';
 import { module } from './module.mjs';
 
 const HEAD = 'OBJECTS\nBackground .\nblack\nPlayer p\nwhite\n';
@@ -148,8 +149,22 @@ test('a piece is read again and again, however often it stands there', () => {
   }
 });
 
-test('a text that many sessions have is looked through once for a clock, however many others stand between', () => {
-  const asked = [], isWithClock = clocks((source) => asked.push(source) > 0), texts = Array.from({ length: 130 }, (_, k) => `${k}`);
-  for (let turn = 0; turn < 50; turn += 1) for (const text of texts) isWithClock(text);
-  assert.deepEqual(asked, texts);
+test('a text that many sessions have is read once for its clock, and one without the word not at all', async () => {
+  const asked = [], clocks = new Clocks((source) => { asked.push(source); return ''; }), { signal } = new AbortController();
+  const texts = Array.from({ length: 130 }, (_, k) => `${k} Realtime_Interval`);
+  for (let turn = 0; turn < 3; turn += 1) assert.equal(await clocks.read([...texts, 'none', ...texts], signal), true);
+  assert.deepEqual([asked, clocks.isThere(texts[7]), clocks.isThere('none')], [texts, true, false]);
+});
+
+// A timer tells whether the thread was given back, however slow the machine is.
+test('many texts are read in pieces, between which the thread is given back, until that is stopped', async () => {
+  const taken = [], told = [], stopping = new AbortController(), things = Array.from({ length: 1000 }, (_, k) => k);
+  const busy = (thing) => {
+    const end = performance.now() + 10;
+    while (performance.now() < end);
+    if (taken.push(thing) === 10) setTimeout(() => stopping.abort());
+  };
+  assert.equal(await eachInPieces(things, busy, stopping.signal, (done, all) => told.push([done, all])), false);
+  assert.deepEqual([taken.length >= 10, taken.length < 1000, told[0], told.at(-1)], [true, true, [0, 1000], [taken.length, 1000]]);
+  assert.deepEqual([await eachInPieces([1, 2], (it) => taken.push(it), new AbortController().signal), taken.slice(-2)], [true, [1, 2]]);
 });

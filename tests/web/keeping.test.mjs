@@ -247,3 +247,28 @@ test("a note that is none takes no work away", () => {
   const value = keptOf({ ...beginning(GAME), text: "title mine" }, false);
   for (const note of [{ turn: 9, past: 5 }, { turn: 9 }, 5, "text", [], {}]) assert.equal(stateOfVisit([{ name: "one", value, note }], GAME).state.text, "title mine");
 });
+
+// A value that another page may have kept under a name of this one's, made of one of this page's.
+const ring = {};
+ring.ring = ring;
+const OF_OTHERS = [
+  (value) => ({ ...value, kept: 1n }), (value) => ({ ...value, turn: 1n }), (value) => ({ ...value, turn: "x", kept: NaN }), (value) => ({ ...value, past: [{ text: "title x", more: 1n }] }),
+  (value) => ({ ...value, past: [{ work: { ...value.work, more: ring } }] }), (value) => ({ ...value, past: Object.assign([], { 3: { text: "title x" } }) }), (value) => ({ ...value, queue: new Array(3) }),
+  (value) => ({ ...value, work: { ...value.work, inputs: new Array(3) } }), () => 5, () => null, () => new Map(),
+];
+
+test("whatever another page has kept, a visit begins, and has the work of this one", async () => {
+  for (const make of OF_OTHERS) {
+    for (const own of [null, "work other"]) {
+      const browser = new OneTab(), mine = keptOf({ ...beginning(GAME), text: "title mine", past: [{ text: "title before" }] }, false);
+      if (own !== null) browser.tab.room.items["saxtegun-tab"] = own;
+      for (const [name, value] of [["work other", make(structuredClone(mine))], ["work one", mine], ["work two", mine]]) browser.database.entries.set(name, value);
+      browser.notes.room.items["saxtegun-left work other"] = JSON.stringify({ ...mine, turn: 9, past: [] });
+      const visit = await Visit.of();
+      visit.act(named, "next");
+      await visit.written();
+      assert.deepEqual([textsOf(visit.state).includes("title mine"), visit.kept.at(-1)], [true, true], `${make}`);
+      browser.leave();
+    }
+  }
+});

@@ -2,9 +2,10 @@
 import assert from "node:assert/strict";
 import test from "node:test";
 import { Ghost } from "../../web/ghost.mjs";
+import { searchesIn } from "../../web/page-engine.mjs";
 import { framesOf, shownOf } from "../../web/replaying.mjs";
 import { ghostOf, solutionNow, solutionTaken, solutionTold, solveAsked, solveStopped, wantedSolution } from "../../web/solving.mjs";
-import { cutBack, edited, lookedAtInput, pressed, putBack } from "../../web/work.mjs";
+import { cutBack, edited, lookedAtInput, pressed, putBack, ticked } from "../../web/work.mjs";
 import { Bench, GAME, module } from "./bench.mjs";
 
 const it = (name, act, isSkipped = module === undefined) => test(name, { skip: isSkipped && "there is no module for it" }, act);
@@ -58,6 +59,17 @@ it("each answer is told", async () => {
   }
 });
 
+it("of a game with a clock it is said that ticks are not tried", async () => {
+  for (const [answer, told] of [[found([0]), "Won in 1 press from the start on, and in no fewer: up. Its ticks are not tried."], [{ solution: { unsolvable: true }, frames: [], fault: null }, "No presses win from the start on. Its ticks are not tried."]]) {
+    const bench = await played([], answer);
+    await bench.act(edited, GAME.replace("OBJECTS", "realtime_interval 1\nOBJECTS"));
+    await bench.act(ticked, true);
+    await bench.act(solveAsked);
+    await moved();
+    assert.equal(solutionTold(bench.state), told);
+  }
+});
+
 it("an answer stays as long as the recording begins so, and is gone with another text", async () => {
   const bench = await solved([1], found([0, 0]));
   await bench.act(pressed, 3);
@@ -82,6 +94,56 @@ it("a search that is stopped, or of something else by now, has no answer", async
   answer(found([0]));
   await moved();
   assert.deepEqual([wantedSolution(bench.state), solutionNow(bench.state), solutionTold(bench.state)], [null, null, ""]);
+});
+
+// A worker that does nothing by itself.
+class Idle {
+  constructor(workers) {
+    Object.assign(this, { asked: [], isEnded: false });
+    workers.push(this);
+  }
+
+  postMessage(message) {
+    this.asked.push(message);
+  }
+
+  terminate() {
+    this.isEnded = true;
+  }
+}
+
+test("a search has no answer of the one before, whenever that comes, and its worker ends", async () => {
+  const workers = [], solution = searchesIn(() => new Idle(workers), "the module"), stopping = new AbortController();
+  const first = solution("first", stopping.signal), second = solution("second", new AbortController().signal);
+  await moved();
+  assert.deepEqual(workers.map(({ asked }) => asked), [[{ module: "the module" }, { sought: "first" }], [{ module: "the module" }, { sought: "second" }]]);
+  stopping.abort();
+  workers[0].onmessage({ data: "answer to the first" });
+  workers[1].onmessage({ data: "answer to the second" });
+  assert.deepEqual([await first, await second, workers.map(({ isEnded }) => isEnded)], ["answer to the first", "answer to the second", [true, true]]);
+  // one that doesn't end by itself is ended, and another that was begun meanwhile is not
+  const ending = new AbortController(), stopped = solution("third", ending.signal), last = solution("fourth", new AbortController().signal);
+  await moved();
+  ending.abort();
+  assert.deepEqual([await stopped, workers.map(({ isEnded }) => isEnded)], [null, [true, true, true, false]]);
+  workers[3].onmessage({ data: "answer to the fourth" });
+  assert.deepEqual([await last, workers.length, workers[3].isEnded], ["answer to the fourth", 4, true]);
+});
+
+it("of two searches that are asked for behind one another the answer to the second counts, whichever comes first", async () => {
+  for (const turn of [[0, 1], [1, 0]]) {
+    const bench = await played([1, 0], null), answers = [];
+    bench.engine.solution = () => new Promise((settle) => { answers.push(settle); });
+    await bench.act(solveAsked);
+    await bench.act(solveStopped);
+    await bench.act(lookedAtInput, 1);
+    await bench.act(solveAsked);
+    for (const number of turn) {
+      answers[number](found([number]));
+      await moved();
+    }
+    assert.deepEqual([answers.length, solutionNow(bench.state).presses, solutionNow(bench.state).asked.inputs], [2, [1], [1]]);
+  }
 });
 
 it("the presses are taken behind those from which they were looked for, and put back", async () => {

@@ -1,0 +1,103 @@
+// Many texts that come at once, without a browser: they are read in pieces, which can be stopped, and none is read twice.
+import assert from "node:assert/strict";
+import test from "node:test";
+import { readBy } from "../../web/descriptions.mjs";
+import { withOtherFile, withRecordings } from "../../web/filing.mjs";
+import { titlesOf, toAdd } from "../../web/findings.mjs";
+import { isTyped } from "../../web/handing.mjs";
+import { clockTold, readingTold, tabTold, verdictOf } from "../../web/page-words.mjs";
+import { SessionFile } from "../../web/session-file.mjs";
+import { rowsOf, sessionOpened } from "../../web/suite.mjs";
+import { beginning, edited, ticked, withOwnText } from "../../web/work.mjs";
+import { Bench, GAME, module } from "./bench.mjs";
+
+const MANY = 80; // more texts than are kept as they were read
+const it = (name, act) => test(name, { skip: module === undefined && "there is no module for it" }, act);
+const moved = () => new Promise((settle) => setTimeout(settle, 1));
+const { signal } = new AbortController();
+
+const clocked = (number) => GAME.replace("OBJECTS", `title Own ${number}\nrealtime_interval 1\nOBJECTS`);
+const recordings = () => Array.from({ length: MANY }, (_, number) => ({ name: "", source: clocked(number), inputs: [], level: "", index: 0 }));
+const fileOf = (entries) => new SessionFile("f.json", new TextEncoder().encode(JSON.stringify(entries.map(({ source, inputs, level, index }, number) => [`${number}`, [source, inputs, level, index]]))));
+
+// Does something while it is counted how often a text of a session is read.
+async function counted(act) {
+  const count = { read: 0 }, isOwn = (bytes) => new TextDecoder().decode(bytes).includes("title Own");
+  readBy({ description: (bytes) => { count.read += isOwn(bytes); return module.description(bytes); } });
+  await act(count).finally(() => readBy(module));
+}
+
+const drawn = (state) => [rowsOf(state).filter(({ isTicked }) => isTicked).length, tabTold(state), clockTold(state)?.text, verdictOf(state, null).text.replace(/[0-9.]+ s/, "")];
+
+it("letters typed over many games with clocks read none of these anew", () => counted(async (count) => {
+  const bench = new Bench();
+  await bench.act(ticked, true);
+  await bench.act(withOtherFile, fileOf(recordings()));
+  const first = drawn(bench.state);
+  assert.deepEqual([count.read > 0, first[0], first[2]], [true, MANY, "Played without `realtime_interval`, with its ticks as recorded."]);
+  count.read = 0;
+  for (const letter of ["a", "b", "c"]) {
+    await bench.act(edited, `${bench.state.text}(${letter})\n`);
+    assert.deepEqual(drawn(bench.state), first);
+  }
+  assert.equal(count.read, 0);
+  // where the text at hand was that of a session, this one still counts
+  const other = new Bench();
+  await other.act(edited, clocked(0));
+  await other.act(ticked, true);
+  await other.act(withOtherFile, fileOf(recordings()));
+  await other.act(edited, GAME);
+  assert.equal(drawn(other.state)[0], MANY);
+}));
+
+it("that many games with clocks are read before they are played can be stopped", () => counted(async (count) => {
+  const bench = new Bench();
+  await bench.runner.idle();
+  for (const isTicked of [false, true]) {
+    bench.runner.update((state) => withOtherFile({ ...state, isTicked }, fileOf(recordings())));
+    drawn(bench.state);
+    bench.runner.stopSuite();
+    await moved();
+    assert.deepEqual([count.read, verdictOf(bench.state, null).text, drawn(bench.state)[0]], [0, "Stopped: not all sessions were played.", 0]);
+  }
+}));
+
+it("the texts of recordings are read before these are added, which then have the same names", () => counted(async (count) => {
+  const found = recordings(), titles = await titlesOf(found, signal), bench = new Bench();
+  assert.equal(count.read, MANY);
+  assert.deepEqual(toAdd(found, [], "", titles), toAdd(found, [], ""));
+  count.read = 0;
+  assert.equal(withRecordings(bench.state, found, [], titles).file.entries[7].name, "Own 7, level 1");
+  assert.equal(count.read, 0);
+}));
+
+it("what comes is read one behind the other, and nothing is left where that is stopped or fails", async () => {
+  const bench = new Bench(), begun = [];
+  await bench.runner.idle();
+  const stopped = bench.runner.reading((asked) => { begun.push(1); return new Promise((settle) => asked.addEventListener("abort", () => settle(null))); });
+  const failing = bench.runner.reading(async () => { begun.push(2); throw new Error("no"); }), last = bench.runner.reading(async () => begun.push(3));
+  await moved();
+  assert.deepEqual([begun, bench.runner.isBusy], [[1], true]);
+  bench.runner.stopPlay();
+  assert.equal(await stopped, null);
+  await assert.rejects(failing);
+  assert.deepEqual([await last, begun, bench.runner.isBusy, bench.state.isHeld], [3, [1, 2, 3], false, false]);
+});
+
+test("how far texts are read is said where it takes long", () => {
+  assert.deepEqual([null, { isSlow: false }, { isSlow: true, done: 3, total: 70 }].map((reading) => readingTold(reading)?.text ?? null), [null, null, "Reading the texts of recordings: 3 of 70."]);
+});
+
+it("a text that is too long to be played comes not to hand, in which a browser would lay it out for minutes", () => {
+  for (const [source, isTaken] of [[`${GAME}\n`, true], [`title ${"x".repeat(1_048_576)}`, false], [`title ${"\u20ac".repeat(400_000)}`, false]]) {
+    const found = [{ name: "a", source, inputs: [], level: "", index: 0 }], begun = beginning(GAME), opened = withOtherFile(begun, fileOf(found));
+    assert.deepEqual([opened, withRecordings(begun, found)].map(({ text }) => text === source), [isTaken, isTaken]);
+    const taken = withOwnText(sessionOpened({ ...opened, text: GAME }, 0));
+    assert.deepEqual([taken.text === source, taken.told?.text ?? null], [isTaken, isTaken ? null : "Its text is longer than a game's text may be, and stays where it is."]);
+  }
+});
+
+test("what is pasted into a field is left to it, but for a text that is far too long for one", () => {
+  const field = { matches: (words) => words === "textarea, input" }, level = { matches: () => false }, long = "x".repeat(2 ** 21 + 1);
+  assert.deepEqual([["x", field], ["", field], [long, field], ["x", level], ["", level], ["x", {}]].map((words) => isTyped(...words)), [true, true, false, false, true, false]);
+});
