@@ -305,5 +305,77 @@ class EngineOfDescriptions(InARoom):
             self.assertEqual((ran.returncode, ran.stderr), (2, why))
 
 
+# Level texts, each with its cells: whatever the order in which it names them, those that have the same names have the same number.
+LEVELS = {
+    "": '{"cells":[],"sets":[]}',
+    ":0,\n": '{"cells":[0],"sets":[""]}',
+    "b:0,B  a:1,\n0,1,\n": '{"cells":[0,1,0,1],"sets":["b","a b"]}',
+    "a b:0,b a A:1,1,c:2,0,": '{"cells":[0,0,0,1,0],"sets":["a b","c"]}',
+    "\u00e4 z:0,\r\n": '{"cells":[0],"sets":["z \u00e4"]}',
+    "a:b:0,": '{"cells":[0],"sets":["a:b"]}',
+    **{text: "null" for text in ("a:0", "a:1,", "0,", "a:0,1,", "a:,", "\n,")},
+}
+SESSIONS = [
+    ["one", ["S", [0, 1, 2, 3, 4, "undo", "restart", "tick"], "a:0,"]],
+    ["two", ["T", [], "", 7]],
+    ['"three\n', ["S", [], "b:0,0,", None, "a seed"], "more"],
+]
+TOLD_OF_SESSIONS = (
+    '{"sessions":[{"index":0,"inputs":[0,1,2,3,4,"undo","restart","tick"],"level":{"cells":[0],"sets":["a"]},"name":"one","source":0},'
+    '{"index":7,"inputs":[],"level":{"cells":[],"sets":[]},"name":"two","source":1},'
+    '{"index":0,"inputs":[],"level":{"cells":[0,0],"sets":["b"]},"name":"\\"three\\n","source":0}],"sources":["S","T"]}'
+)
+REFUSED_FILES = {"": "not-json", "{}": "not-json", "[3]": "bad-entry 0", json.dumps([SESSIONS[0], ["", ["", [], "x"]]]): "bad-level 1"}
+
+
+class DayOfLevelsAndFiles(InARoom):
+    """What is told of level texts and of files of sessions, by the program where it is built."""
+
+    words, names = staticmethod(programs.describer_words), None
+
+    def tell(self, kind, *texts):
+        paths = [self.room / str(number) for number in range(len(texts))]
+        for path, text in zip(paths, texts):
+            path.write_bytes(text if isinstance(text, bytes) else text.encode())
+        words = self.words()
+        ran = subprocess.run([*words, kind, *map(str, paths)], stdout=subprocess.PIPE, stderr=subprocess.PIPE, env=self.names or programs.environment_of(words), check=False)
+        return ran.returncode, ran.stdout.decode(), ran.stderr.decode()
+
+    def test_level_texts(self):
+        self.assertEqual(self.tell("--levels", *LEVELS), (0, "".join(f"{it}\n" for it in LEVELS.values()), ""))
+
+    def test_a_set_of_long_names_in_many_cells_is_told_once(self):
+        text = " ".join(f"name{it}" for it in range(10_000)) + ":0," + "0," * 100_000
+        status, told, _ = self.tell("--levels", text)
+        self.assertEqual((status, len(json.loads(told)["cells"])), (0, 100_001))
+        self.assertLess(len(told), len(text) + 100)
+
+    def test_files_of_sessions(self):
+        self.assertEqual(self.tell("--sessions", "[]", json.dumps(SESSIONS)), (0, f'{{"sessions":[],"sources":[]}}\n{TOLD_OF_SESSIONS}\n', ""))
+
+    def test_files_that_are_refused(self):
+        for text, why in REFUSED_FILES.items():
+            self.assertEqual(self.tell("--sessions", text), (2, "", f"{why}\n"))
+
+    def test_what_is_no_text_or_no_command_line(self):
+        for kind in ("--levels", "--sessions"):
+            self.assertEqual(self.tell(kind, b"\xff"), (2, "", "not-json\n"))
+            self.assertEqual(self.tell(kind), (2, "", "bad command line\n"))
+
+
+class EngineOfLevelsAndFiles(DayOfLevelsAndFiles):
+    """The same by the module that is built."""
+
+    @classmethod
+    def setUpClass(cls):
+        if os.environ.get("SAXTEGUN_PROGRAM") == "none" or not (TOP / "engine/out/saxtegun.wasm").is_file():
+            raise unittest.SkipTest("the module is not built")
+
+    names = {it: value for it, value in os.environ.items() if it != "SAXTEGUN_MODULE"}
+
+    def words(self):
+        return [programs.in_node().words[0], str(programs.DESCRIBE_IN_NODE)]
+
+
 if __name__ == "__main__":
     unittest.main()

@@ -45,6 +45,8 @@ function isReturned(host, next, pick) {
     () => host.exports.saxtegun_frames(place(), length(), order(), length(), place(), length(), place()),
     () => host.exports.saxtegun_stages?.(place(), length(), order(), place(), place(), place(), length(), place()),
     () => host.exports.saxtegun_description?.(place(), length(), place(), length(), place()),
+    () => host.exports.saxtegun_level_description?.(place(), length(), place(), length(), place()),
+    () => host.exports.saxtegun_file_description?.(place(), length(), place(), length(), place()),
     () => host.exports.give_back_room(place()),
     () => host.exports.take_room(pick([...SIZES, place()])),
   ];

@@ -32,11 +32,22 @@ const DESCRIPTION = {
 };
 const TEXT = JSON.stringify(DESCRIPTION);
 const NOTHING = '{"fault":{"code":"Section","line":0},"layers":[],"legend":[],"levels":[],"lines":[[1,"prelude",false,""]],"objects":[],"prelude":[],"program":null,"rules":[],"wins":[]}';
+/** A level text and a file, each with what is told of it. */
+const LEVEL = 'b:0,B a:1,\n0,1,\n', CELLS = { cells: [0, 1, 0, 1], sets: ['b', 'a b'] };
+const SESSIONS = JSON.stringify([['one', ['S', [3, 'tick'], 'a:0,', 2]], ['two', ['S', [], '']]]);
+const FILE = {
+  sessions: [
+    { index: 2, inputs: [3, 'tick'], level: { cells: [0], sets: ['a'] }, name: 'one', source: 0 },
+    { index: 0, inputs: [], level: { cells: [], sets: [] }, name: 'two', source: 0 },
+  ],
+  sources: ['S'],
+};
 const refused = fault => ({ status: 2, passed: false, lines: new Uint8Array(0), fault });
 
 /** A host of the module, with a source and a room of its own. */
 class Host {
-  constructor(module, source, size) {
+  constructor(module, source, size, asked = 'saxtegun_description') {
+    this.asked = asked;
     const file = new TextEncoder().encode(source);
     this.exports = new WebAssembly.Instance(module).exports;
     [this.file, this.room, this.outcome] = [file.length, size, OUTCOME].map(bytes => this.exports.take_room(bytes) >>> 0);
@@ -50,7 +61,7 @@ class Host {
 
   ask() {
     this.bytes(this.room, this.size).fill(MARK);
-    const count = Number(this.exports.saxtegun_description(this.file, BigInt(this.length), this.room, BigInt(this.size), this.outcome));
+    const count = Number(this.exports[this.asked](this.file, BigInt(this.length), this.room, BigInt(this.size), this.outcome));
     const [status, fault, entry] = new BigUint64Array(this.bytes(this.outcome, OUTCOME).slice().buffer).values();
     const held = count <= this.size ? count : 0;
     assert.ok(this.bytes(this.room + held, this.size - held).every(byte => byte === MARK), 'the room keeps what no text takes');
@@ -66,6 +77,24 @@ test('a module without descriptions says so', async () => {
   assert.equal(old.hasDescriptions, false);
   assert.deepEqual(old.description(GAME), { description: null, fault: 'no-descriptions' });
   assert.deepEqual(old.descriptionOf(GAME), refused('no-descriptions'));
+  for (const name of ['levelDescription', 'fileDescription']) {
+    assert.deepEqual(old[name](''), { description: null, fault: 'no-descriptions' });
+    assert.deepEqual(old[`${name}Of`](''), refused('no-descriptions'));
+  }
+});
+
+it('a level text is described, and what is none by null', () => {
+  assert.deepEqual(engine.levelDescription(LEVEL), { description: CELLS, fault: null });
+  assert.deepEqual(engine.levelDescription('a:1,'), { description: null, fault: null });
+  assert.equal(new TextDecoder().decode(engine.levelDescriptionOf(new TextEncoder().encode(LEVEL)).lines), JSON.stringify(CELLS));
+});
+
+it('a file of sessions is described, and of one that is refused the fault is told', () => {
+  assert.deepEqual(engine.fileDescription(SESSIONS), { description: FILE, fault: null });
+  assert.equal(new TextDecoder().decode(engine.fileDescriptionOf(SESSIONS).lines), JSON.stringify(FILE));
+  for (const [file, fault] of [['', 'not-json'], ['[3]', 'bad-entry 0'], ['[["",["",[],"x"]]]', 'bad-level 0']]) {
+    assert.deepEqual(engine.fileDescription(file), { description: null, fault });
+  }
 });
 
 it('a source is described, as a text and as bytes', () => {
@@ -88,6 +117,8 @@ it('what is no text is not described', () => {
   for (const source of [Uint8Array.of(0xff), Uint8Array.of(0x70, 0xc3), '\ud800']) {
     assert.deepEqual(engine.descriptionOf(source), refused('not-json'));
     assert.deepEqual(engine.description(source), { description: null, fault: 'not-json' });
+    assert.deepEqual(engine.levelDescription(source), { description: null, fault: 'not-json' });
+    assert.deepEqual(engine.fileDescription(source), { description: null, fault: 'not-json' });
   }
   assert.throws(() => engine.description(7), TypeError);
 });
@@ -106,8 +137,9 @@ it('an answer is not touched by the next one', () => {
 
 test('whatever is refused of the heap, a description is whole or tells the want of memory', { skip: !isRefusing && 'there is no module that refuses, or it gives no descriptions' }, async () => {
   const module = await WebAssembly.compile(readFileSync(REFUSING));
-  for (const [source, text] of [[GAME, TEXT], ['', NOTHING]]) {
-    const host = new Host(module, source, ROOM);
+  const others = [['saxtegun_level_description', LEVEL, JSON.stringify(CELLS)], ['saxtegun_file_description', SESSIONS, JSON.stringify(FILE)]];
+  for (const [asked, source, text] of [['saxtegun_description', GAME, TEXT], ['saxtegun_description', '', NOTHING], ...others]) {
+    const host = new Host(module, source, ROOM, asked);
     const { refuse, requests, blocks_out: blocksOut } = host.exports;
     refuse(1n, 0n);
     assert.deepEqual(host.ask(), answered(text));
