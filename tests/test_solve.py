@@ -434,15 +434,15 @@ p.
         program = self.write("program", f"#!/bin/sh\nfor it; do :; done\ngrep -q '\"slow\"' \"$it\" && exec sleep 1000\nexec '{environment()['SAXTEGUN_PROGRAM']}' \"$@\"\n")
         program.chmod(0o755)
         game, recordings = self.with_level(1, DEAD), self.write_entries([["slow", ["", [], "", 0], "solved"], *self.entries[2:3]])
-        words = ["--program", program, "--timeout", 10]
+        words = ["--program", program, "--timeout", 15]
         answer = run("test", game, recordings, "--solvable", *words)
         self.assertEqual(answer.status, 2, answer.errors)
-        self.assertIn("session 0, slow: unanswered: not answered in 10 s\n", answer.out)
+        self.assertIn("session 0, slow: unanswered: not answered in 15 s\n", answer.out)
         self.assertIn("level 2: unsolvable: can't be won: no presses win it\n", answer.out)
         before = recordings.read_bytes()
         answer = run("mend", game, recordings, "--in-place", *words)
         self.assertEqual((answer.status, recordings.read_bytes()), (1, before))
-        self.assertIn("session 0, slow: unanswered: not mended: it is not played: not answered in 10 s\n", answer.out)
+        self.assertIn("session 0, slow: unanswered: not mended: it is not played: not answered in 15 s\n", answer.out)
 
 
 class AnswersOfASolver(unittest.TestCase):
