@@ -192,6 +192,16 @@ class Asked(InARoom):
             self.assertEqual([description_of(it).prelude[0].value for it in sources], [str(it) for it in range(10)])
         self.assertEqual(called.call_count, 3)
 
+    def test_of_sources_just_too_many_to_be_kept_none_is_asked_for_alone(self):
+        """They are gone through again and again, and each forgets one that is wanted next."""
+        sources, line = [f"title {it:3}" for it in range(101)], description_line("title x")
+        expect(sources)
+        with mock.patch.object(descriptions, "MOST_KEPT", 900), mock.patch.object(descriptions, "asked", side_effect=lambda them, words: [line] * len(them)) as called:
+            for _ in range(3):
+                for it in sources:
+                    description_of(it)
+        self.assertLessEqual(called.call_count, 6)
+
     def test_what_was_expected_before_is_expected_again(self):
         expect(["a", "b"])
         self.assertEqual(titles_of(["title x", "title y"]), {"x", "y"})

@@ -1,19 +1,28 @@
 """`saxtegun solve`, `saxtegun mend` and `saxtegun test --solvable`, on the example's game, beside a search of these tests' own that knows only how crates are pushed."""
 import json
+import os
 import shutil
+import signal
 import subprocess
+import sys
+import time
 import unittest
 from collections import deque
 from pathlib import Path
 from unittest import mock
 
 from day import STEPS
+from test_processes import hear_signals
 from test_test import OfAGame
-from tool import plays, run
-from saxtegun import solving
+from tool import TOP, environment, plays, run
+from saxtegun import mending, solving
 from saxtegun.commands import Refused
-from saxtegun.sessions import Entry
+from saxtegun.mending import Mender, Standing
+from saxtegun.playing import Engine
+from saxtegun.sessions import Entry, Sessions
+from saxtegun.solvability import levels_not_won
 from saxtegun.solving import Bounds, OutOfBounds, Solved, Unasked, Unsolvable, answer_in
+from saxtegun.texts import GameText
 
 WORDS = ("up", "left", "down", "right", "action")
 # The example's levels are the first two of a published set, whose shortest solutions are known.
@@ -258,6 +267,184 @@ class DayOfMending(OfLevels):
         self.assertIn("session 0, beyond: refused: not mended: it is not played: ", answer.out)
 
 
+# Runs the command, in which the engine is asked for so many solutions; whoever asks for one more waits for a program that notes its number.
+ASKED = """
+import sys
+sys.path.insert(0, sys.argv[1])
+from saxtegun import solving
+from saxtegun.command_line import call
+asked, most, note, real = [], int(sys.argv[2]), sys.argv[3], solving.solver_words
+def words():
+    asked.append(1)
+    return real() if len(asked) <= most else ["/bin/sh", "-c", f"echo $$ >'{note}'; exec sleep 1000"]
+solving.solver_words = words
+sys.argv = ["saxtegun", *sys.argv[4:]]
+call()
+"""
+
+
+@plays
+class DayOfSearchesThatAreLeft(OfLevels):
+    """What is found before a search is ended is kept."""
+
+    def command(self, most, *words, **streams):
+        folder = self.room / "temp"
+        folder.mkdir(exist_ok=True)
+        command = [sys.executable, "-B", "-c", ASKED, str(TOP / "python"), str(most), str(self.room / "number"), *map(str, words)]
+        streams = {"stdout": subprocess.DEVNULL, "stderr": subprocess.PIPE, **streams}
+        return subprocess.Popen(command, cwd=self.room, env={**environment(), "TMPDIR": str(folder)}, stdin=subprocess.DEVNULL, preexec_fn=hear_signals, **streams)
+
+    def end(self, ran, number):
+        """Ends the command as it waits for a solution."""
+        for _ in range(6000):
+            if (self.room / "number").exists() and (self.room / "number").read_text().strip():
+                break
+            self.assertIsNone(ran.poll())
+            time.sleep(0.05)
+        ran.send_signal(number)
+        errors = ran.communicate(timeout=300)[1]
+        self.assertEqual(ran.returncode, 2 if number == signal.SIGINT else -number, errors)
+        self.assertNotIn(b"Traceback", errors)
+        with self.assertRaises(ProcessLookupError):
+            os.kill(int((self.room / "number").read_text()), 0)
+        (self.room / "number").unlink()
+        self.assertEqual([*(self.room / "temp").iterdir(), *self.room.glob(".saxtegun-*")], [])
+
+    def test_a_signal_lets_what_is_mended_be_written(self):
+        game = self.with_level(1, DayOfMending.WALLED)
+        for number in (signal.SIGTERM, signal.SIGHUP, signal.SIGINT):
+            recordings = self.write_entries(self.entries)
+            with self.subTest(number), self.command(1, "mend", game, recordings, "--only", "*level*", "--in-place") as ran:
+                self.end(ran, number)
+                entries = json.loads(recordings.read_text(encoding="utf-8"))
+                self.assertEqual(entries[1:], self.entries[1:])
+                self.assertTrue(wins_last(read(DayOfMending.WALLED), entries[0][1][1][SHORTEST[0] :]))
+                self.assertEqual(run("test", game, recordings, "--filter", "both*", "--solved", "both*").status, 0)
+
+    def test_a_signal_leaves_what_is_saved(self):
+        for number in (signal.SIGTERM, signal.SIGHUP, signal.SIGINT):
+            saved = self.room / f"saved {int(number)}.json"
+            with self.subTest(number), self.command(1, "solve", self.game, "--save", saved) as ran:
+                self.end(ran, number)
+                self.assertEqual([name for name, _ in json.loads(saved.read_text(encoding="utf-8"))], ["level 1, solved in 33 presses"])
+
+    def test_what_is_found_is_kept_where_nobody_reads_of_it(self):
+        saved, recordings = self.room / "saved.json", self.recordings
+        game = self.with_level(1, DayOfMending.WALLED)
+        for words in (("solve", self.game, "--level", 1, "--save", saved), ("mend", game, recordings, "--only", "*level*", "--in-place")):
+            reads, writes = os.pipe()
+            os.close(reads)
+            with self.subTest(words[0]), self.command(9, *words, stdout=writes) as ran:
+                os.close(writes)
+                errors = ran.communicate(timeout=300)[1]
+                self.assertEqual((ran.returncode, b"Traceback" in errors), (2, False), errors)
+        self.assertEqual([name for name, _ in json.loads(saved.read_text(encoding="utf-8"))], ["level 1, solved in 33 presses"])
+        entries = json.loads(recordings.read_text(encoding="utf-8"))
+        self.assertNotEqual(entries[0], self.entries[0])
+        self.assertEqual(entries[1:], self.entries[1:])
+
+    def test_what_is_read_is_not_written_to(self):
+        for words, file in ((("solve", self.game), self.game), (("mend", self.game, self.recordings), self.recordings), (("solve", self.game, "--save", self.recordings), self.recordings)):
+            before = file.read_bytes()
+            with open(file, "ab") as output, self.subTest(words[0]), self.command(9, *words, stdout=output) as ran:
+                errors = ran.communicate(timeout=300)[1]
+                self.assertEqual((ran.returncode, file.read_bytes()), (2, before))
+                self.assertIn(b"which is read", errors)
+
+    def test_a_game_that_does_not_begin_takes_no_longer_than_there_is_time(self):
+        program = self.write("program", "#!/bin/sh\nexec sleep 1000\n")
+        program.chmod(0o755)
+        for words in (("solve", self.game), ("mend", self.game, self.recordings, "--timeout", 1, "--only", "both*")):
+            with self.subTest(words[0]):
+                begin = time.monotonic()
+                answer = run(*words, "--program", program, "--within", 1)
+                self.assertLess(time.monotonic() - begin, 300)
+                self.assertEqual(answer.status, 2 if words[0] == "solve" else 1, answer.errors)
+                self.assertIn("not known: the time is over (--within)" if words[0] == "solve" else "not mended: it is not played: not answered in 1 s", answer.out)
+
+
+@plays
+class DayOfKeysAndClocks(OfLevels):
+    """Games that have a clock, or switch a key off."""
+
+    # A press of the action wins, and nothing else does.
+    ACTION = """title a key
+OBJECTS
+Background .
+black
+Player p
+white
+Goal g
+red
+LEGEND
+COLLISIONLAYERS
+Background
+Player
+Goal
+RULES
+[ action Player ] -> [ action Player Goal ]
+WINCONDITIONS
+Some Goal
+LEVELS
+p.
+"""
+
+    def ticking(self):
+        return self.write("game.txt", f"realtime_interval 1\n{self.source}")
+
+    def test_a_game_with_a_clock_is_solved_by_its_ticks_as_recorded(self):
+        game, saved = self.ticking(), self.room / "saved.json"
+        answer = run("solve", game, "--level", 2)
+        self.assertEqual((answer.status, answer.out), (2, ""))
+        self.assertIn("is not played: ", answer.errors)
+        answer = run("solve", game, "--level", 2, "--ticks-as-recorded", "--save", saved)
+        self.assertEqual((answer.status, answer.out.splitlines()[0]), (0, f"level 2: solved in {SHORTEST[1]} presses, and in no fewer"))
+        self.assertIn("played without realtime_interval: ticks as recorded", answer.errors)
+        self.assertEqual(run("test", game, saved, "--solved", "*", "--ticks-as-recorded").status, 0)
+
+    def test_a_game_with_a_clock_is_solvable_and_mended_by_its_ticks_as_recorded(self):
+        game, recordings = self.ticking(), self.write_entries([["lost", ["", [], self.entries[1][1][2], 1], "solved"]])
+        self.assertEqual(run("mend", game, recordings, "--in-place").status, 2)
+        answer = run("test", game, recordings, "--solvable", "--quiet")
+        self.assertEqual(answer.status, 2)
+        self.assertIn("level 1: not known: the game is refused\n", answer.out)
+        answer = run("mend", game, recordings, "--ticks-as-recorded", "--in-place")
+        self.assertEqual(answer.status, 0, answer.out + answer.errors)
+        answer = run("test", game, recordings, "--solvable", "--ticks-as-recorded", "--quiet")
+        self.assertEqual((answer.status, answer.out.splitlines()[-1]), (0, "1 session: 1 passed, 0 differ, 0 stopped, 0 refused; 1 solved, 0 solved in part, 0 not solved; played without realtime_interval: ticks as recorded"))
+
+    def test_a_key_that_is_switched_off_solves_nothing(self):
+        recordings = self.write_entries([["none", ["", [], "", 0], "solved"]])
+        self.assertEqual(run("solve", self.write("game.txt", self.ACTION)).out, "level 1: solved in 1 press, and in no fewer\n    action\n1 solved, 0 can't be won, 0 not known\n")
+        game, saved = self.write("game.txt", f"noaction\n{self.ACTION}"), self.room / "saved.json"
+        said = "not known: the fewest presses that win have one that the game switches off by `noaction`"
+        answer = run("solve", game, "--save", saved)
+        self.assertEqual((answer.status, answer.out, saved.exists()), (2, f"level 1: {said}\n0 solved, 0 can't be won, 1 not known\n", False))
+        answer = run("mend", game, recordings, "--in-place")
+        self.assertEqual((answer.status, json.loads(recordings.read_text(encoding="utf-8"))), (1, [["none", ["", [], "", 0], "solved"]]))
+        self.assertIn(f"not mended: level 1, from its beginning, {said}\n", answer.out)
+        answer = run("test", game, recordings, "--solvable", "--quiet")
+        self.assertEqual(answer.status, 2)
+        self.assertIn(f"level 1: {said}\n", answer.out)
+        # where the fewest presses have none such it counts for nothing
+        self.assertEqual(run("solve", self.write("game.txt", f"noaction\n{self.source}"), "--level", 2).status, 0)
+
+    def test_sessions_that_are_not_answered_leave_levels_that_are(self):
+        """A program that hears of no session named slow."""
+        program = self.write("program", f"#!/bin/sh\nfor it; do :; done\ngrep -q '\"slow\"' \"$it\" && exec sleep 1000\nexec '{environment()['SAXTEGUN_PROGRAM']}' \"$@\"\n")
+        program.chmod(0o755)
+        game, recordings = self.with_level(1, DEAD), self.write_entries([["slow", ["", [], "", 0], "solved"], *self.entries[2:3]])
+        words = ["--program", program, "--timeout", 15]
+        answer = run("test", game, recordings, "--solvable", *words)
+        self.assertEqual(answer.status, 2, answer.errors)
+        self.assertIn("session 0, slow: unanswered: not answered in 15 s\n", answer.out)
+        self.assertIn("level 2: unsolvable: can't be won: no presses win it\n", answer.out)
+        before = recordings.read_bytes()
+        answer = run("mend", game, recordings, "--in-place", *words)
+        self.assertEqual((answer.status, recordings.read_bytes()), (1, before))
+        self.assertIn("session 0, slow: unanswered: not mended: it is not played: not answered in 15 s\n", answer.out)
+
+
 class AnswersOfASolver(unittest.TestCase):
     def test_a_line_is_an_answer(self):
         for text, wanted in (
@@ -293,3 +480,18 @@ class AnswersOfASolver(unittest.TestCase):
         self.assertEqual((Bounds(7).levels_for(small), solving.MOST_BYTES // solving.bytes_of_level(small)), (7, Bounds().levels_for(small)))
         wide = small._replace(source=source + "\n" + "\n".join(["#" * 200] * 80) + "\n")
         self.assertLess(Bounds().levels_for(wide) * 100, Bounds().levels_for(small))
+
+    def test_a_solver_that_fails_leaves_the_answers_of_what_was_played(self):
+        """Of each level it isn't known then."""
+        source = (Path(__file__).parent.parent / "examples/day/game.txt").read_text(encoding="utf-8")
+        with mock.patch.object(solving, "solver_words", lambda: ["/bin/sh", "-c", "exit 3"]):
+            levels = levels_not_won(GameText("game.txt", source), Bounds(1))
+        self.assertEqual([(it.name, it.close, it.sentence) for it in levels], [(f"game.txt: level {it}", "not known", "the engine can't be asked for a solution: it ended with status 3") for it in (1, 2)])
+
+    def test_no_beginning_is_written_out_once_the_time_is_over(self):
+        """Of a session that may have very many."""
+        entry = Entry(0, "a", "title a\n", ["undo"] * 60_000, "", 0, {}, False)
+        mender, asked = Mender(Sessions("a", "", [entry]), Engine(), Bounds(1, end=0)), []
+        with mock.patch.object(mending, "solution_of", lambda entry, bounds: asked.append(len(entry.inputs)) or Unasked(solving.LATE)):
+            answer = mender.longest(entry, Standing(0, 0, 60_000, False))
+        self.assertEqual((answer, asked), ((Unasked(solving.LATE), 0), [60_000]))

@@ -349,6 +349,7 @@ class Descriptions:
     def __init__(self) -> None:
         self.known: Dict[str, Description] = {}
         self.letters = 0
+        self.has_forgotten = False
         # lines that are not read yet
         self.told: Dict[str, str] = {}
         self.expected: List[str] = []
@@ -358,7 +359,7 @@ class Descriptions:
         """Forgets all, as what remembers what it told does."""
         self.known.clear()
         self.told.clear()
-        self.letters = 0
+        self.letters, self.has_forgotten = 0, False
 
     def expect(self, sources: Iterable[str]) -> None:
         """Notes sources that are to be asked for soon, in this order."""
@@ -384,7 +385,8 @@ class Descriptions:
         return them
 
     def ask(self, source: str) -> None:
-        them = [it for it in self.with_next(source) if it not in self.known]
+        # Those that are known may be forgotten before they are wanted, once any was: each would then be asked for alone.
+        them = [it for it in self.with_next(source) if self.has_forgotten or it not in self.known]
         if len(them) > 1:
             # what nobody has asked for makes room
             self.told.clear()
@@ -400,6 +402,7 @@ class Descriptions:
                 break
             self.letters -= len(oldest)
             del self.known[oldest]
+            self.has_forgotten = True
 
 
 DESCRIPTIONS = Descriptions()

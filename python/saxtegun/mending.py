@@ -12,7 +12,7 @@ from saxtegun.lines import PLAYED, Run
 from saxtegun.playing import Engine, runs_of
 from saxtegun.sessions import Entry, Input, Sessions
 from saxtegun.solutions import MOST_INPUTS, SOLVED, solved_of
-from saxtegun.solving import Answer, Bounds, Solved, solution_of, told
+from saxtegun.solving import LATE, Answer, Bounds, Solved, Unasked, solution_of, told
 from saxtegun.texts import GameText
 
 # The inputs that lead back to an earlier level.
@@ -53,10 +53,10 @@ def standing_of(entry: Entry, run: Run, is_over: bool) -> Optional[Standing]:
     return Standing(wins_of(run) + is_over, loads[-1] if loads else 0, played, is_over)
 
 
-def guard_game(game: GameText, engine: Engine) -> None:
-    """Refuses a game that the engine refuses, by its sentence."""
+def guard_game(game: GameText, engine: Engine, seconds: float) -> None:
+    """Refuses a game that the engine refuses, by its sentence. One that it doesn't begin in so many seconds isn't known to be refused."""
     entry = Entry(0, "a level", game.source, [], "", 0, {}, False)
-    run = runs_of([entry], Sessions(game.path, "", []), engine)[0]
+    run = runs_of([entry], Sessions(game.path, "", []), engine._replace(seconds=min(seconds, engine.seconds or seconds)))[0]
     if run.close == "refused":
         sentence, below = told_of_run(run, entry, game=game.path)
         raise Refused(f"{game.path} is not played: {sentence}" + (f": {below[0]}" if below else ""))
@@ -107,6 +107,9 @@ class Mender:
         answer = self.ask(entry, behind)
         if any(it in TAKING_BACK for it in entry.inputs[kept:behind]):
             while not isinstance(answer, Solved) and behind > kept:
+                if self.bounds.seconds_left <= 0:
+                    # there may be as many beginnings as a session has inputs, and each is written out
+                    return Unasked(LATE), kept
                 behind -= 1
                 answer = self.ask(entry, behind)
             return answer, behind

@@ -3,9 +3,10 @@ from __future__ import annotations
 
 from typing import List
 
+from saxtegun.commands import Refused
 from saxtegun.failures import Failure
 from saxtegun.levelsets import count_of_levels, entries_of_levels
-from saxtegun.solving import Bounds, Solved, Unsolvable, begin_of, solution_of, told, unknown_told
+from saxtegun.solving import Answer, Bounds, Solved, Unasked, Unsolvable, begin_of, solution_of, told, unknown_told
 from saxtegun.texts import GameText
 
 # What is said of a level that can't be won, and of one of which it isn't known.
@@ -18,7 +19,11 @@ def levels_not_won(game: GameText, bounds: Bounds) -> List[Failure]:
     count = count_of_levels(game.source)
     for level in range(1, count + 1):
         entry = begin_of(game.source, level)
-        answer = solution_of(entry, bounds)
+        try:
+            answer: Answer = solution_of(entry, bounds)
+        except Refused as why:
+            # what was played is told all the same
+            answer = Unasked(str(why))
         if not isinstance(answer, Solved):
             line = entries_of_levels(game.source)[entry.index].numbers[0]
             close, sentence = (UNSOLVABLE, told(answer)) if isinstance(answer, Unsolvable) else (UNKNOWN, unknown_told(answer))

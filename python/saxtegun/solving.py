@@ -161,7 +161,12 @@ def asked(entry: Entry, bounds: Bounds) -> Answer:
     with tempfile.TemporaryFile() as given, tempfile.TemporaryFile() as told:
         given.write(f"[{written_entry(played._replace(level=''))}]".encode())
         given.seek(0)
-        ran = watched([*solver_words(), str(bounds.levels_for(entry))], told, given, bounds.seconds_left)
+        words = [*solver_words(), str(bounds.levels_for(entry))]
+        seconds = bounds.seconds_left
+        if seconds <= 0:
+            # finding out how many levels have room may take a while
+            return Unasked(LATE)
+        ran = watched(words, told, given, seconds)
         if ran.status != 0 and ran.said == "memory":
             return Unasked("there is not enough memory: let it keep fewer (--levels)")
         if ran.status != 0:

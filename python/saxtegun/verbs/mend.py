@@ -23,14 +23,15 @@ from typing import Dict, List, Optional, Union
 from saxtegun.commands import Refused, add_playing, plural, printable
 from saxtegun.explanations import heading
 from saxtegun.explanations import told as told_of_run
-from saxtegun.files import guard_places, write_again
+from saxtegun.files import guard_output, guard_places, write_again
 from saxtegun.lines import Run
 from saxtegun.mending import Left, Mended, Mender, guard_game, standing_of, wins_over, wins_recorded, wins_wanted
 from saxtegun.playing import engine_of, runs_of
+from saxtegun.processes import held
 from saxtegun.regressions import committed_text
 from saxtegun.sessions import Entry, Sessions, changed, chosen, guard_size, read_sessions, sessions_in
 from saxtegun.solutions import SOLVED, solved_of
-from saxtegun.solving import add_bounds, bounds_of, presses_told
+from saxtegun.solving import SECONDS, add_bounds, bounds_of, presses_told
 from saxtegun.texts import GameText, of_another_text, over, read_named, same_text, say_others
 
 USAGE = "mend GAME.txt SESSIONS.json [--only PATTERN..] [--in-place] [--levels N] [--within SECONDS]"
@@ -102,9 +103,10 @@ def with_new(sessions: Sessions, mended: List[Mended]) -> str:
 def write(mended: List[Mended], sessions: Sessions, given: Namespace) -> None:
     """Writes the file with what was found, where that is asked for."""
     if mended and given.in_place:
-        new = with_new(sessions, mended)
-        guard_size(given.sessions, new, len(sessions.entries), "divide it by saxtegun split, and mend the parts")
-        write_again(given.sessions, sessions.text, new)
+        with held():
+            new = with_new(sessions, mended)
+            guard_size(given.sessions, new, len(sessions.entries), "divide it by saxtegun split, and mend the parts")
+            write_again(given.sessions, sessions.text, new)
 
 
 def mend(work: Work, mended: List[Mended]) -> int:
@@ -112,25 +114,27 @@ def mend(work: Work, mended: List[Mended]) -> int:
     left = 0
     for entry in work.entries:
         it = work.become_of(entry)
+        if isinstance(it, Mended):
+            # before anything is said of it: whoever reads that may have seen enough
+            mended.append(it)
+        else:
+            left += 1
         first, *rest = told(it, entry)
         print(printable(f"{heading(work.runs[entry.number]._replace(number=entry.number))}: {first}"))
         for line in rest:
             print(line)
         sys.stdout.flush()
-        if isinstance(it, Mended):
-            mended.append(it)
-        else:
-            left += 1
     return left
 
 
 def main(given: Namespace) -> int:
     if given.in_place and given.sessions == "-":
         raise Refused("--in-place needs a file, and standard input is none")
+    guard_output(given.game, given.sessions)
     guard_places(given.sessions if given.in_place else None)
     game = read_named(given.game)
     sessions = over(read_sessions(given.sessions), game)
-    guard_game(game, engine_of(given))
+    guard_game(game, engine_of(given), min(SECONDS, given.within))
     say_others("mend", sessions, game)
     mended: List[Mended] = []
     work = Work(sessions, game, given)

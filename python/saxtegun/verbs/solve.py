@@ -22,7 +22,7 @@ from argparse import ArgumentParser, ArgumentTypeError, Namespace
 from typing import List, NamedTuple, Optional
 
 from saxtegun.commands import Refused, cut, plural, printable, say
-from saxtegun.files import guard_places, locked, write_whole
+from saxtegun.files import guard_output, guard_places, locked, write_whole
 from saxtegun.levelsets import count_of_levels
 from saxtegun.playing import Engine
 from saxtegun.recordings import Known, Names
@@ -71,16 +71,19 @@ def wanted_levels(game: GameText, level: Optional[int]) -> List[int]:
 
 
 def solve(game: GameText, level: int, bounds: Bounds) -> Found:
-    """Looks for a solution of a level, and says what was found."""
+    """Looks for a solution of a level."""
     entry = begin_of(game.source, level)
     if sys.stderr.isatty():
         say(f"solve: level {level} ..")
-    answer = solution_of(entry, bounds)
-    print(printable(f"level {level}: {told(answer)}"))
-    if isinstance(answer, Solved):
-        print(f"    {presses_told(answer.inputs)}")
+    return Found(level, entry, solution_of(entry, bounds))
+
+
+def show(found: Found) -> None:
+    """Says what is known of a level."""
+    print(printable(f"level {found.level}: {told(found.answer)}"))
+    if isinstance(found.answer, Solved):
+        print(f"    {presses_told(found.answer.inputs)}")
     sys.stdout.flush()
-    return Found(level, entry, answer)
 
 
 def recording_of(found: Found, game: GameText, engine: Engine) -> Entry:
@@ -119,18 +122,24 @@ def main(given: Namespace) -> int:
     game = read_named(given.game)
     if given.save:
         read_or_new(given.save)
+        guard_output(given.save)
         guard_places(given.save)
-    engine = Engine(program=given.program, has_ticks=given.ticks_as_recorded)
-    guard_game(game, engine)
-    levels = wanted_levels(game, given.level)
+    guard_output(given.game)
     bounds = bounds_of(given)
+    engine = Engine(program=given.program, has_ticks=given.ticks_as_recorded)
+    guard_game(game, engine, bounds.seconds_left)
+    levels = wanted_levels(game, given.level)
     found: List[Found] = []
     unsaved = 0
     for level in levels:
         it = solve(game, level, bounds)
         found.append(it)
-        if given.save and isinstance(it.answer, Solved):
-            unsaved += not is_saved(it, game, given.save, engine)
+        try:
+            show(it)
+        finally:
+            # also where nobody reads what is said of it
+            if given.save and isinstance(it.answer, Solved):
+                unsaved += not is_saved(it, game, given.save, engine)
     solved = [it for it in found if isinstance(it.answer, Solved)]
     lost = sum(isinstance(it.answer, Unsolvable) for it in found)
     unknown = len(found) - len(solved) - lost
