@@ -1,9 +1,10 @@
 // What need not be seen together with a key: it is done behind the frame that shows the key, once the browser has nothing else to do. Of acts that wait the
 // last is done, so keys that are held down leave nothing behind that queues.
-const LATEST = 100; // milliseconds that it waits at most, also on a page that nobody sees, which is shown no frame
+const BEHIND_FRAME = 100; // milliseconds that it waits behind the frame at most
+const LATEST = 500; // milliseconds that it waits for the frame: a page that nobody sees has none
 
 // Calls a function once the browser has nothing to do, or as soon as it can where it can't tell.
-const whenIdle = (act) => (globalThis.requestIdleCallback ?? setTimeout)(act);
+const whenIdle = (act) => (globalThis.requestIdleCallback ? requestIdleCallback(act, { timeout: BEHIND_FRAME }) : setTimeout(act));
 
 export class Behind {
   constructor() {
