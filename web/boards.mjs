@@ -3,6 +3,7 @@ import { DifferingCells, InWords, cellTold } from "./cells.mjs";
 import { Pictures, SIDE, cellBelow, drawLevel, scaleFor } from "./drawing.mjs";
 import { at, isMotionReduced } from "./elements.mjs";
 import { differing, heightOf, isDrawn, numberAt, placeOf } from "./levels.mjs";
+import { put, putAttribute, putText } from "./saying.mjs";
 
 const DIFFERS = "#ff85ad";
 const CHANGED = "#35c3ff";
@@ -62,11 +63,11 @@ export class Boards {
     const seen = this.blinking === null ? this.sides : [this.sides[this.blinking]], levels = seen.map(({ level }) => level), room = this.page.roomFor(levels), { most } = this.page;
     this.scale = this.zoom || Math.min(most, ...this.levels.map((level) => scaleFor(level, room.width, room.height, most)));
     this.places.forEach(([canvas, caption], place) => {
-      at(canvas).closest("figure").hidden = seen[place] === undefined;
+      put(at(canvas).closest("figure"), { hidden: seen[place] === undefined });
       if (seen[place]) this.drawSide(at(canvas), at(caption), seen[place]);
     });
-    at("blink").hidden = !this.isCompared;
-    at("blink").setAttribute("aria-pressed", String(this.blinking !== null));
+    put(at("blink"), { hidden: !this.isCompared });
+    putAttribute(at("blink"), "aria-pressed", String(this.blinking !== null));
     this.page.drawn?.(room, levels.filter(isDrawn), this.scale);
   }
 
@@ -74,8 +75,8 @@ export class Boards {
     const { chosen } = this.cells, marked = chosen === null ? [] : [chosen];
     const frames = [{ cells: changed, colour: CHANGED, isWhole: this.page.isChangeWhole }, { cells: this.framed, colour: DIFFERS }, { cells: marked, colour: DIFFERS, weight: 1.5 }];
     drawLevel(canvas, level, this.pictures, this.scale, frames, headings);
-    captionBeside.textContent = caption;
-    if (isDrawn(level)) canvas.setAttribute("aria-label", this.page.labelOf(told, level.width, heightOf(level)));
+    putText(captionBeside, caption);
+    if (isDrawn(level)) putAttribute(canvas, "aria-label", this.page.labelOf(told, level.width, heightOf(level)));
   }
 
   // ---- two levels in one place

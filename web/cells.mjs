@@ -1,6 +1,7 @@
 // The cells of a level in words, and those in which two levels differ as a list that is gone through one by one.
 import { at, fill, make, plural } from "./elements.mjs";
 import { heightOf, isDrawn, numberAt } from "./levels.mjs";
+import { put, putText } from "./saying.mjs";
 
 const MOST_LISTED = 300;
 
@@ -31,7 +32,7 @@ export class InWords {
 
   show(level, namesOf) {
     Object.assign(this, { level, namesOf });
-    at("in-words").hidden = !isDrawn(level);
+    put(at("in-words"), { hidden: !isDrawn(level) });
     this.draw();
   }
 
@@ -53,8 +54,8 @@ export class DifferingCells {
     const isSame = cells.length === this.cells.length && cells.every((cell, place) => cell === this.cells[place]);
     if (!isSame) this.current = null;
     Object.assign(this, { cells, told });
-    at("differing-cells").hidden = cells.length === 0;
-    this.draw();
+    put(at("differing-cells"), { hidden: cells.length === 0 });
+    if (!isSame || cells.length > 0) this.draw();
   }
 
   get chosen() {
@@ -73,7 +74,7 @@ export class DifferingCells {
     const listed = this.cells.slice(first, first + MOST_LISTED), more = this.cells.length - listed.length;
     const items = listed.map((cell, place) => this.item(cell, first + place));
     at("differing").replaceChildren(...items, ...(more > 0 ? [make("li", "faint", `and ${plural(more, "cell")} more`)] : []));
-    at("chosen-cell").textContent = this.current === null ? "" : `${this.current + 1} of ${this.cells.length}: ${this.told(this.chosen)}`;
+    putText(at("chosen-cell"), this.current === null ? "" : `${this.current + 1} of ${this.cells.length}: ${this.told(this.chosen)}`);
   }
 
   item(cell, place) {

@@ -3,6 +3,7 @@
 // or "." for none), or "" for a block of the first colour. A game without objects is one that couldn't be read: its cells are drawn by letters.
 import { drawArrows } from "./arrows.mjs";
 import { differing, heightOf, isDrawn, numberAt, placeOf } from "./levels.mjs";
+import { put } from "./saying.mjs";
 
 export const SIDE = 5; // pixels of a sprite
 const ON_CANVAS = new WeakMap(); // for each canvas what it shows: { level, pictures, scale, marked }
@@ -105,7 +106,7 @@ function allOf(canvas, level, size) {
 // Draws a level so many pixels for each of a sprite's, of what the canvas shows already only the cells that change. `framed` are cells that get a frame,
 // whole or its corners alone: [{ cells, colour, isWhole }]; what heads somewhere gets an arrow: [column, row, object, direction].
 export function drawLevel(canvas, level, pictures, scale, framed = [], headings = []) {
-  canvas.hidden = !isDrawn(level);
+  put(canvas, { hidden: !isDrawn(level) });
   if (canvas.hidden) return;
   const size = SIDE * scale, context = canvas.getContext("2d");
   for (const number of unshown(ON_CANVAS.get(canvas), level, pictures, scale) ?? allOf(canvas, level, size)) {

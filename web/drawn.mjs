@@ -1,11 +1,12 @@
 // Draws the state of the playground: draw(state, doing, isBusy) shows all of it, and nothing else changes what the page shows. It reads the state and never
-// changes it.
+// changes it. Behind a key the level is drawn at once, and all else with the next frame.
+import { Behind } from "./behind.mjs";
 import { CLOSES } from "./closes.mjs";
 import { at, fill, make, plural, readable } from "./elements.mjs";
 import { levelsOf } from "./game.mjs";
 import { LevelDrawn } from "./level-drawn.mjs";
 import { clockTold, faultOfText, notesTold, othersTold, ownTold, putBackTold, readingTold, statusOf, stepTold, tabTold, verdictOf } from "./page-words.mjs";
-import { say, tell } from "./saying.mjs";
+import { put, putAttribute, say, tell } from "./saying.mjs";
 import { StagesPanel } from "./stages-panel.mjs";
 import { chosenStage, stagesNow } from "./staging.mjs";
 import { Strip } from "./strip.mjs";
@@ -44,6 +45,7 @@ export class Drawn {
     this.strip = new Strip(acts);
     this.list = new SessionList({ open: acts.open, toldOf, toldOfCount: (listed) => `${listed} listed`, closes: [...CLOSES, "diverges"], always: CLOSES, elsewhere: "stage" });
     this.changes = new Changes();
+    this.behind = new Behind();
   }
 
   get boards() {
@@ -51,43 +53,59 @@ export class Drawn {
   }
 
   draw(state, doing, isBusy) {
-    const when = (...words) => this.changes.when(...words);
-    const frames = framesOf(state), shown = shownOf(state), isNow = isPlayed(state);
-    this.drawTabs(state);
-    this.panel.set(state.text);
-    when("fault", [state.played, state.text, isNow], () => this.panel.showFault(faultOfText(state)));
-    if (!doing.isTyping) this.drawRead(state, when);
-    when("recording", [frames, shown, state.work.inputs, state.played], () => this.drawRecording(state));
+    this.behind.drop();
+    this.drawSeen(state, doing);
+    this.drawRest(state, doing);
+    put(document.documentElement.dataset, { busy: String(isBusy) });
+  }
+
+  // Draws what a key, or what it led to, changes before the eyes; all else behind the next frame. Until then the page counts as busy.
+  drawSoon(state, doing, isBusy) {
+    this.drawSeen(state, doing);
+    this.behind.put(() => this.draw(state, doing, isBusy));
+    put(document.documentElement.dataset, { busy: "true" });
+  }
+
+  drawSeen(state, doing) {
+    this.drawMessage(state.messages[0]);
+    if (!doing.isTyping) this.drawLevel(state);
+  }
+
+  drawRest(state, doing) {
+    const when = (...words) => this.changes.when(...words), shown = shownOf(state);
+    when("tabs", [state.tab], () => this.drawTabs(state.tab));
+    say("sessions-tab", tabTold(state));
+    when("text", [state.text], () => this.panel.set(state.text));
+    when("fault", [state.played, state.text, isPlayed(state)], () => this.panel.showFault(faultOfText(state)));
+    if (!doing.isTyping) when("levels", [sourceOf(state), state.work.index], () => this.drawLevels(state));
     when("likely", [sourceOf(state), state.work, state.suite, state.played, state.file], () => this.level.drawLikely(state));
     when("stages", [state.staging.isOpen, stagesNow(state), chosenStage(state)], () => this.stages.draw(state));
     when("acted", [state.staging, state.played, shown, state.work, state.order, state.text, doing.coverage], () => this.stages.drawActed(state, doing.coverage, this.panel));
     tell("status", readingTold(doing.reading) ?? statusOf(state));
     say("own", ownTold(state));
-    at("take-text").hidden = state.work.own === null;
+    put(at("take-text"), { hidden: state.work.own === null });
     if (!doing.isTyping) this.drawClock(clockTold(state));
-    this.drawMessage(state.messages[0]);
     this.drawPlaying(state, doing.reading ?? doing.play);
     this.drawButtons(state);
     this.drawSolving(state, doing.solution);
     this.drawFile(state, doing.suite);
     when("list", [state.file, state.suite, state.comparison, state.seen, state.work.opened, state.text, state.order, state.isHeld, state.isTicked], () => this.list.show(rowsOf(state), state.work.opened));
-    document.documentElement.dataset.busy = String(isBusy);
+    // last, since it asks where a mark stands, for which the browser lays out what was changed
+    when("recording", [framesOf(state), shown, state.work.inputs, state.played], () => this.drawRecording(state));
   }
 
-  // What is read of the text: not while it is being typed.
-  drawRead(state, when) {
+  // The level is read by the text: not while that is being typed.
+  drawLevel(state) {
     const isStage = chosenStage(state) !== null;
-    when("levels", [sourceOf(state), state.work.index], () => this.drawLevels(state));
-    when("level", [framesOf(state), shownOf(state), state.order, state.suite, state.comparison, state.file, state.work, isStage && state.staging.came, chosenStage(state), at("stage").clientWidth], () => this.level.draw(state));
+    this.changes.when("level", [framesOf(state), shownOf(state), state.order, state.suite, state.comparison, state.file, state.work, isStage && state.staging.came, chosenStage(state), at("stage").clientWidth], () => this.level.draw(state));
   }
 
-  drawTabs(state) {
+  drawTabs(tab) {
     for (const name of TABS) {
-      at(name).hidden = name !== state.tab;
-      at(`${name}-tab`).setAttribute("aria-selected", String(name === state.tab));
-      at(`${name}-tab`).tabIndex = name === state.tab ? 0 : -1;
+      at(name).hidden = name !== tab;
+      at(`${name}-tab`).setAttribute("aria-selected", String(name === tab));
+      at(`${name}-tab`).tabIndex = name === tab ? 0 : -1;
     }
-    say("sessions-tab", tabTold(state));
   }
 
   drawLevels(state) {
@@ -104,74 +122,70 @@ export class Drawn {
     const frames = framesOf(state), { inputs } = state.work, isSolved = state.played?.isSolved ?? false;
     const end = frames.length === 0 ? make("span", "", "not played") : make("span", isSolved ? "solved" : "", isSolved ? "\u2713 solved" : "not solved");
     at("summary").replaceChildren(make("span", "", plural(inputs.length, "input")), make("span", "", plural(frames.length, "frame")), end);
-    this.strip.show({ inputs, taken: frames.length === 0 ? 0 : frames[shownOf(state)].at, frames, shown: shownOf(state) });
     say("step", stepTold(state));
+    this.strip.show({ inputs, taken: frames.length === 0 ? 0 : frames[shownOf(state)].at, frames, shown: shownOf(state) });
   }
 
   drawClock(clock) {
-    at("clock").hidden = clock === null;
+    put(at("clock"), { hidden: clock === null });
     say("clock-told", clock?.text ?? "");
     say("as-recorded", clock?.isAsked ? "Play it with its ticks as recorded" : "Refuse it again");
   }
 
   drawMessage(message) {
     const isThere = message !== undefined;
-    at("message").hidden = !isThere;
-    at("boards").hidden = isThere;
+    put(at("message"), { hidden: !isThere });
+    put(at("boards"), { hidden: isThere });
     say("message-text", message ?? "");
   }
 
   drawPlaying(state, play) {
     const isSlow = play?.isSlow ?? false;
-    at("playing").hidden = !isSlow && !state.isHeld;
-    at("stop-play").hidden = !isSlow;
-    at("begin-play").hidden = !state.isHeld;
+    put(at("playing"), { hidden: !isSlow && !state.isHeld });
+    put(at("stop-play"), { hidden: !isSlow });
+    put(at("begin-play"), { hidden: !state.isHeld });
   }
 
   drawButtons(state) {
     const { inputs } = state.work, number = namesakeOf(state), isPlayable = framesOf(state).length > 0;
-    at("cut").disabled = inputs.length === 0 || (!isAtEnd(state) && takenOf(state) === inputs.length);
-    at("put-back").disabled = state.past.length === 0;
-    at("put-back").title = readable(putBackTold(state));
-    at("save").disabled = !isSavable(state);
-    at("replace").hidden = number < 0;
-    at("replace").disabled = at("save").disabled;
+    put(at("cut"), { disabled: inputs.length === 0 || (!isAtEnd(state) && takenOf(state) === inputs.length) });
+    put(at("put-back"), { disabled: state.past.length === 0, title: readable(putBackTold(state)) });
+    put(at("save"), { disabled: !isSavable(state) });
+    put(at("replace"), { hidden: number < 0, disabled: !isSavable(state) });
     say("save", number < 0 ? "Save" : "Add another");
-    if (at("name").value !== state.work.name) at("name").value = state.work.name;
-    for (const button of at("pad").querySelectorAll("button")) button.disabled = !isPlayable && isPlayed(state);
+    put(at("name"), { value: state.work.name });
+    for (const button of at("pad").querySelectorAll("button")) put(button, { disabled: !isPlayable && isPlayed(state) });
     say("saved", state.saved);
   }
 
   // What is looked for that wins, and what was found.
   drawSolving(state, search) {
     const isFound = solutionNow(state) !== null, { ghost } = state;
-    at("solve").disabled = !isSolvable(state) || search !== null;
-    at("stop-solve").hidden = search === null;
-    for (const id of ["show-solution", "take-solution"]) at(id).hidden = !isFound;
-    at("show-solution").setAttribute("aria-pressed", String(ghost !== undefined));
+    put(at("solve"), { disabled: !isSolvable(state) || search !== null });
+    put(at("stop-solve"), { hidden: search === null });
+    for (const id of ["show-solution", "take-solution"]) put(at(id), { hidden: !isFound });
+    putAttribute(at("show-solution"), "aria-pressed", String(ghost !== undefined));
     at("stage").classList.toggle("ghost", ghost !== undefined);
     say("solution", ghost === undefined ? solutionTold(state) : `A ghost shows press ${ghost.count} of ${ghost.of}: it stands in no recording.`);
   }
 
   drawFile(state, suite) {
     const { file } = state, seen = seenOf(state).length;
-    at("none").hidden = file !== null;
-    at("some").hidden = file === null;
+    put(at("none"), { hidden: file !== null });
+    put(at("some"), { hidden: file === null });
     if (file === null) return;
     say("file-name", file.name);
-    at("order").value = state.order;
-    at("progress").hidden = suite === null;
-    at("stop").hidden = suite === null;
-    at("play-all").hidden = suite !== null;
-    at("progress").max = Math.max(1, suite?.total ?? 1);
-    at("progress").value = suite?.done ?? 0;
+    put(at("order"), { value: state.order });
+    put(at("progress"), { hidden: suite === null, max: Math.max(1, suite?.total ?? 1), value: suite?.done ?? 0 });
+    put(at("stop"), { hidden: suite === null });
+    put(at("play-all"), { hidden: suite !== null });
     tell("played", verdictOf(state, suite));
     say("over", othersTold(state));
-    at("follow").hidden = countOfOthers(state) === 0;
-    at("accept").disabled = differenceOf(state) === null;
-    at("accept-all").disabled = seen === 0;
+    put(at("follow"), { hidden: countOfOthers(state) === 0 });
+    put(at("accept"), { disabled: differenceOf(state) === null });
+    put(at("accept-all"), { disabled: seen === 0 });
     say("accept-all", `Accept all seen (${seen})`);
-    at("save-lines").disabled = runsOfNow(state) === null;
-    at("remove").disabled = state.work.opened === null;
+    put(at("save-lines"), { disabled: runsOfNow(state) === null });
+    put(at("remove"), { disabled: state.work.opened === null });
   }
 }

@@ -5,6 +5,7 @@ import { FIRST, formerVisit, giveBack, isFree, newName, noteLeaving, noteName } 
 const DATABASE = "saxtegun";
 const STORE = "kept";
 const PATIENCE = 5000; // milliseconds that a page that was left may take to be gone
+const AFTER_KEY = 200; // milliseconds that a key waits until it is written, with those that follow it
 const LATE = 2000; // milliseconds that the database may take before it is said that it hasn't kept the last changes
 
 function settled(request) {
@@ -55,7 +56,7 @@ export class Store {
   }
 
   constructor() {
-    Object.assign(this, { name: null, left: [], entries: [], isCut: false, turn: 0, there: null, unkept: null, now: null, isWriting: false, isLate: false });
+    Object.assign(this, { name: null, left: [], entries: [], isCut: false, turn: 0, there: null, unkept: null, now: null, isWriting: false, isOfKeys: false, isLate: false, endPause: () => {} });
     // a browser may end what a page does as it is left, but not twice
     window.addEventListener("pagehide", () => this.leave());
     document.addEventListener("visibilitychange", () => (document.visibilityState === "hidden" ? this.leave() : formerVisit()));
@@ -82,18 +83,29 @@ export class Store {
     noteName(this.name);
   }
 
-  // Keeps a value, once those before are kept; of several that wait the last. What is told is whether the browser took it, or null where it takes long.
-  async keep(value, tell) {
+  // Keeps a value, once those before are kept; of several that wait the last. Where keys alone lead to it, it waits for others: until it is written it is
+  // noted where the page is left. What is told is whether the browser took it, or null where it takes long.
+  async keep(value, tell, isKey = false) {
+    this.isOfKeys = isKey && (this.unkept === null || this.isOfKeys);
     this.turn += 1;
     this.unkept = { ...value, turn: this.turn };
     if (this.isLate) this.note();
+    if (!isKey) this.endPause();
     if (this.isWriting) return;
     this.isWriting = true;
     for (let tried = null; this.unkept !== null && this.unkept !== tried;) {
+      if (this.isOfKeys) await this.pause();
       tried = this.unkept;
       tell(await this.write(tried, () => tell(null)));
     }
     this.isWriting = false;
+  }
+
+  pause() {
+    return new Promise((settle) => {
+      this.endPause = settle;
+      setTimeout(settle, AFTER_KEY);
+    });
   }
 
   async write(value, tellLate) {

@@ -43,10 +43,11 @@ function readPiece(piece, numbered, labels) {
 export function readCells(text, labels) {
   const pieces = text.replace(/[\r\n]/g, "").split(",");
   if (pieces.pop() !== "") return null;
-  const numbered = [], cells = [];
+  const numbered = [], cells = [], known = new Map(); // by the digits of a number the label that has it
   for (const piece of pieces) {
-    const label = readPiece(piece, numbered, labels);
+    const label = known.get(piece) ?? readPiece(piece, numbered, labels);
     if (label === null) return null;
+    if (!piece.includes(":")) known.set(piece, label);
     cells.push(label);
   }
   return cells;

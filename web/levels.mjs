@@ -19,5 +19,7 @@ export const numberAt = (level, column, row) => (level.order === "rows" ? row * 
 // The numbers of the cells that differ, or null where the two can't be compared.
 export function differing(one, other) {
   if (!isOfOneSize(one, other)) return null;
-  return one.cells.map((_, number) => number).filter((number) => one.cells[number] !== other.cells[number]);
+  const numbers = [];
+  for (let number = 0; number < one.cells.length; number += 1) if (one.cells[number] !== other.cells[number]) numbers.push(number);
+  return numbers;
 }

@@ -43,24 +43,36 @@ class Playground {
     return this.runner.state;
   }
 
-  draw(state, ...words) {
+  draw(state, doing, isBusy, isKey) {
     this.animation.follow(state);
-    this.page.draw(this.ghost.seen(this.animation.seen(state)), ...words);
+    const seen = this.ghost.seen(this.animation.seen(state));
+    if (isKey) this.page.drawSoon(seen, doing, isBusy);
+    else this.page.draw(seen, doing, isBusy);
   }
 
   // Does something to the state. Frames that are shown one after another stop.
   act(change, ...words) {
+    this.stopMoving();
+    this.runner.update((state) => change(state, ...words));
+  }
+
+  // Does what a key does that may be held down.
+  actByKey(change, ...words) {
+    this.stopMoving();
+    this.runner.update((state) => change(state, ...words), true);
+  }
+
+  stopMoving() {
     this.pause();
     this.animation.end();
     this.ghost.end();
-    this.runner.update((state) => change(state, ...words));
   }
 
   // Takes a key. What it led to before is shown to its end first; a message that comes there waits for a key of its own.
   press(input) {
     if (this.ghost.end()) return this.runner.show();
     if (this.animation.end() && this.state.messages.length > 0) return this.runner.show();
-    return this.act(pressed, input);
+    return this.actByKey(pressed, input);
   }
 
   // ---- frames one after another
@@ -68,7 +80,7 @@ class Playground {
   pause() {
     clearInterval(this.timer);
     this.timer = 0;
-    at("play").textContent = "Play";
+    say("play", "Play");
   }
 
   playFrames() {
@@ -88,7 +100,7 @@ class Playground {
   // Leaves out inputs; under a ghost it ends that first, as a key does.
   cut() {
     if (this.ghost.end()) this.runner.show();
-    else this.act(cutBack);
+    else this.actByKey(cutBack);
   }
 
   // Shows the presses that win, or no longer.
@@ -100,7 +112,7 @@ class Playground {
   }
 
   step(count) {
-    this.act((state) => lookedAt(state, shownOf(state) + count));
+    this.actByKey((state) => lookedAt(state, shownOf(state) + count));
   }
 
   // ---- sessions
@@ -159,11 +171,11 @@ class Playground {
   }
 
   // Keeps what was made by hand, where that has changed.
-  keep(state, isBusy) {
+  keep(state, isBusy, isKey) {
     const { text, order, work, queue, file, isUnsaved, past, tab, isTicked } = state, values = [text, order, work, queue, file, isUnsaved, past, tab, isTicked, isBusy];
     if (this.kept?.every((value, place) => value === values[place])) return;
     this.kept = values;
-    this.store.keep(keptOf(state, isBusy), (isKept) => say("promise", keepingTold(isKept)));
+    this.store.keep(keptOf(state, isBusy), (isKept) => say("promise", keepingTold(isKept)), isKey);
   }
 }
 

@@ -10,8 +10,8 @@ const SLOW = 500; // milliseconds, after which it is said that something is bein
 const TYPING_PAUSE = 250; // milliseconds without a letter, after which what was typed is played
 
 export class Runner {
-  // engine.play, engine.stages, engine.acted and engine.solution, each of (request, signal), and engine.playAll(bytes, { order, signal, progress }) are asked; draw(state, doing, isBusy) shows what there
-  // is, and keep(state, isPlaying) keeps it.
+  // engine.play, engine.stages, engine.acted and engine.solution, each of (request, signal), and engine.playAll(bytes, { order, signal, progress }) are asked;
+  // draw(state, doing, isBusy, isKey) shows what there is, and keep(state, isPlaying, isKey) keeps it, where `isKey` is whether a key led to it.
   constructor(state, { engine, draw, keep, pause = TYPING_PAUSE }) {
     Object.assign(this, { state, engine, draw, keep, pause });
     this.doing = { play: null, suite: null, stages: null, coverage: null, solution: null, reading: null, isTyping: false }; // what is asked now: { wanted, controller, done, total, isSlow }
@@ -21,11 +21,11 @@ export class Runner {
     this.waiting = [];
   }
 
-  // Takes the state to its next, by a function.
-  update(act) {
+  // Takes the state to its next, by a function; by that of a key, or of what it led to, where that is told.
+  update(act, isKey = false) {
     this.state = seeing(act(this.state));
     this.ask();
-    this.show();
+    this.show(isKey);
   }
 
   // Takes what is typed, which is read and played once nothing more is typed for a while.
@@ -71,9 +71,9 @@ export class Runner {
     this.draw(this.state, this.doing, true);
   }
 
-  show() {
-    this.draw(this.state, this.doing, this.isBusy || this.coming > 0);
-    this.keep(this.state, this.doing.play?.isSlow ?? false);
+  show(isKey = false) {
+    this.draw(this.state, this.doing, this.isBusy || this.coming > 0, isKey);
+    this.keep(this.state, this.doing.play?.isSlow ?? false, isKey);
     if (!this.isBusy) this.waiting.splice(0).forEach((settle) => settle());
   }
 
@@ -131,7 +131,7 @@ export class Runner {
     if (this.doing[name] !== doing) return;
     clearTimeout(doing.timer);
     this.doing[name] = null;
-    this.update(act);
+    this.update(act, doing.wanted.isKey ?? false);
   }
 
   askPlay() {

@@ -1,10 +1,27 @@
-// Puts words into the elements of the page, where they have changed.
+// Puts words and values into the elements of the page, where they have changed: what is written again as it stands costs a browser as much as a change.
 import { shapeOf } from "./closes.mjs";
 import { at, make, readable } from "./elements.mjs";
 
-export function say(id, stranger) {
-  const text = readable(stranger);
-  if (at(id).textContent !== text) at(id).textContent = text;
+export function putText(element, text) {
+  if (element.textContent !== text) element.textContent = text;
 }
 
-export const tell = (id, { text, close }) => at(id).replaceChildren(...(close === null ? [] : [shapeOf(close)]), make("span", "", readable(text)));
+export const say = (id, stranger) => putText(at(id), readable(stranger));
+
+const SHAPE_BEFORE = new WeakMap(); // for each element the close whose shape stands before its words
+
+export function tell(id, { text, close }) {
+  const element = at(id), words = readable(text);
+  if (element.lastChild?.textContent === words && SHAPE_BEFORE.get(element) === close) return;
+  SHAPE_BEFORE.set(element, close);
+  element.replaceChildren(...(close === null ? [] : [shapeOf(close)]), make("span", "", words));
+}
+
+// Gives an element properties.
+export function put(element, properties) {
+  for (const [name, value] of Object.entries(properties)) if (element[name] !== value) element[name] = value;
+}
+
+export function putAttribute(element, name, value) {
+  if (element.getAttribute(name) !== value) element.setAttribute(name, value);
+}

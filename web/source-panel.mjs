@@ -10,7 +10,7 @@ export class SourcePanel {
   constructor(change, point) {
     this.text = at("source");
     this.numbers = at("numbers");
-    Object.assign(this, { count: 0, line: null, lit: [], never: [], isShown: false });
+    Object.assign(this, { count: 0, fault: undefined, line: null, lit: [], never: [], isShown: false });
     this.text.addEventListener("input", () => change(this.text.value));
     this.text.addEventListener("scroll", () => { this.numbers.scrollTop = this.text.scrollTop; this.drawBands(); });
     new ResizeObserver(() => this.resized()).observe(this.text);
@@ -36,11 +36,12 @@ export class SourcePanel {
     const count = this.text.value.split("\n").length;
     if (count === this.count) return;
     this.count = count;
-    this.mark(this.line);
+    this.drawNumbers();
   }
 
   // Marks the number of a line as faulty, or of none.
   mark(line) {
+    if (line === this.line) return;
     this.line = line;
     this.drawNumbers();
   }
@@ -86,6 +87,9 @@ export class SourcePanel {
 
   // Shows why the game is not played, with a button that leads to the line, where one is named.
   showFault(fault) {
+    const was = this.fault;
+    this.fault = fault;
+    if (fault === null && was === null) return null;
     at("fault").hidden = fault === null;
     this.text.setAttribute("aria-invalid", String(fault !== null));
     this.mark(fault?.line ?? null);

@@ -2,6 +2,7 @@
 import { SIDE } from "./drawing.mjs";
 import { at } from "./elements.mjs";
 import { heightOf, isDrawn } from "./levels.mjs";
+import { put } from "./saying.mjs";
 
 const LEAST_HEIGHT = 180; // of the room for levels
 const BESIDE = { wide: 330, narrow: 450 }; // what stands above and below a level
@@ -22,7 +23,7 @@ function roomFor(shown) {
 
 function drawn(room, levels, scale) {
   at("boards").classList.toggle("below", room.isBelow);
-  for (const id of ROOMS) Object.assign(at(id).style, { maxHeight: `${room.height}px`, maxWidth: `${room.width}px` });
+  for (const id of ROOMS) put(at(id).style, { maxHeight: `${room.height}px`, maxWidth: `${room.width}px` });
   const isWhole = levels.every((level) => level.width * SIDE * scale <= room.width && heightOf(level) * SIDE * scale <= room.height);
   at("stage").classList.toggle("whole", isWhole);
 }

@@ -2,44 +2,64 @@
 import { at, makeButton, plural, reveal } from "./elements.mjs";
 import { inputTold } from "./faults.mjs";
 import { markOf, windowAround } from "./recording.mjs";
+import { put, putAttribute, say } from "./saying.mjs";
 
 const MOST_MARKS = 240; // marks that stand in the strip at once
 
 export class Strip {
   // act.input(taken) shows what so many inputs led to, act.frame(number) a frame.
   constructor(act) {
-    this.act = act;
+    Object.assign(this, { act, inputs: [], first: 0, marks: [] }); // the marks that stand there, and of which inputs they are
     at("slider").addEventListener("input", () => act.frame(Number(at("slider").value)));
   }
 
-  mark(input, number, taken) {
+  mark(input, number) {
     const button = makeButton("", markOf(input), () => this.act.input(number));
     button.title = `input ${number}: ${inputTold(input)}`;
     button.setAttribute("aria-label", button.title);
-    // one of them is reached by Tab, and from there `[` and `]` lead on
-    button.tabIndex = number === taken ? 0 : -1;
-    if (number === taken) button.setAttribute("aria-current", "true");
-    if (number > taken) button.classList.add("ahead");
+    button.tabIndex = -1;
     return button;
   }
 
-  show(recording) {
-    const { inputs, taken, frames, shown } = recording;
+  // The marks of inputs from one on. Those that stand there stay as far as their inputs do, so that a key adds one mark, and not all of them.
+  showMarks(inputs, first, behind) {
+    const before = this.first, isThere = (number) => number >= before && number < before + this.marks.length && this.inputs[number] === inputs[number];
+    let begin = Math.max(first, before), end = begin;
+    while (end < behind && isThere(end)) end += 1;
+    if (begin === end) begin = end = first;
+    const kept = this.marks.slice(begin - before, end - before), made = (from, to) => inputs.slice(from, to).map((input, place) => this.mark(input, from + place + 1));
+    const [ahead, after] = [made(first, begin), made(end, behind)];
+    for (const button of [...this.marks.slice(0, Math.max(0, begin - before)), ...this.marks.slice(Math.max(0, end - before))]) button.remove();
+    at("strip").prepend(...ahead);
+    at("strip").append(...after);
+    Object.assign(this, { inputs, first, marks: [...ahead, ...kept, ...after] });
+  }
+
+  // Marks the last input that is taken, and those behind it.
+  point(taken) {
+    this.marks.forEach((button, place) => {
+      const number = this.first + place + 1, isLast = number === taken;
+      // one of them is reached by Tab, and from there `[` and `]` lead on
+      put(button, { tabIndex: isLast ? 0 : -1 });
+      if (isLast) putAttribute(button, "aria-current", "true");
+      else if (button.hasAttribute("aria-current")) button.removeAttribute("aria-current");
+      button.classList.toggle("ahead", number > taken);
+    });
+  }
+
+  show({ inputs, taken, frames, shown }) {
     const hadFocus = at("strip").contains(document.activeElement);
-    const [first, behind] = windowAround(inputs.length, taken, MOST_MARKS);
-    const marks = inputs.slice(first, behind).map((input, place) => this.mark(input, first + place + 1, taken));
-    at("strip").replaceChildren(...marks);
-    at("strip-before").textContent = first > 0 ? `${plural(first, "input")} before these` : "";
-    at("strip-behind").textContent = behind < inputs.length ? `${plural(inputs.length - behind, "input")} behind these` : "";
-    const current = marks[taken - first - 1];
+    const [first, behind] = windowAround(inputs.length, taken, MOST_MARKS), last = Math.max(0, frames.length - 1);
+    this.showMarks(inputs, first, behind);
+    this.point(taken);
+    say("strip-before", first > 0 ? `${plural(first, "input")} before these` : "");
+    say("strip-behind", behind < inputs.length ? `${plural(inputs.length - behind, "input")} behind these` : "");
+    put(at("slider"), { max: String(last), value: String(shown), disabled: last === 0 });
+    say("place", frames.length === 0 ? "no frame" : `frame ${shown} of ${last}`);
+    for (const id of ["first", "back"]) put(at(id), { disabled: shown <= 0 });
+    for (const id of ["on", "last"]) put(at(id), { disabled: shown >= last });
+    const current = this.marks[taken - first - 1];
     if (current) reveal(at("strip"), current);
     if (hadFocus) (current ?? at("stage")).focus({ preventScroll: true });
-    const last = Math.max(0, frames.length - 1);
-    at("slider").max = last;
-    at("slider").value = shown;
-    at("slider").disabled = last === 0;
-    at("place").textContent = frames.length === 0 ? "no frame" : `frame ${shown} of ${last}`;
-    for (const id of ["first", "back"]) at(id).disabled = shown <= 0;
-    for (const id of ["on", "last"]) at(id).disabled = shown >= last;
   }
 }

@@ -25,9 +25,13 @@ class Visit {
     return visit;
   }
 
-  keep(state) {
+  keep(state, isKey = false) {
     this.state = state;
-    this.store.keep(keptOf(state, false), (isKept) => this.kept.push(isKept));
+    this.store.keep(keptOf(state, false), (isKept) => this.kept.push(isKept), isKey);
+  }
+
+  key(input) {
+    this.keep({ ...this.state, work: { ...this.state.work, inputs: [...this.state.work.inputs, input] } }, true);
   }
 
   act(change, ...words) {
@@ -221,6 +225,58 @@ test("keys that wait are kept", async () => {
   for (const wrong of [3, [{ input: 9, behind: null, looked: null }], [{ input: 1, behind: "", looked: null }], [null]]) {
     assert.equal(stateOfVisit([{ name: "work", value: { ...keptOf(beginning(GAME), false), queue: wrong } }], GAME).unreadable, 1);
   }
+});
+
+const inputsOf = ({ work: { inputs } }) => inputs;
+const writtenIn = (browser) => [...browser.database.entries.values()].map(inputsOf);
+
+// The timers of the page from now on, which wait until a test lets them go.
+function heldTimers() {
+  const waiting = [];
+  globalThis.setTimeout = (act) => waiting.push(act);
+  return waiting;
+}
+
+test("keys that follow one another are written together", async () => {
+  const browser = new OneTab(), visit = await Visit.of();
+  await visit.written();
+  visit.kept = [];
+  const timers = heldTimers();
+  for (const input of [1, 2, 3]) {
+    visit.key(input);
+    await new Promise((settle) => setImmediate(settle));
+  }
+  assert.deepEqual([writtenIn(browser), timers.length], [[[]], 1]);
+  timers[0]();
+  await visit.written();
+  assert.deepEqual([writtenIn(browser), visit.kept], [[[1, 2, 3]], [true]]);
+});
+
+test("a key that isn't written yet is noted as the page is left, and as it is hidden", async () => {
+  const browser = new OneTab(), visit = await Visit.of();
+  await visit.written();
+  visit.key(1);
+  browser.leave();
+  assert.deepEqual(writtenIn(browser), [[]]);
+  const next = await Visit.of();
+  assert.deepEqual([next.told, inputsOf(next.state)], [null, [1]]);
+  await next.written();
+  next.key(2);
+  Object.assign(globalThis.document, { visibilityState: "hidden" });
+  browser.tell("visibilitychange");
+  browser.leave({ isGone: false });
+  assert.deepEqual(inputsOf((await Visit.of()).state), [1, 2]);
+});
+
+test("what is changed otherwise waits for no keys, nor with them", async () => {
+  const browser = new OneTab(), visit = await Visit.of();
+  await visit.written();
+  heldTimers();
+  visit.key(1);
+  visit.act(named, "mine");
+  visit.key(2);
+  await visit.written();
+  assert.deepEqual([writtenIn(browser), visit.kept.at(-1)], [[[1, 2]], true]);
 });
 
 test("the page promises what it says once all is kept", () => {
