@@ -138,7 +138,8 @@ class Showing:
         self.hand_sessions("block-pushing.json", self.example)
         self.browser.value("((it) => { window.captions = []; new MutationObserver(() => window.captions.push(it.textContent)).observe(it, { childList: true }); return 1; })(document.getElementById('level-caption'))")
         self.press("b")
-        self.assertEqual(self.browser.until("window.captions.slice(0, 4)", ["reached", "recorded"] * 2, 10), ["reached", "recorded"] * 2)
+        # it begins with the level that is there, whose caption stays as it is
+        self.assertEqual(self.browser.until("window.captions.slice(0, 4)", ["recorded", "reached"] * 2, 10), ["recorded", "reached"] * 2)
         self.assertEqual(told()[1:], [False, "true"])
         self.click("#blink")
         self.assertEqual(told(), ["reached", True, "false"])
