@@ -88,6 +88,24 @@ class Showing:
         self.write(".replace('Crat ]', 'Crate ]')")
         self.assertEqual([self.browser.value("document.getElementById('boards').className"), self.browser.value(text("level-caption"))], ["", ""])
 
+    def test_what_wins_is_found_shown_by_a_ghost_and_taken(self):
+        inputs = "document.querySelectorAll('#strip button').length"
+        self.open_game(TICKING)
+        self.press("ArrowLeft")
+        self.click("#first")
+        self.click("#solve")
+        self.assertEqual(self.browser.until(text("solution"), "Won in 1 press from the start on, and in no fewer: action."), "Won in 1 press from the start on, and in no fewer: action.")
+        self.click("#show-solution")
+        self.assertEqual(self.browser.value("document.getElementById('stage').classList.contains('ghost')"), True)
+        self.press("ArrowRight")
+        self.assertEqual([self.browser.value("document.getElementById('stage').classList.contains('ghost')"), self.browser.value(text("summary"))[:8]], [False, "1 input2"])
+        self.click("#take-solution")
+        self.wait()
+        self.assertEqual(self.browser.value(text("summary")), "1 input9 frames\u2713 solved")
+        self.click("#put-back")
+        self.wait()
+        self.assertEqual(self.browser.value(text("summary")), "1 input2 framesnot solved")
+
     def test_messages_go_by_an_action(self):
         self.open_game(MESSAGES)
         told = lambda: [self.browser.value(shown(it)) for it in ("message", "level")] + [self.browser.value(text("message-text"))]
