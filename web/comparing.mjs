@@ -4,6 +4,7 @@ import { differing, isOfOneSize } from "./levels.mjs";
 import { Labels, readCells, readLevel } from "./level-text.mjs";
 import { plural } from "./elements.mjs";
 import { inputTold } from "./faults.mjs";
+import { atOnce } from "./pieces.mjs";
 
 const commasOf = (text) => text.split("\n", 1)[0].split(",").length - 1;
 
@@ -18,17 +19,21 @@ function isSameFrame(one, other) {
   return one !== undefined && other !== undefined && one.at === other.at && one.kind === other.kind && isSameLevel(one.level, other.level);
 }
 
-// Where two runs part: { frame, kind }; null where they are the same. Where only their closes differ, the frame is the one behind the last.
-export function partingOf(one, other) {
+// Looks where two runs part, as work in pieces: { frame, kind }; null where they are the same. Where only their closes differ, the frame is the one behind
+// the last.
+export function* partingIn(one, other) {
   const count = Math.max(one.frames.length, other.frames.length);
   for (let frame = 0; frame < count; frame += 1) {
-    const [left, right] = [one.frames[frame], other.frames[frame]];
+    yield [frame, count];
+    const [left, right] = [one.frames.at(frame), other.frames.at(frame)];
     if (isSameFrame(left, right)) continue;
     if (left === undefined || right === undefined) return { frame, kind: "end" };
     return { frame, kind: left.at === right.at && left.kind === right.kind ? "level" : "kind" };
   }
   return one.close === other.close && one.cause === other.cause ? null : { frame: count, kind: "close" };
 }
+
+export const partingOf = (one, other) => atOnce(partingIn(one, other));
 
 const closeTold = ({ close, cause }) => (cause === null ? close : `${close} (${cause})`);
 
@@ -41,7 +46,7 @@ export function afterTold(inputs, at) {
 // Where two runs part, in a sentence without its end.
 export function partingTold({ frame, kind }, one, other, inputs) {
   if (kind === "close") return `the same ${plural(frame, "frame")}, and then here ${closeTold(one)}, there ${closeTold(other)}`;
-  const [left, right] = [one.frames[frame], other.frames[frame]];
+  const [left, right] = [one.frames.at(frame), other.frames.at(frame)];
   const where = `frame ${frame}, ${afterTold(inputs, (left ?? right).at)}`;
   if (kind === "end") return `${where}: no more frames ${left === undefined ? `here, which is ${closeTold(one)}` : `there, which is ${closeTold(other)}`}`;
   if (kind === "kind") return `${where}: here ${left.kind} of ${plural(left.at, "input")}, there ${right.kind} of ${right.at}`;

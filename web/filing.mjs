@@ -1,8 +1,8 @@
 // Changes of the sessions file in the state of the page: sessions are saved, accepted and removed, another file is opened, or another engine's lines.
-import { partingOf } from "./comparing.mjs";
+import { partingIn } from "./comparing.mjs";
 import { plural } from "./elements.mjs";
 import { addedTold, toAdd } from "./findings.mjs";
-import { readRuns } from "./lines.mjs";
+import { readingRuns } from "./lines.mjs";
 import { remembering } from "./past.mjs";
 import { framesOf, isPlayed } from "./replaying.mjs";
 import { Refusal, SessionFile } from "./session-file.mjs";
@@ -81,15 +81,35 @@ function theOneText({ entries }) {
 
 // ---- another engine
 
-// Compares how the sessions went with the lines of another engine.
-export function comparedWithLines(state, name, text) {
-  const runs = runsOfNow(state), { file } = state;
+// Compares how the sessions went with the lines of another engine, as work in pieces: { name, suite, others, partings }.
+export function* comparing(state, name, text) {
+  const runs = runsOfNow(state), { file, suite } = state, partings = [];
   if (runs === null) throw new Refusal(`${name} has lines: open and play the sessions file first that they are of`);
-  const others = readRuns(text);
+  const others = yield* readingRuns(text, runs.length);
   if (others.length !== runs.length) throw new Refusal(`${name} has ${plural(others.length, "session")}, and ${file.name} ${runs.length}`);
   const strange = others.findIndex((run, number) => run.name !== runs[number].name);
   if (strange >= 0) throw new Refusal(`session ${strange} has another name in ${name}`);
-  const partings = others.map((other, number) => partingOf(runWithFrames(state.suite, number), other)), first = partings.findIndex((it) => it !== null);
-  const next = { ...state, comparison: { name, others, partings }, tab: "sessions", told: null };
+  for (const other of others) {
+    yield [partings.length, runs.length];
+    partings.push(yield* partingOfSession(suite, partings.length, other, runs.length));
+  }
+  return { name, suite, others, partings };
+}
+
+// Where a session of an answer parts from another run. So far as all of `count` are compared is told, and not how far this one is.
+function* partingOfSession(suite, number, other, count) {
+  const work = partingIn(runWithFrames(suite, number), other);
+  let step = work.next();
+  while (!step.done) {
+    yield [number, count];
+    step = work.next();
+  }
+  return step.value;
+}
+
+// Takes what a comparison came to, where the sessions still stand as they were compared, and opens the first that diverges.
+export function withComparison(state, { name, suite, others, partings }) {
+  if (runsOfNow(state) === null || state.suite !== suite) throw new Refusal(`the sessions of ${state.file?.name ?? "the file"} were changed while ${name} was compared with them`);
+  const next = { ...state, comparison: { name, others, partings }, tab: "sessions", told: null }, first = partings.findIndex((it) => it !== null);
   return first < 0 ? next : sessionOpened(next, first);
 }

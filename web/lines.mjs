@@ -4,6 +4,7 @@ import { Refusal } from "./session-file.mjs";
 
 const KINDS = ["start", "move", "undo", "restart", "load", "tick", "over"];
 const BEFORE_OVER = ["move", "tick", "over"]; // of what kinds the frame is before one that shows that play is over
+export const MOST_READ = 2 ** 24; // bytes of lines that are read without giving the thread back: those of one frame, or of a run
 const NEW_LINE = 0x0a;
 const CLOSE_LETTER = 0x63; // a close begins with its cause or itself, and a frame with `at`
 
@@ -31,16 +32,45 @@ export function runsOf(bytes) {
   return runs;
 }
 
-// The frames of a run in its lines.
-export function framesIn(bytes, run) {
-  const decoder = new TextDecoder();
-  return [...spansOf(bytes.subarray(run.begin, run.end))].map(([begin, end]) => {
-    const { at, kind, level } = JSON.parse(decoder.decode(bytes.subarray(run.begin + begin, run.begin + end)));
+// The frames of a run in its lines. Each is read once it is asked for, and the last alone is kept: a run may have more than a page has time and memory for.
+class FramesRead {
+  constructor(bytes, { begin, end, count }) {
+    Object.assign(this, { bytes: bytes.subarray(begin, end), length: count });
+    this.rewind();
+  }
+
+  rewind() {
+    Object.assign(this, { number: -1, frame: undefined, spans: spansOf(this.bytes) });
+  }
+
+  // A frame, as a list has it: undefined behind the last.
+  at(number) {
+    if (number >= this.length) return undefined;
+    if (number < this.number) this.rewind();
+    while (this.number < number) this.next(number);
+    return this.frame;
+  }
+
+  next(wanted) {
+    const span = this.spans.next().value;
+    this.number += 1;
+    this.frame = this.number === wanted ? this.read(span) : undefined;
+  }
+
+  read([begin, end]) {
+    if (end - begin > MOST_READ) {
+      this.rewind();
+      throw new Refusal("a frame has more than 16 MiB here, and is not read");
+    }
+    const { at, kind, level } = JSON.parse(new TextDecoder().decode(this.bytes.subarray(begin, end)));
     return { at, kind, level };
-  });
+  }
 }
 
+export const framesIn = (bytes, run) => new FramesRead(bytes, run);
+
 function readLine(text, place) {
+  if (text.length > MOST_READ) throw new Refusal(`line ${place} has more than 16 MiB, and is not read`);
   let line = null;
   try {
     line = JSON.parse(text);
@@ -71,23 +101,33 @@ function testClose(line, place, count) {
   if (!isGood) throw new Refusal(`line ${place}: no close of a session of ${count} frames`);
 }
 
-// The runs in lines that any engine wrote, each with its frames; refused where they are no whole recording.
-export function readRuns(text) {
+// The lines of a text, but for an empty one at its end.
+function* linesOf(text) {
+  for (let begin = 0; begin <= text.length;) {
+    const at = text.indexOf("\n", begin), end = at < 0 ? text.length : at, line = text.slice(begin, end);
+    if (at >= 0 || line.trim() !== "") yield line;
+    begin = end + 1;
+  }
+}
+
+// Reads the runs in lines that any engine wrote, each with its frames, as work in pieces: so many are wanted. Refused where they are no whole recording.
+export function* readingRuns(text, wanted) {
   const runs = [];
-  let frames = [];
-  text.split("\n").forEach((it, at, all) => {
-    if (it.trim() === "" && at === all.length - 1) return;
-    const place = at + 1, line = readLine(it, place);
+  let frames = [], place = 0;
+  for (const it of linesOf(text)) {
+    yield [runs.length, wanted];
+    place += 1;
+    const line = readLine(it, place);
     if (line.session !== runs.length) throw new Refusal(`line ${place}: session ${line.session} where session ${runs.length} is wanted`);
     if (line.close === undefined) {
       testFrame(line, place, frames);
       frames.push({ at: line.at, kind: line.kind, level: line.level });
-      return;
+      continue;
     }
     testClose(line, place, frames.length);
     runs.push({ name: line.name, close: line.close, cause: line.cause ?? null, count: frames.length, frames });
     frames = [];
-  });
+  }
   if (frames.length > 0) throw new Refusal(`the lines end within session ${runs.length}, which has no close`);
   return runs;
 }

@@ -72,7 +72,7 @@ export function notesTold({ notes }) {
 }
 
 // How far something is read that came, where that takes long; or null.
-export const readingTold = (reading) => (reading?.isSlow ? { text: `Reading the texts of recordings: ${reading.done} of ${reading.total}.`, close: null } : null);
+export const readingTold = (reading) => (reading?.isSlow ? { text: `${reading.what}: ${reading.done} of ${reading.total}.`, close: null } : null);
 
 // What stands above the level: { text, close }.
 export function statusOf(state) {

@@ -1,19 +1,38 @@
 // Work on many things that may take long, in pieces: between them the thread is given back, so that the page answers, and it is heard where it is stopped.
-const PIECE = 30; // milliseconds, or as long as one thing takes
+// Such work is a generator: before each step it tells how many things of how many are done, and at its end what came of it.
+const PIECE = 30; // milliseconds, or as long as one step takes
 
 const rest = () => new Promise((settle) => { setTimeout(settle); });
 
-// Does something with each of some things, of which `done` are told between the pieces; whether it came to the end.
-export async function eachInPieces(things, act, signal, progress = () => {}) {
-  let rested = -Infinity;
-  for (const [done, thing] of things.entries()) {
+// What some work comes to, or null where it was stopped.
+export async function inPieces(work, signal, progress = () => {}) {
+  let rested = -Infinity, step = work.next();
+  while (!step.done) {
     if (performance.now() - rested > PIECE) {
-      progress(done, things.length);
+      progress(...step.value);
       await rest();
-      if (signal.aborted) return false;
+      if (signal.aborted) return null;
       rested = performance.now();
     }
+    step = work.next();
+  }
+  return step.value;
+}
+
+// What some work comes to that is done at once.
+export function atOnce(work) {
+  let step = work.next();
+  while (!step.done) step = work.next();
+  return step.value;
+}
+
+function* eachOf(things, act) {
+  for (const [done, thing] of things.entries()) {
+    yield [done, things.length];
     act(thing);
   }
   return true;
 }
+
+// Does something with each of some things; whether it came to the end.
+export const eachInPieces = async (things, act, ...words) => (await inPieces(eachOf(things, act), ...words)) ?? false;

@@ -10,10 +10,11 @@ import { keptOf, stateOfVisit } from "./kept-work.mjs";
 import { Store } from "./keeping.mjs";
 import { listen } from "./listening.mjs";
 import { PLAYER, servePlayer, startEngine } from "./page-engine.mjs";
+import { inPieces } from "./pieces.mjs";
 import { Runner } from "./running.mjs";
 import { Refusal, SessionFile } from "./session-file.mjs";
 import { isFailure } from "./session-list.mjs";
-import { RECORDINGS, comparedWithLines, filed, savedAs, withOtherFile, withRecordings } from "./filing.mjs";
+import { RECORDINGS, comparing, filed, savedAs, withComparison, withOtherFile, withRecordings } from "./filing.mjs";
 import { framesOf, isAtEnd, shownOf } from "./replaying.mjs";
 import { keepingTold, visitTold } from "./page-words.mjs";
 import { say } from "./saying.mjs";
@@ -145,7 +146,7 @@ class Playground {
       const it = handed(name, bytes);
       if (it.kind === "recordings") await this.add(it.found.map((one) => ({ ...one, source: one.source.replaceAll("\r\n", "\n") })), it.skipped);
       else if (it.kind === "sessions") this.act(withOtherFile, new SessionFile(name, it.bytes));
-      else if (it.kind === "lines") await this.runner.idle().then(() => this.act(comparedWithLines, name, it.text));
+      else if (it.kind === "lines") await this.compare(name, it.text);
       else this.takeGame(it.text);
     } catch (error) {
       if (!(error instanceof Refusal)) console.error(error);
@@ -153,9 +154,17 @@ class Playground {
     }
   }
 
+  // Compares another engine's lines with how the sessions went, once these are played.
+  async compare(name, text) {
+    await this.runner.idle();
+    const comparison = await this.runner.reading("Comparing sessions", (...words) => inPieces(comparing(this.state, name, text), ...words));
+    if (comparison === null) throw new Refusal(`${name} was stopped while it was compared`);
+    this.act(withComparison, comparison);
+  }
+
   // Adds recordings, once the texts are read that they are of.
   async add(recordings, skipped) {
-    const titles = await this.runner.reading((...words) => titlesOf(recordings, ...words));
+    const titles = await this.runner.reading("Reading the texts of recordings", (...words) => titlesOf(recordings, ...words));
     if (titles === null) throw new Refusal("it was stopped while its texts were read");
     this.act(withRecordings, recordings, skipped, titles);
   }

@@ -47,15 +47,15 @@ export class Runner {
     this.show();
   }
 
-  // Reads something that came, by read(signal, progress), behind what came before. It is null where it was stopped.
-  reading(read) {
-    const answer = this.read.then(() => this.readNow(read));
+  // Reads something that came, by read(signal, progress), behind what came before; `what` says what is done. It is null where it was stopped.
+  reading(what, read) {
+    const answer = this.read.then(() => this.readNow(what, read));
     this.read = answer.catch(() => {});
     return answer;
   }
 
-  async readNow(read) {
-    const doing = { wanted: null, controller: new AbortController(), done: 0, total: 0, isSlow: false };
+  async readNow(what, read) {
+    const doing = { what, wanted: null, controller: new AbortController(), done: 0, total: 0, isSlow: false };
     doing.timer = setTimeout(() => this.showSlow(doing), SLOW);
     this.doing.reading = doing;
     try {

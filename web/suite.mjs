@@ -1,6 +1,6 @@
 // The sessions of the file in the state of the page: how they closed over the text at hand, which of them is open, and what was seen of it.
 import { Ending, obstacleTold, partingOf } from "./comparing.mjs";
-import { framesIn, runsOf } from "./lines.mjs";
+import { MOST_READ, framesIn, runsOf } from "./lines.mjs";
 import { isSameList } from "./past.mjs";
 import { framesOf, isAtEnd, isPlayed, sourceOf } from "./replaying.mjs";
 import { refusalTold } from "./session-file.mjs";
@@ -22,8 +22,13 @@ export function wantedSuite(state) {
 // How the sessions closed, or null where they aren't played as they stand.
 export const runsOfNow = (state) => (state.file !== null && isOfNow(state.suite, state) ? state.suite.runs : null);
 
+let lastRun = { of: null }; // the run whose frames were asked for last: what is told of it is told at each draw
+
 // A run with its frames, as its lines have them.
-export const runWithFrames = ({ lines, runs }, number) => ({ ...runs[number], frames: framesIn(lines, runs[number]) });
+export function runWithFrames({ lines, runs }, number) {
+  if (lastRun.of !== runs[number]) lastRun = { ...runs[number], of: runs[number], frames: framesIn(lines, runs[number]) };
+  return lastRun;
+}
 
 // Whether a session has a text of its own that isn't the one at hand.
 export const isOther = (state, number) => ![ "", state.text ].includes(state.file.entries[number].source);
@@ -74,8 +79,10 @@ function changeOf({ good, suite }, number) {
   const entry = suite.file.entries[number], former = good?.file.entries[number];
   if (suite.runs === null || former === undefined || good === suite || good.order !== suite.order || good.isTicked !== suite.isTicked || good.runs[number].close !== "passed") return null;
   if (former.name !== entry.name || former.index !== entry.index || !isSameList(former.inputs, entry.inputs)) return null;
-  const parting = partingOf(runWithFrames(good, number), runWithFrames(suite, number));
-  return parting === null || parting.kind === "close" ? null : { ...parting, at: (runWithFrames(suite, number).frames[parting.frame] ?? runWithFrames(good, number).frames[parting.frame]).at };
+  const runs = [runWithFrames(good, number), runWithFrames(suite, number)];
+  if (runs.some(({ begin, end }) => end - begin > MOST_READ)) return null;
+  const parting = partingOf(...runs), [before, now] = runs.map(({ frames }) => frames.at(parting?.frame ?? 0));
+  return parting === null || parting.kind === "close" ? null : { ...parting, at: (now ?? before).at };
 }
 
 // Whether what is worked on may make way for a session: it is nothing, or stands in the file.

@@ -1,8 +1,10 @@
 // The page without a browser: its state, played by the module in Node, with what is drawn left out. For the tests of the page's logic.
 import { readFileSync } from "node:fs";
+import { comparing, withComparison } from "../../web/filing.mjs";
 import { keptOf, stateOfVisit } from "../../web/kept-work.mjs";
 import { KeptOpen } from "../../web/kept-open.mjs";
 import { actedBy, playedBy, solutionBy, stagesBy } from "../../web/page-engine.mjs";
+import { atOnce } from "../../web/pieces.mjs";
 import { Runner } from "../../web/running.mjs";
 import { beginning } from "../../web/work.mjs";
 import { module } from "./module.mjs";
@@ -19,6 +21,9 @@ export function closesOf(entries, order) {
   if (fault !== null) return fault;
   return new TextDecoder().decode(lines).split("\n").filter((line) => line.includes('"close":')).map((line) => JSON.parse(line).close);
 }
+
+// What comes of another engine's lines, at once.
+export const comparedWithLines = (state, name, text) => withComparison(state, atOnce(comparing(state, name, text)));
 
 export class Bench {
   constructor(state = beginning(GAME)) {

@@ -8,8 +8,9 @@ import { meaningOf } from "../../web/keys.mjs";
 import { packed, unpacked } from "../../web/packing.mjs";
 import { playedInParts } from "../../web/parts.mjs";
 import { Labels, readCells, widthOf } from "../../web/level-text.mjs";
-import { framesIn, readRuns, runsOf } from "../../web/lines.mjs";
+import { framesIn, readingRuns, runsOf } from "../../web/lines.mjs";
 import { likeness, nearest } from "../../web/nearest.mjs";
+import { atOnce } from "../../web/pieces.mjs";
 import { firstFrom, joined, markOf, windowAround } from "../../web/recording.mjs";
 import { Refusal, SessionFile, refusalTold } from "../../web/session-file.mjs";
 import { findingsIn } from "../../web/console.mjs";
@@ -131,9 +132,12 @@ const LINES = `${frame(0, 0, "start", "a:0,b:1,", 0)}${frame(1, 1, "move", "b:0,
 test("lines are cut into runs, and frames are read where they are wanted", () => {
   const lines = bytesOf(LINES), runs = runsOf(lines);
   assert.deepEqual(runs.map(({ name, close, cause, count }) => [name, close, cause, count]), [["one", "differs", null, 2], ["two", "refused", "BadRule:3", 0]]);
-  assert.deepEqual(framesIn(lines, runs[0]), [{ at: 0, kind: "start", level: "a:0,b:1," }, { at: 1, kind: "move", level: "b:0,a:1," }]);
-  assert.deepEqual(framesIn(lines, runs[1]), []);
+  const frames = framesIn(lines, runs[0]), [first, second] = [{ at: 0, kind: "start", level: "a:0,b:1," }, { at: 1, kind: "move", level: "b:0,a:1," }];
+  assert.deepEqual([1, 1, 0, 1, 2, 0].map((number) => frames.at(number)), [second, second, first, second, undefined, first]);
+  assert.deepEqual([frames.length, framesIn(lines, runs[1]).length, framesIn(lines, runs[1]).at(0)], [2, 0, undefined]);
 });
+
+const readRuns = (text) => atOnce(readingRuns(text, 0));
 
 test("lines of another engine are read the same, and refused where they are none", () => {
   const [one, two] = readRuns(LINES);

@@ -5,12 +5,12 @@ import test from "node:test";
 import { isDeepStrictEqual } from "node:util";
 import { MOST_PAST } from "../../web/past.mjs";
 import { SessionFile } from "../../web/session-file.mjs";
-import { accepted, comparedWithLines, filed, followed, namesakeOf, removed, savedAs, withOtherFile } from "../../web/filing.mjs";
+import { accepted, filed, followed, namesakeOf, removed, savedAs, withOtherFile } from "../../web/filing.mjs";
 import { isPlayed, sourceOf } from "../../web/replaying.mjs";
 import { coverageStopped, covered, linePointedAt, opened, stageStepped } from "../../web/staging.mjs";
 import { differenceOf, playedAgain, rowsOf, runsOfNow, seenOf, sessionOf, sessionOpened } from "../../web/suite.mjs";
 import { begunAnew, cutBack, edited, fromLevel, held, inOrder, lookedAt, named, pressed, putBack, released, withGame, withOwnText } from "../../web/work.mjs";
-import { Bench, GAME, closesOf, module, read } from "./bench.mjs";
+import { Bench, GAME, closesOf, comparedWithLines, module, read } from "./bench.mjs";
 
 const ACTS = Number(process.env.ACTS ?? 2000), SEED = Number(process.env.SEED ?? 1);
 const INPUTS = [0, 1, 2, 3, 4, "undo", "restart", "tick"];

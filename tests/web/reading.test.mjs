@@ -2,10 +2,12 @@
 import assert from "node:assert/strict";
 import test from "node:test";
 import { readBy } from "../../web/descriptions.mjs";
-import { withOtherFile, withRecordings } from "../../web/filing.mjs";
+import { comparing, withComparison, withOtherFile, withRecordings } from "../../web/filing.mjs";
 import { titlesOf, toAdd } from "../../web/findings.mjs";
 import { isTyped } from "../../web/handing.mjs";
+import { MOST_READ, framesIn, readingRuns, runsOf } from "../../web/lines.mjs";
 import { clockTold, readingTold, tabTold, verdictOf } from "../../web/page-words.mjs";
+import { atOnce, inPieces } from "../../web/pieces.mjs";
 import { SessionFile } from "../../web/session-file.mjs";
 import { rowsOf, sessionOpened } from "../../web/suite.mjs";
 import { beginning, edited, ticked, withOwnText } from "../../web/work.mjs";
@@ -74,8 +76,8 @@ it("the texts of recordings are read before these are added, which then have the
 it("what comes is read one behind the other, and nothing is left where that is stopped or fails", async () => {
   const bench = new Bench(), begun = [];
   await bench.runner.idle();
-  const stopped = bench.runner.reading((asked) => { begun.push(1); return new Promise((settle) => asked.addEventListener("abort", () => settle(null))); });
-  const failing = bench.runner.reading(async () => { begun.push(2); throw new Error("no"); }), last = bench.runner.reading(async () => begun.push(3));
+  const stopped = bench.runner.reading("", (asked) => { begun.push(1); return new Promise((settle) => asked.addEventListener("abort", () => settle(null))); });
+  const failing = bench.runner.reading("", async () => { begun.push(2); throw new Error("no"); }), last = bench.runner.reading("", async () => begun.push(3));
   await moved();
   assert.deepEqual([begun, bench.runner.isBusy], [[1], true]);
   bench.runner.stopPlay();
@@ -84,8 +86,33 @@ it("what comes is read one behind the other, and nothing is left where that is s
   assert.deepEqual([await last, begun, bench.runner.isBusy, bench.state.isHeld], [3, [1, 2, 3], false, false]);
 });
 
-test("how far texts are read is said where it takes long", () => {
-  assert.deepEqual([null, { isSlow: false }, { isSlow: true, done: 3, total: 70 }].map((reading) => readingTold(reading)?.text ?? null), [null, null, "Reading the texts of recordings: 3 of 70."]);
+it("another engine's lines are compared in pieces, up to where each session parts, and only with the sessions that they were compared with", async () => {
+  const bench = new Bench(), entries = [0, 1, 2].map(() => ({ source: GAME, inputs: [0, 1, 2], level: "", index: 0 }));
+  await bench.act(withOtherFile, fileOf(entries));
+  const { state } = bench, { suite } = state, lines = new TextDecoder().decode(suite.lines);
+  const stopping = new AbortController(), steps = (text, { signal: asked } = new AbortController(), progress) => inPieces(comparing(state, "theirs", text), asked, progress);
+  assert.equal(await steps(lines, stopping, () => stopping.abort()), null);
+  // of the page's own lines nothing is read behind the frame at which a session parts
+  const broken = new TextEncoder().encode(lines.replaceAll(/"at":[23],.*/g, (line) => "x".repeat(line.length))), others = lines.replaceAll(/("at":1.*"level":")./g, "$1?");
+  const found = await inPieces(comparing({ ...state, suite: { ...suite, lines: broken } }, "theirs", others), signal);
+  assert.deepEqual(found.partings, [0, 1, 2].map(() => ({ frame: 1, kind: "level" })));
+  assert.throws(() => withComparison(state, found), { message: "the sessions of f.json were changed while theirs was compared with them" });
+  const comparison = await steps(others);
+  assert.equal(verdictOf(withComparison(state, comparison), null).text, "Compared with theirs: 0 the same, 3 diverge.");
+  await bench.act(edited, `${GAME}(a)\n`);
+  bench.runner.update((now) => ({ ...now, suite: null }));
+  assert.throws(() => withComparison(bench.state, comparison), /were changed/);
+});
+
+test("a frame or a line that has more than is read at once is refused, and what stands beside it is read", () => {
+  const lineOf = (frame, level) => `{"at":${frame},"frame":${frame},"kind":"${frame === 0 ? "start" : "move"}","level":"${level}","session":0}\n`, long = "x".repeat(MOST_READ);
+  const text = `${lineOf(0, long)}${lineOf(1, "a:0,")}{"close":"differs","frames":2,"name":"a","session":0}\n`, lines = new TextEncoder().encode(text), frames = framesIn(lines, runsOf(lines)[0]);
+  for (const at of [0, 0, 1]) assert.throws(() => { if (frames.at(at).level === "a:0,") throw new Error("it is there"); }, { message: at === 0 ? "a frame has more than 16 MiB here, and is not read" : "it is there" });
+  assert.throws(() => atOnce(readingRuns(text, 1)), { message: "line 1 has more than 16 MiB, and is not read" });
+});
+
+test("how far what comes is read is said where it takes long", () => {
+  assert.deepEqual([null, { isSlow: false }, { what: "Comparing sessions", isSlow: true, done: 3, total: 70 }].map((reading) => readingTold(reading)?.text ?? null), [null, null, "Comparing sessions: 3 of 70."]);
 });
 
 it("a text that is too long to be played comes not to hand, in which a browser would lay it out for minutes", () => {

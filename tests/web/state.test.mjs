@@ -7,11 +7,11 @@ import { stateFrom, stateOfVisit } from "../../web/kept-work.mjs";
 import { playedBy } from "../../web/page-engine.mjs";
 import { faultOfText, othersTold, ownTold, putBackTold, statusOf, stepTold, tabTold, verdictOf } from "../../web/page-words.mjs";
 import { SessionFile } from "../../web/session-file.mjs";
-import { accepted, comparedWithLines, filed, followed, namesakeOf, removed, savedAs, withOtherFile, withRecordings } from "../../web/filing.mjs";
+import { accepted, filed, followed, namesakeOf, removed, savedAs, withOtherFile, withRecordings } from "../../web/filing.mjs";
 import { framesOf, isPlayed, shownOf, sourceOf } from "../../web/replaying.mjs";
 import { differenceOf, playedAgain, rowsOf, seenOf, sessionOf, sessionOpened } from "../../web/suite.mjs";
 import { beginning, begunAnew, cutBack, edited, fromLevel, held, inOrder, lookedAt, lookedAtInput, named, pressed, putBack, released, withGame, withOwnText } from "../../web/work.mjs";
-import { Bench, GAME, module, read } from "./bench.mjs";
+import { Bench, GAME, comparedWithLines, module, read } from "./bench.mjs";
 
 const PUSH = "[ > Player | Crate ] -> [ > Player | > Crate ]", BROKEN = GAME.replace(PUSH, "[ > Player | Crate ] -> [ Player | Crate ]");
 const OTHER = GAME.replace("title ", "title Another ");
