@@ -12,6 +12,7 @@ const FEW = 131_072; // bytes of a sessions file that one worker plays
 const SOON = 400; // milliseconds that it may take for it
 const MOMENT = 30; // milliseconds for which inputs are looked through before it is told what came of it
 const GRACE = 100; // milliseconds that a worker has to end what isn't wanted any more
+const MOST_OF_A_LEVEL = 2 ** 23; // letters of a level's text that the page reads, for which it takes a second; levels for people have some thousand
 const IDLE = 200; // milliseconds without a question, after which a session is opened for the keys that may come; behind a key it is opened at once
 
 // The module, which stands in the page compressed.
@@ -22,8 +23,15 @@ async function moduleBytes() {
 
 const refusedPlay = (fault) => ({ frames: [], cause: `engine:${fault}`, isSolved: false });
 
-// The answer of a worker that can't give one.
-const BROKEN = { ...refusedPlay("broken"), fault: "broken", lines: null };
+// The answer of a worker that has none to give, whatever it was asked.
+const noAnswer = (fault) => ({ ...refusedPlay(fault), stages: [], solution: null, fault, lines: null });
+const BROKEN = noAnswer("broken");
+
+// An answer as it is handed to the page, which reads the texts of levels on its own thread: with one that takes it long it is none.
+export function readableAnswer(answer) {
+  const isLong = ({ level }) => level?.length > MOST_OF_A_LEVEL;
+  return [...(answer.frames ?? []), ...(answer.stages ?? [])].some(isLong) ? noAnswer("long-level") : answer;
+}
 
 // What the engine makes of a recording: { frames, cause, isSolved }. A fault of the engine is a cause that begins with `engine:`.
 export function playedBy(engine, { source, index, order, inputs, from, isTicked }) {
@@ -140,7 +148,7 @@ export function servePlayer() {
       open.catch(() => {});
       return;
     }
-    hand(await answerTo(data).catch(() => BROKEN));
+    hand(await answerTo(data).then(readableAnswer).catch(() => BROKEN));
     if (data.wanted) timer = setTimeout(follow, data.wanted.from > 0 ? 0 : IDLE, data.wanted);
   });
 }

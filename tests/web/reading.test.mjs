@@ -7,8 +7,9 @@ import { titlesOf, toAdd } from "../../web/findings.mjs";
 import { isTyped } from "../../web/handing.mjs";
 import { MOST_READ, framesIn, readingRuns, runsOf } from "../../web/lines.mjs";
 import { clockTold, readingTold, tabTold, verdictOf } from "../../web/page-words.mjs";
+import { readableAnswer } from "../../web/page-engine.mjs";
 import { atOnce, inPieces } from "../../web/pieces.mjs";
-import { SessionFile } from "../../web/session-file.mjs";
+import { SessionFile, refusalTold } from "../../web/session-file.mjs";
 import { rowsOf, sessionOpened } from "../../web/suite.mjs";
 import { beginning, edited, ticked, withOwnText } from "../../web/work.mjs";
 import { Bench, GAME, module } from "./bench.mjs";
@@ -127,4 +128,14 @@ it("a text that is too long to be played comes not to hand, in which a browser w
 test("what is pasted into a field is left to it, but for a text that is far too long for one", () => {
   const field = { matches: (words) => words === "textarea, input" }, level = { matches: () => false }, long = "x".repeat(2 ** 21 + 1);
   assert.deepEqual([["x", field], ["", field], [long, field], ["x", level], ["", level], ["x", {}]].map((words) => isTyped(...words)), [true, true, false, false, true, false]);
+});
+
+test("an answer with a level whose text is very long is handed over as none", () => {
+  const frame = (level) => ({ at: 0, kind: "start", level }), long = "a".repeat(2 ** 23 + 1), short = { frames: [frame(long.slice(1))], cause: null, isSolved: true };
+  assert.equal(readableAnswer(short), short);
+  for (const answer of [{ frames: [frame("a:0,"), frame(long)], cause: null, isSolved: true }, { stages: [{ stage: "end", level: long }], fault: null }]) {
+    const { frames, stages, cause, fault, isSolved, solution } = readableAnswer(answer);
+    assert.deepEqual([frames, stages, cause, fault, isSolved, solution], [[], [], "engine:long-level", "long-level", false, null]);
+  }
+  assert.match(refusalTold("long-level"), /8,388,608 letters/);
 });
