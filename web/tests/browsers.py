@@ -89,6 +89,10 @@ class Chromium(Browser):
         before, self.session = self.session, tab
         return before
 
+    def front(self):
+        """Shows the page of the tab: one that is behind another draws no frames."""
+        self.call("Page.bringToFront")
+
     def message(self):
         while b"\0" not in self.rest:
             data = os.read(self.input, 1 << 16)
@@ -254,6 +258,9 @@ class Firefox(Browser):
     def pointer(self, x, y, is_tap=False):
         taps = [{"type": "pointerDown", "button": 0}, {"type": "pointerUp", "button": 0}] if is_tap else []
         self.perform("pointer", {"type": "pointerMove", "x": round(x), "y": round(y), "duration": 0}, *taps, parameters={"pointerType": "mouse"})
+
+    def front(self):
+        """Each tab of a test draws its frames."""
 
     def size(self, width, height):
         """Gives the page this size. Firefox makes no window narrower than 450."""
