@@ -2,14 +2,15 @@
 import io
 import json
 import os
+import random
 import subprocess
 import sys
 import unittest
-from contextlib import redirect_stdout
+from contextlib import contextmanager, redirect_stdout
 from unittest import mock
 
 from tool import TOP, InARoom  # which puts the package on the path
-from saxtegun import budget, descriptions, programs
+from saxtegun import budget, descriptions, playing, programs, reindexing
 from saxtegun.command_line import main
 from saxtegun.commands import Refused
 from saxtegun.descriptions import NOTHING, Definition, Description, Drawn, Fault, Line, Paragraph, Setting, Undescribed, Words, asked, bytes_of, description_of, expect, how_to_ask
@@ -17,7 +18,11 @@ from saxtegun.explanations import told
 from saxtegun.games import Game, game_of, titles_of
 from saxtegun.lines import Run
 from saxtegun.pages import look_known
+from saxtegun.playing import Engine
+from saxtegun.recording_search import find
+from saxtegun.recordings import as_sessions, own_name
 from saxtegun.sessions import sessions_in
+from saxtegun.verbs import coverage
 
 SOURCE = """(a comment) Title A (game)
 run_rules_on_level_start
@@ -124,6 +129,25 @@ class Whole(unittest.TestCase):
             descriptions.read(line)
 
 
+@contextmanager
+def asked_for():
+    """Counts how many sources are asked for at once, of which nothing is told."""
+    line = json.dumps({"fault": None, **{it: [] for it in Description._fields[1:]}}, separators=(",", ":"))
+    counts = []
+
+    def answers(them, words):
+        counts.append(len(them))
+        return [line] * len(them)
+
+    with mock.patch.multiple(descriptions, asked=answers, how_to_ask=lambda: []):
+        yield counts
+
+
+def refusing(entries, of, engine):
+    """Runs that are all refused, as if something had played."""
+    return (Run(number, it.name, "refused", "NoLevel:0", []) for number, it in enumerate(entries))
+
+
 class Asked(InARoom):
     """How the engine is asked: by stand-ins that are scripts, or by a count of calls."""
 
@@ -202,10 +226,59 @@ class Asked(InARoom):
                     description_of(it)
         self.assertLessEqual(called.call_count, 6)
 
+    def test_sources_that_come_again_are_asked_for_with_those_that_are_wanted_next(self):
+        """In whichever order they come again: with those behind their first places each would be asked for with many that nobody wants then."""
+        once = [f"title {it:3}" for it in range(200)]
+        wanted = [*once, *random.Random(0).sample(once, len(once))]
+        with mock.patch.multiple(descriptions, MOST_KEPT=400, MOST_LETTERS_AT_ONCE=400), asked_for() as counts:
+            expect(wanted)
+            for it in wanted:
+                description_of(it)
+        self.assertLess(len(counts), 20)
+        self.assertLess(sum(counts), 500)
+
+    def sessions_of(self, count, lines=""):
+        """A file of sessions of as many games."""
+        path = self.room / "sessions.json"
+        path.write_text(json.dumps([[f"s{it}", [f"title {it}\n{lines}", [], ""]] for it in range(count)]))
+        return path
+
+    def test_recordings_of_many_games_are_named_by_one_process(self):
+        found = find(json.dumps([["", [f"title {it}\nOBJECTS\n", [], ""]] for it in range(300)])).found
+        with asked_for() as counts:
+            as_sessions("x", found, own_name)
+        self.assertEqual(counts, [300])
+
+    def test_levels_of_many_games_are_found_by_one_process(self):
+        sessions = sessions_in("x", self.sessions_of(300).read_text())
+        with asked_for() as counts, mock.patch.object(reindexing, "runs_played", refusing):
+            self.assertEqual(len(reindexing.reindexed(sessions.entries, sessions, Engine())), 300)
+        self.assertEqual(counts, [300])
+
+    def test_lines_of_many_games_are_left_out_by_one_process(self):
+        def played(entries, of, engine):
+            return (it._replace(close="passed") for it in refusing(entries, of, engine))
+
+        with asked_for() as counts, mock.patch.object(coverage, "runs_played", played), self.assertRaises(Refused):
+            self.call("coverage", self.sessions_of(300))
+        self.assertEqual(counts, [300])
+
+    def test_clocks_of_many_games_are_found_by_one_process(self):
+        path = self.sessions_of(300, "realtime_interval 1\n")
+        for verb in ("test", "lines", "accept"):
+            descriptions.DESCRIPTIONS.cache_clear()
+            with self.subTest(verb), asked_for() as counts, mock.patch.object(playing, "play_file", side_effect=Refused("nothing plays")):
+                self.assertRaisesRegex(Refused, "nothing plays", self.call, verb, path, "--ticks-as-recorded")
+                self.assertEqual(counts, [300])
+
+    def call(self, verb, *words):
+        with mock.patch.object(sys, "argv", ["saxtegun", verb, *map(str, words)]), redirect_stdout(io.StringIO()):
+            return main()
+
     def test_what_was_expected_before_is_expected_again(self):
         expect(["a", "b"])
         self.assertEqual(titles_of(["title x", "title y"]), {"x", "y"})
-        self.assertEqual(descriptions.DESCRIPTIONS.expected, ["a", "b"])
+        self.assertEqual(descriptions.DESCRIPTIONS.expected.sources, ["a", "b"])
 
     def test_of_many_sources_some_are_kept(self):
         with mock.patch.object(descriptions, "MOST_KEPT", 20):

@@ -7,6 +7,7 @@ import subprocess
 import sys
 import time
 import unittest
+from argparse import Namespace
 from collections import deque
 from pathlib import Path
 from unittest import mock
@@ -17,12 +18,14 @@ from test_test import OfAGame
 from tool import TOP, environment, plays, run
 from saxtegun import mending, solving
 from saxtegun.commands import Refused
+from saxtegun.lines import UNANSWERED, Run
 from saxtegun.mending import Mender, Standing
 from saxtegun.playing import Engine
 from saxtegun.sessions import Entry, Sessions
 from saxtegun.solvability import levels_not_won
 from saxtegun.solving import Bounds, OutOfBounds, Solved, Unasked, Unsolvable, answer_in
 from saxtegun.texts import GameText
+from saxtegun.verbs import solve as solve_verb
 
 WORDS = ("up", "left", "down", "right", "action")
 # The example's levels are the first two of a published set, whose shortest solutions are known.
@@ -458,7 +461,7 @@ class AnswersOfASolver(unittest.TestCase):
             self.assertEqual(answer_in(json.dumps({"session": 0, "solution": text}).encode()), wanted)
 
     def test_another_line_is_none(self):
-        for text in (b"", b"{}", b"[]", b'{"solution":{}}', b'{"solution":{"solved":[5]}}', b'{"solution":{"solved":[true]}}', b'{"solution":{"solved":[0],"over":true}}', b'{"solution":{"other":1}}', b"\xff", b"[" * 10_000):
+        for text in (b"", b"{}", b"[]", b'{"solution":{}}', b'{"solution":{"solved":[5]}}', b'{"solution":{"solved":[true]}}', b'{"solution":{"solved":[0],"over":true}}', b'{"solution":{"other":1}}', b'{"solution":{"outOfBounds":{"levels":Infinity,"inputs":1}}}', b"\xff", b"[" * 10_000):
             with self.assertRaises(Refused, msg=text[:60]):
                 answer_in(text)
 
@@ -473,6 +476,20 @@ class AnswersOfASolver(unittest.TestCase):
         self.assertEqual(solving.solution_of(entry, Bounds(1, end=0)), Unasked(solving.LATE))
         with mock.patch.object(solving, "solver_words", lambda: ["/bin/sh", "-c", "sleep 60"]):
             self.assertEqual(solving.solution_of(entry, Bounds(1, 0.2)), Unasked("not answered in 0.2 s"))
+
+    def test_a_solver_that_there_is_no_room_to_ask_is_told(self):
+        with mock.patch.object(solving.tempfile, "TemporaryFile", side_effect=OSError(28, "No space left on device")):
+            self.assertRaisesRegex(Refused, "can't be asked for a solution: No space left", solving.solution_of, Entry(0, "a", "title a\n", [], "", 0, {}, False), Bounds(1))
+
+    def test_a_program_that_hangs_over_what_was_found_is_told(self):
+        """And no other program than the engine that was asked is blamed for it; all that is saved is played in a time."""
+        run_of = Run(0, "a", UNANSWERED, "not answered in 60 s", [])
+        with mock.patch.object(mending, "runs_of", lambda *_: [run_of]):
+            self.assertRaisesRegex(Refused, "^what wins level 1 of a was found, but is not answered in 60 s by", mending.won, Entry(0, "a", "", [0], "", 0, {}, False), 1, Sessions("a", "", []), Engine())
+        given = Namespace(game="a", save=None, level=None, levels=None, within=9.0, ticks_as_recorded=False, program=None)
+        with mock.patch.object(solve_verb, "read_named", lambda path: GameText(path, "title a\n")), mock.patch.object(solve_verb, "guard_game", side_effect=Refused("enough")) as guarded:
+            self.assertRaisesRegex(Refused, "enough", solve_verb.main, given)
+        self.assertEqual(guarded.call_args[0][1].seconds, solving.SECONDS)
 
     def test_the_levels_that_are_kept_have_room(self):
         source = (Path(__file__).parent.parent / "examples/day/game.txt").read_text(encoding="utf-8")

@@ -342,6 +342,30 @@ def how_to_ask() -> List[str]:
         raise Undescribed(why) from None
 
 
+class Awaited:
+    """Sources in the order in which they are to be asked for, each as often as that, and how far that has come: of one that comes again and again those are
+    wanted next that stand behind its next place, not behind its first."""
+
+    def __init__(self, sources: Iterable[str] = ()) -> None:
+        self.sources = [*sources]
+        self.at = 0
+        self.places: Dict[str, List[int]] = {}
+        for place, source in enumerate(self.sources):
+            self.places.setdefault(source, []).append(place)
+
+    def come_to(self, source: str) -> bool:
+        """Goes on to the next place of a source, or else to its first, as where all are gone through once more; whether it has one."""
+        places = self.places.get(source, [])
+        if places:
+            behind = bisect_left(places, self.at)
+            self.at = places[behind if behind < len(places) else 0]
+        return bool(places)
+
+    def behind(self) -> Iterator[str]:
+        """What comes next."""
+        return (self.sources[it] for it in range(self.at + 1, len(self.sources)))
+
+
 class Descriptions:
     """What was told of sources, each of which is asked for once, as long as it is kept. With one that was expected those behind it are asked for too, as far
     as they may be at once, since a process for each takes long."""
@@ -352,8 +376,7 @@ class Descriptions:
         self.has_forgotten = False
         # lines that are not read yet
         self.told: Dict[str, str] = {}
-        self.expected: List[str] = []
-        self.places: Dict[str, int] = {}
+        self.expected = Awaited()
 
     def cache_clear(self) -> None:
         """Forgets all, as what remembers what it told does."""
@@ -363,10 +386,10 @@ class Descriptions:
 
     def expect(self, sources: Iterable[str]) -> None:
         """Notes sources that are to be asked for soon, in this order."""
-        self.expected = list(dict.fromkeys(sources))
-        self.places = {source: place for place, source in enumerate(self.expected)}
+        self.expected = Awaited(sources)
 
     def of(self, source: str) -> Description:
+        self.expected.come_to(source)
         if source not in self.known:
             if source not in self.told:
                 self.ask(source)
@@ -375,14 +398,16 @@ class Descriptions:
 
     def with_next(self, source: str) -> List[str]:
         """A source, and those behind it that are expected."""
-        behind = islice(self.expected, self.places[source] + 1, None) if source in self.places else iter(())
-        them, letters = [source], len(source)
-        for it in behind:
+        them: Dict[str, None] = {source: None}
+        letters = len(source)
+        for it in self.expected.behind() if self.expected.come_to(source) else ():
+            if it in them:
+                continue
             letters += len(it)
             if letters > MOST_LETTERS_AT_ONCE or len(them) == MOST_AT_ONCE:
                 break
-            them.append(it)
-        return them
+            them[it] = None
+        return [*them]
 
     def ask(self, source: str) -> None:
         # Those that are known may be forgotten before they are wanted, once any was: each would then be asked for alone.
@@ -426,4 +451,4 @@ def expected(sources: Iterable[str]) -> Iterator[None]:
     try:
         yield
     finally:
-        expect(before_it)
+        DESCRIPTIONS.expected = before_it

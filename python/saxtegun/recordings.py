@@ -6,7 +6,7 @@ from typing import Callable, Dict, Iterable, List, Optional, Sequence, Set, Tupl
 
 from saxtegun.commands import Refused, fold, say
 from saxtegun.files import read_any_text
-from saxtegun.descriptions import description_of
+from saxtegun.descriptions import description_of, expected
 from saxtegun.games import title_of
 from saxtegun.levelsets import first_level
 from saxtegun.recording_search import NAMELESS, Findings, Found, find
@@ -82,7 +82,9 @@ def entry_text(name: str, it: Found) -> str:
 def as_sessions(path: str, found: Sequence[Found], name_of: Callable[[str, Entry], str]) -> Sessions:
     """Recordings as a sessions file has them, under their names."""
     unnamed = sessions_in(path, "[" + ",".join(entry_text("", it) for it in found) + "]").entries
-    names = [name_of(it.name, entry) for it, entry in zip(found, unnamed)]
+    # a text of a stranger may have as many sources as recordings
+    with expected(it.source for it in unnamed):
+        names = [name_of(it.name, entry) for it, entry in zip(found, unnamed)]
     return sessions_in(path, "[\n" + ",\n".join(entry_text(name, it) for name, it in zip(names, found)) + "\n]\n")
 
 

@@ -6,6 +6,7 @@ from time import monotonic
 from typing import Dict, Iterator, List, NamedTuple, Optional, Sequence
 
 from saxtegun.commands import cut, plural
+from saxtegun.descriptions import expected
 from saxtegun.levelsets import entries_of_levels
 from saxtegun.lines import UNANSWERED
 from saxtegun.playing import Engine, Late, runs_played
@@ -118,7 +119,8 @@ def reindexed(entries: Sequence[Entry], of: Sessions, engine: Engine, seconds: f
     took = (monotonic() - begin) / len(entries)
     failed = [it for it in entries if runs[it.number].close != "passed"]
     late = {it.number: str(runs[it.number].cause) for it in failed if runs[it.number].close == UNANSWERED}
-    places = {it.number: Places([], 0) if it.number in late else places_of(it) for it in failed}
+    with expected(it.source for it in failed):
+        places = {it.number: Places([], 0) if it.number in late else places_of(it) for it in failed}
     closes: Dict[int, Dict[str, List[int]]] = {it.number: {"passed": [], UNANSWERED: []} for it in failed}
     tried = (it._replace(index=index) for it in failed for index in places[it.number].tried)
     count = {it.number: 0 for it in failed}

@@ -133,7 +133,7 @@ def answer_in(line: bytes) -> Answer:
         if kind == "outOfBounds":
             return OutOfBounds(int(value["levels"]), int(value["inputs"]))
         return Unasked(NO_LEVEL[kind])
-    except (ValueError, TypeError, LookupError, AttributeError, RecursionError):
+    except (ValueError, TypeError, LookupError, AttributeError, OverflowError, RecursionError):
         raise Refused(f"{CANT_ASK}what it wrote is no answer") from None
 
 
@@ -145,6 +145,9 @@ def solution_of(entry: Entry, bounds: Bounds) -> Answer:
         answer = asked(entry, bounds)
     except Unanswered as why:
         return Unasked(str(why))
+    except OSError as why:
+        # also where no room is left for what is asked: what was found before is told
+        raise Refused(f"{CANT_ASK}{why.strerror}") from None
     switch = switched_off(entry.source, answer.inputs) if isinstance(answer, Solved) else None
     return answer if switch is None else Unasked(f"the fewest presses that win have one that the game switches off by `{switch}`")
 

@@ -32,6 +32,7 @@ from argparse import ArgumentParser, Namespace
 from typing import Dict, List, Mapping, Optional, Sequence, Tuple, Union
 
 from saxtegun.commands import Refused, add_game, add_playing, add_ticks, plural, printable, say, seconds_in
+from saxtegun.descriptions import expect
 from saxtegun.explanations import UNREADABLE, Ending, heading, source_told, told
 from saxtegun.files import guard_output, guard_places, write_again
 from saxtegun.lines import UNANSWERED, Run
@@ -133,6 +134,7 @@ def main(given: Namespace) -> int:
     game = read_game(given.game)
     sessions = over(read_sessions(given.sessions), game)
     say_others("accept", sessions, game)
+    expect(it.source for it in sessions.entries)
     if given.reindex:
         return reindex(sessions, chosen(sessions, given.only), given)
     wanted = {it.number for it in chosen(sessions, given.only)}

@@ -22,7 +22,7 @@ from typing import Dict, Iterable, Iterator, List, NamedTuple, Optional, Set, Tu
 from saxtegun.commands import Refused, add_playing, add_ticks, cut, plural, printable, seconds_in
 from saxtegun.explanations import source_told
 from saxtegun.files import guard_output
-from saxtegun.descriptions import Line
+from saxtegun.descriptions import Line, expect
 from saxtegun.games import title_of
 from saxtegun.levelsets import wins_of
 from saxtegun.lines import UNANSWERED, Run
@@ -204,6 +204,7 @@ def main(given: Namespace) -> int:
     text = read_game(given.files[0] if len(given.files) == 2 else None)
     sessions = over(read_sessions(given.files[-1]), text)
     say_others("coverage", sessions, text)
+    expect(it.source for it in sessions.entries)
     coverage = Coverage(sessions, given, text)
     coverage.run()
     for trial in coverage.unnoticed:

@@ -25,6 +25,7 @@ from threading import Event
 from typing import Iterator, List, NamedTuple, Optional, Sequence, Tuple
 
 from saxtegun.commands import Refused, add_game, add_playing, add_ticks, plural
+from saxtegun.descriptions import expect
 from saxtegun.files import NoFile, TooLong, guard_output, read_bytes
 from saxtegun.lines import PLAYED
 from saxtegun.playing import engine_of, lines_within, refusal
@@ -182,6 +183,7 @@ def play_over(given: Namespace) -> int:
     sessions = over(read_sessions(given.sessions), game)
     say_others("lines", sessions, game)
     say_untested("lines", sessions.entries)
+    expect(it.source for it in sessions.entries)
     count, passed, unshown, last = 0, 0, 0, ""
     close, success, *shows_nothing = (it[1:].decode() for it in (CLOSE, PASSED, *SHOWS_NOTHING))
     for last in lines_within(sessions.entries, sessions, engine_of(given)):

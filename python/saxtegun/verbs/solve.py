@@ -28,7 +28,7 @@ from saxtegun.playing import Engine
 from saxtegun.recordings import Known, Names
 from saxtegun.sessions import Entry, Sessions, guard_size, read_or_new, with_more
 from saxtegun.mending import guard_game, won
-from saxtegun.solving import Answer, Bounds, Solved, Unsolvable, add_bounds, begin_of, bounds_of, presses_told, solution_of, told
+from saxtegun.solving import SECONDS, Answer, Bounds, Solved, Unsolvable, add_bounds, begin_of, bounds_of, presses_told, solution_of, told
 from saxtegun.texts import GameText, over, read_named
 
 USAGE = "solve GAME.txt [--level N|all] [--levels N] [--within SECONDS] [--save SESSIONS.json]"
@@ -126,7 +126,8 @@ def main(given: Namespace) -> int:
         guard_places(given.save)
     guard_output(given.game)
     bounds = bounds_of(given)
-    engine = Engine(program=given.program, has_ticks=given.ticks_as_recorded)
+    # a program that hangs keeps no other level from being looked at
+    engine = Engine(program=given.program, seconds=SECONDS, has_ticks=given.ticks_as_recorded)
     guard_game(game, engine, bounds.seconds_left)
     levels = wanted_levels(game, given.level)
     found: List[Found] = []

@@ -143,6 +143,7 @@ def played(given: Namespace) -> Suite:
         if not file.sessions.entries:
             suite.remarks.append(f"{file.sessions.path} has no session, so nothing of it was played")
         first = len(suite.runs)
+        expect(it.source for it in file.entries)
         shown = runs_of(file.entries, file.sessions, engine) if file.entries else []
         ended = solved_of(file.entries, shown, file.sessions, engine)
         others = of_another_text(file.entries, game)
