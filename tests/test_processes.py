@@ -34,7 +34,7 @@ for number, (name, (source, inputs, level, *more)) in enumerate(entries):
     print(json.dumps({{"close": "passed", "frames": len(kinds), "name": name, "session": number}}, separators=(",", ":")))
 """
 # A limit in seconds within which PLAYER answers a quick session, also where other work takes nine tenths of the machine.
-ENOUGH = "5"
+ENOUGH = "10"
 # Takes half a second for each session, which differs.
 SLOW = f"""#!{sys.executable}
 import json, sys, time
