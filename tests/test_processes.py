@@ -127,8 +127,8 @@ class Time(Programs):
 
     def test_reports_have_what_is_not_answered(self):
         sessions = self.suite(["quick", "slow"])
-        words = ["--program", self.program(PLAYER), "--timeout", ENOUGH]
-        answer = run("test", sessions, *words, "--junit", self.room / "xml", "--report", self.room / "page", "--markdown", self.room / "md")
+        words = ["--program", self.program(PLAYER), "--timeout", "1"]
+        answer = run("test", sessions, *words[:2], "--timeout", ENOUGH, "--junit", self.room / "xml", "--report", self.room / "page", "--markdown", self.room / "md")
         self.assertEqual(answer.status, 2, answer.errors)
         self.assertIn(f'<testcase classname="sessions" name="slow"><error message="not answered in {ENOUGH} s" type="unanswered">', (self.room / "xml").read_text())
         self.assertIn('["slow","stopped",0]', (self.room / "page").read_text())
@@ -137,7 +137,7 @@ class Time(Programs):
         self.assertEqual(run("coverage", sessions, *words).status, 2)
         self.assertEqual(run("report", sessions, *words).status, 2)
         lines = run("lines", sessions, *words)
-        self.assertEqual((lines.status, lines.errors), (2, f"saxtegun lines: not answered in {ENOUGH} s\n"))
+        self.assertEqual((lines.status, lines.errors), (2, "saxtegun lines: not answered in 1 s\n"))
 
     def test_two_texts_over_which_nothing_is_answered_are_not_the_same(self):
         program, sessions = self.program(PLAYER), self.suite(["quick", "slow"])
