@@ -130,6 +130,16 @@ class Report(OnSessions):
         self.assertIn(" at input 1 (left); it is the group of lines 13 to 14 (loop-limit)", session["told"])
         self.assertEqual([(number, is_here) for number, _, is_here in session["source"]], [(number, number in (13, 14)) for number in range(10, 18)])
 
+    def test_a_recorded_level_that_is_larger_than_any_that_is_played_is_not_shown(self):
+        source = f"color_palette {'x' * 1000}\nOBJECTS\nBackground .\nblack\nPlayer p\nwhite\nLEGEND\nCOLLISIONLAYERS\nBackground\nPlayer\nRULES\nWINCONDITIONS\nLEVELS\np.\n"
+        frame = {"at": 0, "frame": 0, "kind": "start", "level": "background player:0,background:1,\n", "session": 0}
+        lines = self.write("lines", "".join(json.dumps(it) + "\n" for it in (frame, {"close": "differs", "frames": 1, "name": "large", "session": 0})))
+        for count, captions in ((16_384, ["played", "recorded"]), (16_385, ["played"])):
+            page = self.page(self.write("sessions.json", json.dumps([["large", [source, [], f"background:0,{'0,' * (count - 1)}"]]])), lines)
+            session = page.json("session-0")
+            self.assertEqual(([caption for caption, _ in session["sides"]], session["told"]), (captions, f"the recorded level has {count} cells, and the one that was reached 2"))
+            self.assertEqual(max(map(len, page.json("index")["notes"])), len("a game: ") + 200 + len("..") + len("."))
+
     def test_a_session_in_another_level_is_reported_as_such(self):
         lines = self.lines.read_text(encoding="utf-8").split("\n")
         entries = json.loads(EXAMPLE.read_text(encoding="utf-8"))

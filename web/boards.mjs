@@ -139,15 +139,16 @@ export class Boards {
 
   // ---- what stands in a cell
 
-  namesAt(level, column, row) {
-    if (!isDrawn(level) || column >= level.width || row >= heightOf(level)) return "no cell";
-    return cellTold(this.names[level.cells[numberAt(level, column, row)]]);
+  // The label of a cell, or null where a level has no such cell.
+  labelAt(level, column, row) {
+    const isThere = isDrawn(level) && column < level.width && row < heightOf(level);
+    return isThere ? level.cells[numberAt(level, column, row)] : null;
   }
 
   // What stands in a cell, and in the same cell of the level beside where that is something else.
   told(column, row) {
-    const [names, beside] = this.sides.map(({ level }) => this.namesAt(level, column, row));
-    return `column ${column + 1}, row ${row + 1}: ${names}${beside === undefined || beside === names ? "" : `; ${this.beside}: ${beside}`}`;
+    const [label, beside] = this.sides.map(({ level }) => this.labelAt(level, column, row)), namesTold = (it) => (it === null ? "no cell" : cellTold(this.names[it]));
+    return `column ${column + 1}, row ${row + 1}: ${namesTold(label)}${beside === undefined || beside === label ? "" : `; ${this.beside}: ${namesTold(beside)}`}`;
   }
 
   pointAt(place, event) {

@@ -1,12 +1,20 @@
 // The cells of a level in words, and those in which two levels differ as a list that is gone through one by one.
-import { at, fill, make, plural } from "./elements.mjs";
+import { at, cut, fill, make, plural } from "./elements.mjs";
 import { heightOf, isDrawn, numberAt } from "./levels.mjs";
 import { put, putText } from "./saying.mjs";
 
 const MOST_LISTED = 300;
+const MOST_OF_A_CELL = 400; // letters of what is told of one: a stranger's level may have millions of them, in each cell
 
-// What stands in a cell, by the names of its objects.
-export const cellTold = (names) => (names.join(" ") || "nothing");
+// What stands in a cell, by the names of its objects, as far as they are told.
+export function cellTold(names) {
+  let told = "";
+  for (const name of names) {
+    if (told.length > MOST_OF_A_CELL) break;
+    told = told === "" ? name : `${told} ${name}`;
+  }
+  return cut(told, MOST_OF_A_CELL) || "nothing";
+}
 
 // What stands in the rows of a level, a sentence for each: cells that are alike beside one another are counted.
 export function rowsInWords(level, namesOf) {
@@ -15,11 +23,11 @@ export function rowsInWords(level, namesOf) {
   return Array.from({ length: heightOf(level) }, (_, row) => {
     const runs = [];
     for (let column = 0; column < level.width; column += 1) {
-      const told = known.get(level.cells[numberAt(level, column, row)]), last = runs.at(-1);
-      if (last?.told === told) last.count += 1;
-      else runs.push({ told, count: 1 });
+      const label = level.cells[numberAt(level, column, row)], last = runs.at(-1);
+      if (last?.label === label) last.count += 1;
+      else runs.push({ label, count: 1 });
     }
-    return runs.map(({ told, count }) => (count > 1 ? `${count} \u00d7 ${told}` : told)).join(", ");
+    return runs.map(({ label, count }) => (count > 1 ? `${count} \u00d7 ${known.get(label)}` : known.get(label))).join(", ");
   });
 }
 

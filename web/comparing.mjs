@@ -2,9 +2,11 @@
 // and of what explanations.py says of the end.
 import { differing, isOfOneSize } from "./levels.mjs";
 import { Labels, readCells, readLevel } from "./level-text.mjs";
-import { plural } from "./elements.mjs";
+import { cut, plural } from "./elements.mjs";
 import { inputTold } from "./faults.mjs";
 import { atOnce } from "./pieces.mjs";
+
+const MOST_OF_A_CAUSE = 200; // letters that are told
 
 const commasOf = (text) => text.split("\n", 1)[0].split(",").length - 1;
 
@@ -35,7 +37,8 @@ export function* partingIn(one, other) {
 
 export const partingOf = (one, other) => atOnce(partingIn(one, other));
 
-const closeTold = ({ close, cause }) => (cause === null ? close : `${close} (${cause})`);
+// A cause that another engine wrote may have any length.
+const closeTold = ({ close, cause }) => (cause === null ? close : `${close} (${cut(cause, MOST_OF_A_CAUSE)})`);
 
 // Inputs are counted from 0, as the command counts them.
 export function afterTold(inputs, at) {

@@ -3,8 +3,13 @@
 
 export const heightOf = (level) => level.cells.length / level.width;
 
-// Whether there is a level with cells: a text that can't be read back has none.
-export const isDrawn = (level) => Boolean(level && level.cells && level.cells.length > 0);
+const MOST_CELLS = 16_384; // of a level that is played, as docs/language.md has it
+
+// Whether a level has more cells than any that is played, as one that a stranger recorded may: a browser would draw it for minutes.
+export const isTooLarge = (level) => level?.cells?.length > MOST_CELLS;
+
+// Whether there is a level with cells that is drawn: a text that can't be read back has none.
+export const isDrawn = (level) => Boolean(level && level.cells && level.cells.length > 0) && !isTooLarge(level);
 
 export const isOfOneSize = (one, other) => isDrawn(one) && isDrawn(other) && one.width === other.width && one.cells.length === other.cells.length;
 

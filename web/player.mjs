@@ -1,18 +1,25 @@
 // The player of a session: its frames, drawn beside the recorded level or beside those of another run.
 import { Boards } from "./boards.mjs";
 import { shapeOf } from "./closes.mjs";
-import { at, cut, fill, json, make, readable } from "./elements.mjs";
+import { at, cut, fill, json, make, plural, readable } from "./elements.mjs";
 import { Run, textOf } from "./frames.mjs";
 import { InputStrip } from "./input-strip.mjs";
-import { differing, isDrawn } from "./levels.mjs";
+import { differing, isDrawn, isTooLarge } from "./levels.mjs";
 import { differenceTold, frameTold } from "./telling.mjs";
 
 const PAUSE = 160;      // milliseconds between two frames at the speed 1
-const NAMED = 2000;     // letters of a name
+const NAMED = 2000;     // letters of a name,
+const QUOTED = 500;     // and of a level text that can't be read back
 const FITTING = 12;     // pixels for one of a sprite, at most, where the level is fitted into the room
 const LEAST_ROOM = 120; // pixels of height that a level has at least
 const BELOW = 64;       // pixels kept free below a level, for what stands in a cell
 const POINT = "Point at a cell, or tap it, to see what stands in it.";
+
+// Why a level isn't drawn.
+function whyNotDrawn(level) {
+  if (isTooLarge(level)) return `a level of ${plural(level.cells.length, "cell")}, more than any has that is played`;
+  return level.text === undefined ? "an empty level text" : `a level text that can't be read back: ${cut(level.text, QUOTED)}`;
+}
 
 export class Player {
   // `index` is what the page says of all sessions; `step` is called when another frame is shown.
@@ -152,8 +159,7 @@ export class Player {
 
   sideShown({ caption, run }, level) {
     const changed = at("marks").checked && this.at <= run.last ? run.changesAt(this.at) ?? [] : [];
-    const why = level.text === undefined ? "an empty level text" : `a level text that can't be read back: ${level.text}`;
-    const told = isDrawn(level) ? this.captionOf(caption, run) : readable(`${caption}: ${why}`);
+    const told = isDrawn(level) ? this.captionOf(caption, run) : readable(`${caption}: ${whyNotDrawn(level)}`);
     return { level, caption: told, told, changed };
   }
 

@@ -3,8 +3,10 @@ import { plural } from "./elements.mjs";
 import { inputTold } from "./faults.mjs";
 import { refusalTold } from "./session-file.mjs";
 import { chosenStage, coverageOf, inputsOfLine, isComplete, levelsAround, lineNow, linesNeverActed, stagesNow } from "./staging.mjs";
+import { shortened } from "./texts.mjs";
 
-const MOST_HEADINGS = 12; // that are told in words
+const MOST_HEADINGS = 12; // that are told in words,
+const MOST_RANGES = 100; // and ranges of lines: a group may have many thousand, and stand in each stage of a list
 
 // Numbers in their order, with those together that follow one another: "3, 5 to 7".
 function rangesTold(numbers) {
@@ -13,7 +15,8 @@ function rangesTold(numbers) {
     if (ranges.at(-1)?.[1] === number - 1) ranges.at(-1)[1] = number;
     else ranges.push([number, number]);
   }
-  return ranges.map(([first, last]) => (first === last ? `${first}` : `${first} to ${last}`)).join(", ");
+  const told = ranges.slice(0, MOST_RANGES).map(([first, last]) => (first === last ? `${first}` : `${first} to ${last}`)), more = ranges.length - told.length;
+  return `${told.join(", ")}${more > 0 ? ` and ${more} more` : ""}`;
 }
 
 const rulesTold = ({ stage, lines }) => `${stage === "late" ? "late rules" : "rules"} of ${lines.length === 1 ? "line" : "lines"} ${rangesTold(lines)}`;
@@ -34,7 +37,7 @@ export function stageTold(stage) {
 // What heads somewhere in a stage, in words.
 export function headingsTold({ headings = [] }) {
   if (headings.length === 0) return "";
-  const told = headings.slice(0, MOST_HEADINGS).map(([column, row, name, direction]) => `${name} at column ${column + 1}, row ${row + 1}: ${direction}`);
+  const told = headings.slice(0, MOST_HEADINGS).map(([column, row, name, direction]) => `${shortened(name)} at column ${column + 1}, row ${row + 1}: ${direction}`);
   const more = headings.length - told.length;
   return `Heads somewhere: ${told.join("; ")}${more > 0 ? `; and ${more} more` : ""}.`;
 }

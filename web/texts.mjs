@@ -12,7 +12,7 @@ export const fold = (text) => text.replace(/[A-Z]/g, (letter) => letter.toLowerC
 export const isTooLong = (text) => 3 * text.length > MOST_OF_A_SOURCE && new TextEncoder().encode(text).length > MOST_OF_A_SOURCE;
 
 export const shortened = (text) => {
-  const letters = [...text];
+  const letters = [...text.slice(0, 2 * MOST_LETTERS + 1)];
   return letters.length <= MOST_LETTERS ? text : `${letters.slice(0, MOST_LETTERS).join("")}..`;
 };
 

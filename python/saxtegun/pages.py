@@ -17,7 +17,7 @@ from saxtegun.explanations import Ending, cause_told, culprit_told, ending_told,
 from saxtegun.games import Game, game_of, unknown_game
 from saxtegun.hangs import HUNG, Found
 from saxtegun.levels import Follower, Labels, differing, width_of
-from saxtegun.levelsets import still_in
+from saxtegun.levelsets import MOST_CELLS, still_in
 from saxtegun.lines import CLOSES, KINDS, UNANSWERED, Run
 from saxtegun.sessions import Entry, Sessions
 from saxtegun.webpages import page_of, script_of, style_of
@@ -108,8 +108,9 @@ def frames_of(run: Run, labels: Labels) -> List[List[Any]]:
 
 
 def recorded_side(entry: Entry, ending: Ending) -> List[Any]:
-    """The recorded level of a session that differs, as a run of one frame; nothing where it is no level text."""
-    if ending.recorded is None:
+    """The recorded level of a session that differs, as a run of one frame; nothing where it is no level text, or has more cells than any that is played,
+    which a browser would read and draw for long."""
+    if ending.recorded is None or len(ending.recorded) > MOST_CELLS:
         return []
     width = ending.width if ending.is_comparable else width_of(entry.level, len(ending.recorded))
     return [["recorded", [[0, 0, {"width": width, "cells": packed(ending.recorded)}]]]]
@@ -210,7 +211,7 @@ class Report:
             number, game = len(self.games), look_known(source)
             self.games[source] = number
             self.blocks.append(block(f"game-{number}", look_of(game)))
-            self.notes.update(dict.fromkeys(f"{game.title}: {note}." for note in game.notes))
+            self.notes.update(dict.fromkeys(f"{game.title}: {begin_of(note)}." for note in game.notes))
         return self.games[source]
 
     def lines_of(self, source: str, cause: str) -> Union[int, List[List[Any]]]:

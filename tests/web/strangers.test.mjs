@@ -1,0 +1,67 @@
+// What strangers make long or large: names, levels, causes and groups of rules. A browser is given no more of them than it lays out and draws in a moment.
+import assert from "node:assert/strict";
+import test from "node:test";
+import { Boards } from "../../web/boards.mjs";
+import { cellTold, rowsInWords } from "../../web/cells.mjs";
+import { partingTold } from "../../web/comparing.mjs";
+import { isDrawn, isOfOneSize, isTooLarge } from "../../web/levels.mjs";
+import { notesTold } from "../../web/page-words.mjs";
+import { Player } from "../../web/player.mjs";
+import { headingsTold, stageTold } from "../../web/stage-words.mjs";
+import { shortened } from "../../web/texts.mjs";
+
+const LONG = "x".repeat(1_000_000);
+const level = (cells) => ({ width: cells.length, cells, order: "rows" });
+
+test("of the names in a cell no more are told than are read", () => {
+  assert.deepEqual([[], ["a"], ["a", "b c"], ["\u202ea"]].map(cellTold), ["nothing", "a", "a b c", "\\u{202e}a"]);
+  for (const names of [[LONG], ["a", LONG, LONG], Array.from({ length: 1_000_000 }, (_, number) => `n${number}`)]) assert.equal(cellTold(names).length, 401);
+});
+
+test("cells with long names are told apart where their beginnings are the same", () => {
+  const names = [[`${LONG}a`], [`${LONG}b`]], boards = { names, beside: "recorded", sides: [[0, 1], [0, 0]].map((cells) => ({ level: level(cells) })), labelAt: Boards.prototype.labelAt };
+  const told = (column) => Boards.prototype.told.call(boards, column, 0), cell = cellTold(names[0]);
+  assert.deepEqual([0, 1, 2].map(told), [`column 1, row 1: ${cell}`, `column 2, row 1: ${cell}; recorded: ${cell}`, "column 3, row 1: no cell"]);
+  assert.deepEqual(rowsInWords(level([0, 0, 1]), (label) => names[label]), [`2 \u00d7 ${cell}, ${cell}`]);
+});
+
+test("a level of more cells than one that is played has is not drawn, and compared with none", () => {
+  const [most, more] = [16_384, 16_385].map((count) => level(new Array(count).fill(0)));
+  assert.deepEqual([most, more, level([]), null, undefined, { text: "x" }].map((it) => [isDrawn(it), Boolean(isTooLarge(it))]), [[true, false], [false, true], ...new Array(4).fill([false, false])]);
+  assert.deepEqual([isOfOneSize(most, most), isOfOneSize(more, more)], [true, false]);
+});
+
+test("a report tells why a level isn't drawn, and no long text of it", () => {
+  globalThis.document = { getElementById: () => ({ checked: false }) };
+  const told = (it) => Player.prototype.sideShown.call({ at: 0, captionOf: () => "a caption" }, { caption: "played", run: { last: 0 } }, it).caption;
+  assert.deepEqual([level([0]), level([]), level(new Array(20_000).fill(0)), { text: `a,b:0,${LONG}` }].map(told), [
+    "a caption", "played: an empty level text", "played: a level of 20000 cells, more than any has that is played",
+    `played: a level text that can't be read back: a,b:0,${"x".repeat(494)}\u2026`,
+  ]);
+  delete globalThis.document;
+});
+
+test("of another engine's cause no more is told than is read", () => {
+  const runs = ["limit", LONG].map((cause) => ({ frames: [], close: "stopped", cause }));
+  assert.equal(partingTold({ kind: "close", frame: 0 }, ...runs, []), `the same 0 frames, and then here stopped (limit), there stopped (${"x".repeat(200)}\u2026)`);
+});
+
+test("a text is shortened letter by letter, and is read no further", () => {
+  const letter = "\u{1f468}";
+  for (const one of ["a", letter, `a${letter}`]) {
+    const letters = [...one.repeat(300)], told = (count) => shortened(letters.slice(0, count).join(""));
+    for (const count of [0, 1, 199, 200]) assert.equal(told(count), letters.slice(0, count).join(""));
+    for (const count of [201, 202, 300].filter((many) => many <= letters.length)) assert.equal(told(count), `${letters.slice(0, 200).join("")}..`);
+  }
+});
+
+test("of a group's lines and of what heads somewhere no more is told than is read", () => {
+  const lines = Array.from({ length: 60_000 }, (_, number) => 2 * number + 1), stage = { stage: "early", tick: 0, commands: [], headings: [[0, 0, LONG, "up"]] };
+  assert.match(stageTold({ ...stage, lines }), /^rules of lines 1, 3, [0-9, ]+, 199 and 59900 more$/);
+  assert.equal(stageTold({ ...stage, lines: [1, 2, 3, 5] }), "rules of lines 1 to 3, 5");
+  assert.equal(headingsTold(stage), `Heads somewhere: ${"x".repeat(200)}.. at column 1, row 1: up.`);
+});
+
+test("of what is drawn otherwise no more is told than is read", () => {
+  assert.equal(notesTold({ notes: ["a", LONG] }), `a; ${"x".repeat(200)}...`);
+});
