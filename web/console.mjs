@@ -154,8 +154,7 @@ class Search {
       HEADING.lastIndex = begin;
       this.heading = HEADING.exec(this.text)?.index ?? this.text.length;
     }
-    const feed = this.text.indexOf("\n", at);
-    return this.heading < Math.min(at + MOST_OF_A_HEAD, this.text.length) && (feed < 0 || feed >= this.heading);
+    return this.heading < Math.min(at + MOST_OF_A_HEAD, this.text.length) && !this.text.slice(at, this.heading).includes("\n");
   }
 }
 
