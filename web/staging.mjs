@@ -146,7 +146,10 @@ export function linePointedAt(state, number) {
 }
 
 // The inputs in which the line acted that is asked about.
-export const inputsOfLine = (state) => actedLines(state).flatMap((lines, input) => (lines.includes(lineNow(state)) ? [input] : []));
+export function inputsOfLine(state) {
+  const line = lineNow(state);
+  return actedLines(state).flatMap((lines, input) => (lines.includes(line) ? [input] : []));
+}
 
 // Goes to an input in which the line acted.
 export const lookedAtActed = (state, input) => withStaging(lookedAtInput(state, input), { came: null, sought: lineNow(state) });

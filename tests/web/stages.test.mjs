@@ -186,3 +186,17 @@ it("lines that follow one another are one band, those out of sight have none, an
   const style = linesAsBands([[[9, 2, 3], "grey"], [[3], "gold"]], { height: 20, top: 8, scrolled: 10, seen: 100 });
   assert.deepEqual(style, { backgroundImage: "linear-gradient(gold, gold), linear-gradient(grey, grey)", backgroundPosition: "0 38px, 0 18px", backgroundSize: "100% 20px, 100% 40px", backgroundRepeat: "no-repeat" });
 });
+
+it("where a line acted is looked up once, and not anew at each input", async () => {
+  const reads = [];
+  for (const length of [3, 30]) {
+    const bench = await staged(new Told(), Array.from({ length }, (_, number) => [2, 1, 0, 3][number % 4]));
+    await bench.act(opened, true);
+    await bench.act(linePointedAt, RULE);
+    await lookedThrough(bench);
+    const count = { texts: 0 }, state = new Proxy(bench.state, { get: (it, asked) => { count.texts += asked === "text"; return it[asked]; } });
+    assert.equal(inputsOfLine(state)[0], 3);
+    reads.push(count.texts);
+  }
+  assert.equal(reads[0], reads[1]);
+});
