@@ -5,7 +5,7 @@ import { addedTold, toAdd } from "./findings.mjs";
 import { readingRuns } from "./lines.mjs";
 import { remembering } from "./past.mjs";
 import { framesOf, isPlayed } from "./replaying.mjs";
-import { Refusal, SessionFile } from "./session-file.mjs";
+import { MOST_SESSIONS, Refusal, SessionFile } from "./session-file.mjs";
 import { isOther, runWithFrames, runsOfNow, sessionOpened } from "./suite.mjs";
 import { isTooLong } from "./texts.mjs";
 import { RECORDED_ORDER } from "./work.mjs";
@@ -68,7 +68,9 @@ export function withOtherFile(state, file) {
 export function withRecordings(state, recordings, skipped = [], titles = undefined) {
   const one = theOneText({ entries: recordings }), isUntouched = state.text.trim() === "" || state.text === state.example;
   const text = state.file === null && isUntouched ? one ?? state.text : state.text, former = state.file ?? SessionFile.empty(RECORDINGS);
-  const found = toAdd(recordings, former.entries, text, titles), file = former.withAll(found.added), saved = addedTold(found, file.name, skipped);
+  const found = toAdd(recordings, former.entries, text, titles);
+  if (former.entries.length + found.added.length > MOST_SESSIONS) throw new Refusal(`with them ${former.name} would have more than 65,536 sessions`);
+  const file = former.withAll(found.added), saved = addedTold(found, file.name, skipped);
   if (found.added.length === 0) return { ...state, tab: "sessions", told: null, saved };
   return { ...withFile(state, file, { text, isNew: true, tab: "sessions" }), saved };
 }

@@ -2,7 +2,7 @@
 import { findingsIn } from "./console.mjs";
 import { at } from "./elements.mjs";
 import { allSkippedTold, nothingTold } from "./findings.mjs";
-import { Refusal, codingOf, textOf } from "./session-file.mjs";
+import { MOST_SESSIONS, Refusal, codingOf, textOf } from "./session-file.mjs";
 
 const MOST_OF_A_FILE = 64 * 2 ** 20; // of a file that is read, as python/saxtegun/files.py has it
 
@@ -13,13 +13,13 @@ const unreadableTold = (name) => `${name} can't be read`;
 // Why a file isn't read, by its size, or null.
 const tooLongTold = (name, size) => (size > MOST_OF_A_FILE ? `${name} has more than 64 MiB, and is not read` : null);
 
-// Whether a text is a sessions file, or meant to be one.
-function isSessions(text) {
+// How many entries a text has that is a sessions file, or meant to be one; else null.
+function entriesIn(text) {
   try {
     const value = JSON.parse(text);
-    return Array.isArray(value) && (value.length === 0 || Array.isArray(value[0]));
+    return Array.isArray(value) && (value.length === 0 || Array.isArray(value[0])) ? value.length : null;
   } catch {
-    return false;
+    return null;
   }
 }
 
@@ -30,7 +30,9 @@ export function handed(name, bytes) {
   const long = tooLongTold(name, bytes.length);
   if (long !== null) throw new Refusal(long);
   const coding = codingOf(bytes), text = textOf(bytes, name, coding), isWide = coding !== "utf-8", plain = text.replace(/^\ufeff+/, "");
-  if (isSessions(isWide ? plain : text)) return { kind: "sessions", text, bytes: isWide ? new TextEncoder().encode(plain) : bytes };
+  const count = entriesIn(isWide ? plain : text);
+  if (count > MOST_SESSIONS) throw new Refusal(`${name} has more than 65,536 sessions`);
+  if (count !== null) return { kind: "sessions", text, bytes: isWide ? new TextEncoder().encode(plain) : bytes };
   const { found, skipped } = findingsIn(plain);
   if (found.length > 0) return { kind: "recordings", text, found, skipped };
   if (isLines(plain)) return { kind: "lines", text: plain };

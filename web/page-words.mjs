@@ -6,6 +6,7 @@ import { countOf } from "./closes.mjs";
 import { isFailure } from "./session-list.mjs";
 import { causeOf, framesOf, gameOf, isPlayed, shownOf, sourceOf } from "./replaying.mjs";
 import { clocksOf, countOfOthers, rowsOf, runWithFrames, runsOfNow, sessionOf } from "./suite.mjs";
+import { shortened } from "./texts.mjs";
 import { hasClock, isRefusedForClock } from "./ticks.mjs";
 
 const MOST_NOTES = 50; // that are told of a game
@@ -68,7 +69,7 @@ export function keepingTold(isKept) {
 // What is told of how a game is drawn otherwise than it draws itself.
 export function notesTold({ notes }) {
   const more = notes.length - MOST_NOTES;
-  return notes.length === 0 ? "" : `${[...notes.slice(0, MOST_NOTES), ...(more > 0 ? [`and ${plural(more, "more note")}`] : [])].join("; ")}.`;
+  return notes.length === 0 ? "" : `${[...notes.slice(0, MOST_NOTES).map(shortened), ...(more > 0 ? [`and ${plural(more, "more note")}`] : [])].join("; ")}.`;
 }
 
 // How far something is read that came, where that takes long; or null.
@@ -132,8 +133,7 @@ function comparisonTold({ comparison: { name, partings } }) {
 export function verdictOf(state, doing) {
   const runs = runsOfNow(state);
   if (doing !== null) return { text: `Playing: ${doing.done} of ${plural(doing.total, "session")}`, close: null };
-  if (state.comparison !== null) return comparisonTold(state);
-  if (runs !== null) return suiteTold(state, runs);
+  if (runs !== null) return state.comparison === null ? suiteTold(state, runs) : comparisonTold(state);
   return { text: state.suite?.why ?? "Not played yet.", close: null };
 }
 

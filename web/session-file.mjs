@@ -11,6 +11,7 @@ const BLANK = [0x20, 0x0a, 0x0d, 0x09];
 export class Refusal extends Error {}
 
 export const MOST_INPUTS = 65_536;
+export const MOST_SESSIONS = 65_536; // that come into the page: the engine plays no more, and each key would take seconds beside millions
 const MOST_BYTES = 16_777_216; // of a file that the engine plays
 
 const isInput = (value) => WORDS.includes(value) || (Number.isInteger(value) && value >= 0 && value <= 4);

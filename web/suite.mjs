@@ -137,6 +137,14 @@ export function sessionOpened(state, number) {
   return runsOfNow(next) !== null && isBroken(next.suite.runs[number]) ? { ...next, since: changeOf(next, number) } : next;
 }
 
+let lastObstacle = {}; // what stood against the end that was looked at last: a recorded level may take long to read, and each draw asks for it
+
+function obstacleOf(run, reached, recorded, order) {
+  const { of = {} } = lastObstacle, isSame = of.run === run && of.reached === reached && of.recorded === recorded && of.order === order;
+  if (!isSame) lastObstacle = { of: { run, reached, recorded, order }, why: obstacleTold(run, new Ending(reached, recorded, order)) };
+  return lastObstacle.why;
+}
+
 // What the session that is open reached beside what was recorded: { reached, recorded, why }, where both are on the screen and differ; `why` says what
 // stands against accepting it. Else null.
 export function differenceOf(state) {
@@ -144,7 +152,7 @@ export function differenceOf(state) {
   if (run === null || run.close !== "differs" || !isPlayed(state) || !isAtEnd(state) || (state.comparison?.partings[state.work.opened] ?? null) !== null) return null;
   const reached = framesOf(state).at(-1)?.level;
   if (reached === undefined) return null;
-  return { reached, recorded: entry.level, why: obstacleTold(run, new Ending(reached, entry.level, state.order)) };
+  return { reached, recorded: entry.level, why: obstacleOf(run, reached, entry.level, state.order) };
 }
 
 // The state where what is on the screen counts as seen.

@@ -4,15 +4,15 @@ import test from "node:test";
 import { readBy } from "../../web/descriptions.mjs";
 import { comparing, withComparison, withOtherFile, withRecordings } from "../../web/filing.mjs";
 import { titlesOf, toAdd } from "../../web/findings.mjs";
-import { isTyped } from "../../web/handing.mjs";
+import { handed, isTyped } from "../../web/handing.mjs";
 import { MOST_READ, framesIn, readingRuns, runsOf } from "../../web/lines.mjs";
 import { clockTold, readingTold, tabTold, verdictOf } from "../../web/page-words.mjs";
 import { readableAnswer } from "../../web/page-engine.mjs";
 import { atOnce, inPieces } from "../../web/pieces.mjs";
-import { SessionFile, refusalTold } from "../../web/session-file.mjs";
-import { rowsOf, sessionOpened } from "../../web/suite.mjs";
+import { MOST_SESSIONS, SessionFile, refusalTold } from "../../web/session-file.mjs";
+import { differenceOf, rowsOf, sessionOpened } from "../../web/suite.mjs";
 import { beginning, edited, ticked, withOwnText } from "../../web/work.mjs";
-import { Bench, GAME, module } from "./bench.mjs";
+import { Bench, GAME, comparedWithLines, module } from "./bench.mjs";
 
 const MANY = 80; // more texts than are kept as they were read
 const it = (name, act) => test(name, { skip: module === undefined && "there is no module for it" }, act);
@@ -138,4 +138,43 @@ test("an answer with a level whose text is very long is handed over as none", ()
     assert.deepEqual([frames, stages, cause, fault, isSolved, solution], [[], [], "engine:long-level", "long-level", false, null]);
   }
   assert.match(refusalTold("long-level"), /8,388,608 letters/);
+});
+
+test("no more sessions come into the page than the engine plays", () => {
+  const bytesOf = (count) => new TextEncoder().encode(JSON.stringify(new Array(count).fill(["", ["", [], ""]])));
+  assert.equal(handed("f.json", bytesOf(MOST_SESSIONS)).kind, "sessions");
+  assert.throws(() => handed("f.json", bytesOf(MOST_SESSIONS + 1)), { message: "f.json has more than 65,536 sessions" });
+  const added = (count) => Array.from({ length: count }, (_, index) => ({ name: "a", source: "", inputs: [], level: "", index })), full = withRecordings(beginning(GAME), added(MOST_SESSIONS - 1));
+  assert.equal(withRecordings(full, added(MOST_SESSIONS)).file.entries.length, MOST_SESSIONS);
+  assert.throws(() => withRecordings(full, added(MOST_SESSIONS + 1)), { message: "with them recordings.json would have more than 65,536 sessions" });
+});
+
+// A thing of which it is counted how often a part of it is looked at.
+function counting(thing, part) {
+  const count = { reads: 0 };
+  return [new Proxy(thing, { get: (it, asked) => { count.reads += asked === part; return it[asked]; } }), count];
+}
+
+it("a recorded level is read once for what stands against accepting it", async () => {
+  const bench = new Bench();
+  await bench.act(withOtherFile, fileOf([0, 1].map((input) => ({ source: "", inputs: [input], level: "background:0,", index: 0 }))));
+  await bench.act(sessionOpened, 0);
+  const { state } = bench, { reached, recorded } = differenceOf(state), counts = [];
+  assert.equal(recorded, "background:0,");
+  for (const order of [[0, 0, 0], [1, 0]]) {
+    for (const number of order) {
+      const opened = number === 0 ? state : await bench.act(sessionOpened, number), [run, counted] = counting(opened.suite.runs[number], "cause");
+      const seen = { ...opened, suite: { ...opened.suite, runs: opened.suite.runs.map((it, place) => (place === number ? run : it)) } };
+      for (let times = 0; times < 3; times += 1) assert.equal(differenceOf(seen).why, null);
+      counts.push(counted.reads);
+    }
+  }
+  assert.deepEqual([counts, typeof reached], [[1, 1, 1, 1, 1], "string"]);
+});
+
+it("sessions that were changed since they were compared count as compared no longer", async () => {
+  const bench = new Bench(), entries = [0, 1].map((input) => ({ source: GAME, inputs: [input], level: "", index: 0 }));
+  await bench.act(withOtherFile, fileOf(entries));
+  const compared = comparedWithLines(bench.state, "theirs", new TextDecoder().decode(bench.state.suite.lines)), changed = { ...compared, isHeld: true, file: fileOf(entries.slice(1)) };
+  assert.deepEqual([compared, changed].map((state) => verdictOf(state, null)), [{ text: "Compared with theirs: 2 the same, 0 diverge.", close: "passed" }, { text: "Not played yet.", close: null }]);
 });
