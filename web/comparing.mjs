@@ -1,18 +1,22 @@
 // How two runs of a session part, and how the level that a session reached differs from the recorded one. The twin of python/saxtegun/divergence.py
 // and of what explanations.py says of the end.
 import { differing, isOfOneSize } from "./levels.mjs";
-import { Labels, readCells, readLevel } from "./level-text.mjs";
+import { Labels, MOST_OF_A_LEVEL, readCells, readLevel } from "./level-text.mjs";
 import { cut, plural } from "./elements.mjs";
 import { inputTold } from "./faults.mjs";
 import { atOnce } from "./pieces.mjs";
+import { Refusal } from "./session-file.mjs";
 
 const MOST_OF_A_CAUSE = 200; // letters that are told
 
 const commasOf = (text) => text.split("\n", 1)[0].split(",").length - 1;
 
+const isLong = (text) => text.length > MOST_OF_A_LEVEL;
+
 // Whether two level texts spell the same cells.
 function isSameLevel(one, other) {
   if (one === other) return true;
+  if (isLong(one) || isLong(other)) throw new Refusal("the text of a level has more than 2,097,152 letters, and is not read where it is another one here");
   const labels = new Labels(), cells = readCells(one, labels), others = readCells(other, labels);
   return cells !== null && others !== null && cells.length === others.length && cells.every((label, at) => label === others[at]) && commasOf(one) === commasOf(other);
 }
@@ -68,7 +72,8 @@ export class Ending {
   constructor(reached, recorded, order, labels = new Labels()) {
     this.labels = labels;
     this.reached = readLevel(reached, labels, order);
-    const other = readLevel(recorded, labels, order);
+    this.isUnread = isLong(recorded);
+    const other = this.isUnread ? null : readLevel(recorded, labels, order);
     const isSameCount = other !== null && this.reached !== null && other.cells.length === this.reached.cells.length;
     // a recorded text need not have the line breaks
     this.recorded = isSameCount ? { ...other, width: this.reached.width } : other;
@@ -84,6 +89,7 @@ export class Ending {
 export function endingTold(ending) {
   const { reached, recorded, cells } = ending;
   if (reached === null) return "the level that was reached can't be read back, since a name of an object in it holds a comma";
+  if (ending.isUnread) return "the text of the recorded level has more than 2,097,152 letters, and is not read";
   if (recorded === null) return "the recorded level is no level text";
   if (cells === null) return `the recorded level has ${plural(recorded.cells.length, "cell")}, and the one that was reached ${reached.cells.length}`;
   const order = reached.order, turned = ending.isTurned ? `; the recorded level is this one listed in the other order, not by ${order}` : "";

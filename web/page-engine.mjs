@@ -3,6 +3,7 @@ import { load } from "../engine/saxtegun.mjs";
 import { readBy } from "./descriptions.mjs";
 import { at } from "./elements.mjs";
 import { KeptOpen, ONE_MORE } from "./kept-open.mjs";
+import { MOST_OF_A_LEVEL } from "./level-text.mjs";
 import { MOST_INPUTS } from "./session-file.mjs";
 import { playedText } from "./ticks.mjs";
 
@@ -12,7 +13,6 @@ const FEW = 131_072; // bytes of a sessions file that one worker plays
 const SOON = 400; // milliseconds that it may take for it
 const MOMENT = 30; // milliseconds for which inputs are looked through before it is told what came of it
 const GRACE = 100; // milliseconds that a worker has to end what isn't wanted any more
-const MOST_OF_A_LEVEL = 2 ** 23; // letters of a level's text that the page reads, for which it takes a second; levels for people have some thousand
 const IDLE = 200; // milliseconds without a question, after which a session is opened for the keys that may come; behind a key it is opened at once
 
 // The module, which stands in the page compressed.

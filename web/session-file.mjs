@@ -245,7 +245,7 @@ const REFUSALS = {
   "bad-level": "the recorded level of session {number} is no level text",
   memory: "there is not enough memory",
   broken: "the engine stopped at a fault of its own",
-  "long-level": "a level's text has more than 8,388,608 letters, which the page doesn't draw",
+  "long-level": "a level's text has more than 2,097,152 letters, which the page doesn't draw",
   "no-solutions": "the engine of this page is an older one, which solves no levels",
 };
 

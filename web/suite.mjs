@@ -3,7 +3,7 @@ import { Ending, obstacleTold, partingOf } from "./comparing.mjs";
 import { MOST_READ, framesIn, runsOf } from "./lines.mjs";
 import { isSameList } from "./past.mjs";
 import { framesOf, isAtEnd, isPlayed, sourceOf } from "./replaying.mjs";
-import { refusalTold } from "./session-file.mjs";
+import { Refusal, refusalTold } from "./session-file.mjs";
 import { isFailure } from "./session-list.mjs";
 import { Clocks, hasClock, isRefusedForClock, playedText } from "./ticks.mjs";
 import { withWork } from "./work.mjs";
@@ -81,8 +81,18 @@ function changeOf({ good, suite }, number) {
   if (former.name !== entry.name || former.index !== entry.index || !isSameList(former.inputs, entry.inputs)) return null;
   const runs = [runWithFrames(good, number), runWithFrames(suite, number)];
   if (runs.some(({ begin, end }) => end - begin > MOST_READ)) return null;
-  const parting = partingOf(...runs), [before, now] = runs.map(({ frames }) => frames.at(parting?.frame ?? 0));
+  const parting = partingKnown(...runs), [before, now] = runs.map(({ frames }) => frames.at(parting?.frame ?? 0));
   return parting === null || parting.kind === "close" ? null : { ...parting, at: (now ?? before).at };
+}
+
+// Where two runs part; null also where levels are too long to be read.
+function partingKnown(...runs) {
+  try {
+    return partingOf(...runs);
+  } catch (error) {
+    if (error instanceof Refusal) return null;
+    throw error;
+  }
 }
 
 // Whether what is worked on may make way for a session: it is nothing, or stands in the file.

@@ -131,13 +131,13 @@ test("what is pasted into a field is left to it, but for a text that is far too 
 });
 
 test("an answer with a level whose text is very long is handed over as none", () => {
-  const frame = (level) => ({ at: 0, kind: "start", level }), long = "a".repeat(2 ** 23 + 1), short = { frames: [frame(long.slice(1))], cause: null, isSolved: true };
+  const frame = (level) => ({ at: 0, kind: "start", level }), long = "a".repeat(2 ** 21 + 1), short = { frames: [frame(long.slice(1))], cause: null, isSolved: true };
   assert.equal(readableAnswer(short), short);
   for (const answer of [{ frames: [frame("a:0,"), frame(long)], cause: null, isSolved: true }, { stages: [{ stage: "end", level: long }], fault: null }]) {
     const { frames, stages, cause, fault, isSolved, solution } = readableAnswer(answer);
     assert.deepEqual([frames, stages, cause, fault, isSolved, solution], [[], [], "engine:long-level", "long-level", false, null]);
   }
-  assert.match(refusalTold("long-level"), /8,388,608 letters/);
+  assert.match(refusalTold("long-level"), /2,097,152 letters/);
 });
 
 test("no more sessions come into the page than the engine plays", () => {

@@ -3,7 +3,8 @@ import assert from "node:assert/strict";
 import test from "node:test";
 import { Boards } from "../../web/boards.mjs";
 import { cellTold, rowsInWords } from "../../web/cells.mjs";
-import { partingTold } from "../../web/comparing.mjs";
+import { Ending, endingTold, obstacleTold, partingOf, partingTold } from "../../web/comparing.mjs";
+import { MOST_OF_A_LEVEL } from "../../web/level-text.mjs";
 import { isDrawn, isOfOneSize, isTooLarge } from "../../web/levels.mjs";
 import { notesTold } from "../../web/page-words.mjs";
 import { Player } from "../../web/player.mjs";
@@ -64,4 +65,14 @@ test("of a group's lines and of what heads somewhere no more is told than is rea
 
 test("of what is drawn otherwise no more is told than is read", () => {
   assert.equal(notesTold({ notes: ["a", LONG] }), `a; ${"x".repeat(200)}...`);
+});
+
+test("a level text that is longer than one that is read is compared letter by letter alone", () => {
+  const most = `${"x".repeat(MOST_OF_A_LEVEL - 3)}:0,`, more = `x${most}`, ending = (recorded) => new Ending("a:0,", recorded, "columns");
+  assert.deepEqual([most, more].map((it) => [ending(it).recorded?.cells.length ?? null, endingTold(ending(it)), obstacleTold({ cause: null }, ending(it))]), [
+    [1, "1 of 1 cell (1 wide, 1 high) differs from the recorded level", null], [null, "the text of the recorded level has more than 2,097,152 letters, and is not read", null],
+  ]);
+  const run = (level) => ({ frames: [{ at: 0, kind: "start", level }], close: "differs", cause: null });
+  assert.deepEqual([partingOf(run(more), run(more)), partingOf(run("a:0,"), run(most))], [null, { frame: 0, kind: "level" }]);
+  for (const levels of [[more, "a:0,"], ["a:0,", more]]) assert.throws(() => partingOf(...levels.map(run)), { message: "the text of a level has more than 2,097,152 letters, and is not read where it is another one here" });
 });
