@@ -5,7 +5,9 @@ import { load, parse } from '../engine/saxtegun.mjs';
 const engine = await load();
 const { status, lines, fault } = engine.replay(readFileSync(process.argv[2]));
 if (fault) console.error(fault);
+// what would move a cursor in a terminal stands there by its number
+const readable = name => name.replace(/\p{C}/gu, letter => `\\u{${letter.codePointAt(0).toString(16)}}`);
 for (const { close, name } of parse(lines)) {
-  if (close && close !== 'passed') console.log(`${close}: ${name}`);
+  if (close && close !== 'passed') console.log(`${close}: ${readable(name)}`);
 }
 process.exitCode = status;

@@ -5,6 +5,7 @@ import os
 import shutil
 import subprocess
 import sys
+import tempfile
 import unittest
 from pathlib import Path
 
@@ -286,6 +287,12 @@ class EngineGlue(InARoom):
     def test_the_script_of_the_page_about_it(self):
         ran = subprocess.run([NODE, TOP / "examples/script.mjs", TOP / "examples/block-pushing.json"], stdout=subprocess.PIPE, check=False)
         self.assertEqual((ran.returncode, ran.stdout.decode()), (1, "differs: a recording that has gone stale\n"))
+        # a stranger's name moves no cursor
+        with tempfile.NamedTemporaryFile("w", suffix=".json") as file:
+            json.dump([["\x1b[2J\x9b\n\u202e\u00e9", ["", [], ""]]], file)
+            file.flush()
+            ran = subprocess.run([NODE, TOP / "examples/script.mjs", file.name], stdout=subprocess.PIPE, check=False)
+        self.assertEqual((ran.returncode, ran.stdout.decode()), (1, "refused: \\u{1b}[2J\\u{9b}\\u{a}\\u{202e}\u00e9\n"))
 
     def test_the_module_is_small(self):
         module = (ENGINE / "out" / "saxtegun.wasm").read_bytes()
