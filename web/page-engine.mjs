@@ -13,6 +13,8 @@ const FEW = 131_072; // bytes of a sessions file that one worker plays
 const SOON = 400; // milliseconds that it may take for it
 const MOMENT = 30; // milliseconds for which inputs are looked through before it is told what came of it
 const GRACE = 100; // milliseconds that a worker has to end what isn't wanted any more
+const MOST_FRAMES = 2 ** 19; // that the page takes at once, of 65,536 inputs eight each; with millions it would stand still for long
+const MOST_STAGES_OF_AN_INPUT = 2 ** 16; // that it takes, of 500 ticks 131 each
 const IDLE = 200; // milliseconds without a question, after which a session is opened for the keys that may come; behind a key it is opened at once
 
 // The module, which stands in the page compressed.
@@ -27,10 +29,11 @@ const refusedPlay = (fault) => ({ frames: [], cause: `engine:${fault}`, isSolved
 const noAnswer = (fault) => ({ ...refusedPlay(fault), stages: [], solution: null, fault, lines: null });
 const BROKEN = noAnswer("broken");
 
-// An answer as it is handed to the page, which reads the texts of levels on its own thread: with one that takes it long it is none.
+// An answer as it is handed to the page, which takes what it is handed, and reads the texts of levels, on its own thread: one that takes it long is none.
 export function readableAnswer(answer) {
-  const isLong = ({ level }) => level?.length > MOST_OF_A_LEVEL;
-  return [...(answer.frames ?? []), ...(answer.stages ?? [])].some(isLong) ? noAnswer("long-level") : answer;
+  const { frames = [], stages = [] } = answer, isLong = ({ level }) => level?.length > MOST_OF_A_LEVEL;
+  if (frames.length > MOST_FRAMES || stages.length > MOST_STAGES_OF_AN_INPUT) return noAnswer("memory");
+  return frames.some(isLong) || stages.some(isLong) ? noAnswer("long-level") : answer;
 }
 
 // What the engine makes of a recording: { frames, cause, isSolved }. A fault of the engine is a cause that begins with `engine:`.

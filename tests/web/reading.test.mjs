@@ -140,6 +140,15 @@ test("an answer with a level whose text is very long is handed over as none", ()
   assert.match(refusalTold("long-level"), /2,097,152 letters/);
 });
 
+test("an answer with more frames or stages than the page takes in a moment is handed over as none", () => {
+  for (const [name, most] of [["frames", 2 ** 19], ["stages", 2 ** 16]]) {
+    const answerOf = (count) => ({ [name]: new Array(count).fill({ at: 0, kind: "start", level: "a:0," }), cause: null, fault: null }), whole = answerOf(most);
+    assert.equal(readableAnswer(whole), whole);
+    const { frames, stages, cause, fault } = readableAnswer(answerOf(most + 1));
+    assert.deepEqual([frames, stages, cause, fault], [[], [], "engine:memory", "memory"]);
+  }
+});
+
 test("no more sessions come into the page than the engine plays", () => {
   const bytesOf = (count) => new TextEncoder().encode(JSON.stringify(new Array(count).fill(["", ["", [], ""]])));
   assert.equal(handed("f.json", bytesOf(MOST_SESSIONS)).kind, "sessions");
