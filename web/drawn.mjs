@@ -5,7 +5,7 @@ import { CLOSES } from "./closes.mjs";
 import { at, fill, make, plural, readable } from "./elements.mjs";
 import { levelsOf } from "./game.mjs";
 import { LevelDrawn } from "./level-drawn.mjs";
-import { clockTold, faultOfText, notesTold, othersTold, ownTold, putBackTold, readingTold, statusOf, stepTold, tabTold, verdictOf } from "./page-words.mjs";
+import { clockTold, faultOfText, nameShown, notesTold, othersTold, ownTold, putBackTold, readingTold, statusOf, stepTold, tabTold, verdictOf } from "./page-words.mjs";
 import { put, putAttribute, say, tell } from "./saying.mjs";
 import { StagesPanel } from "./stages-panel.mjs";
 import { chosenStage, stagesNow } from "./staging.mjs";
@@ -153,7 +153,7 @@ export class Drawn {
     put(at("save"), { disabled: !isSavable(state) });
     put(at("replace"), { hidden: number < 0, disabled: !isSavable(state) });
     say("save", number < 0 ? "Save" : "Add another");
-    put(at("name"), { value: state.work.name });
+    put(at("name"), { value: nameShown(state) });
     for (const button of at("pad").querySelectorAll("button")) put(button, { disabled: !isPlayable && isPlayed(state) });
     say("saved", state.saved);
   }

@@ -10,6 +10,7 @@ import { shortened } from "./texts.mjs";
 import { hasClock, isRefusedForClock } from "./ticks.mjs";
 
 const MOST_NOTES = 50; // that are told of a game
+const MOST_OF_A_NAME_SHOWN = 2000; // letters, as its field takes: a browser takes long to lay out many more
 
 const upper = (text) => `${text[0].toUpperCase()}${text.slice(1)}.`;
 
@@ -99,6 +100,9 @@ export function stepTold(state) {
   return `${where}; ${KIND_TOLD[frame.kind] ?? (frame.kind === "undo" ? undone : moved)}`;
 }
 
+// The name of what is worked on, as far as it is shown; no half of a letter is.
+export const nameShown = ({ work: { name } }) => name.slice(0, MOST_OF_A_NAME_SHOWN).replace(/\p{Surrogate}$/u, "");
+
 // ---- the sessions
 
 const failuresOf = (state) => rowsOf(state).filter(isFailure);
@@ -157,7 +161,7 @@ export function unlikenessTold(state, ending, isOfEngines) {
 function lostTold({ text, work, file }) {
   const parts = [
     text === undefined ? "" : `the text of ${gameOf(text).title}`,
-    work === undefined ? "" : work.inputs.length > 0 ? `a recording of ${plural(work.inputs.length, "input")}` : `the name ${work.name}`,
+    work === undefined ? "" : work.inputs.length > 0 ? `a recording of ${plural(work.inputs.length, "input")}` : `the name ${shortened(work.name)}`,
     file === undefined ? "" : `${file.name} with ${plural(file.entries.length, "session")}`,
   ];
   return parts.filter(Boolean).join(", ");

@@ -6,7 +6,7 @@ import { cellTold, rowsInWords } from "../../web/cells.mjs";
 import { Ending, endingTold, obstacleTold, partingOf, partingTold } from "../../web/comparing.mjs";
 import { MOST_OF_A_LEVEL } from "../../web/level-text.mjs";
 import { isDrawn, isOfOneSize, isTooLarge } from "../../web/levels.mjs";
-import { notesTold } from "../../web/page-words.mjs";
+import { nameShown, notesTold, putBackTold } from "../../web/page-words.mjs";
 import { Player } from "../../web/player.mjs";
 import { headingsTold, stageTold } from "../../web/stage-words.mjs";
 import { shortened } from "../../web/texts.mjs";
@@ -75,4 +75,10 @@ test("a level text that is longer than one that is read is compared letter by le
   const run = (level) => ({ frames: [{ at: 0, kind: "start", level }], close: "differs", cause: null });
   assert.deepEqual([partingOf(run(more), run(more)), partingOf(run("a:0,"), run(most))], [null, { frame: 0, kind: "level" }]);
   for (const levels of [[more, "a:0,"], ["a:0,", more]]) assert.throws(() => partingOf(...levels.map(run)), { message: "the text of a level has more than 2,097,152 letters, and is not read where it is another one here" });
+});
+
+test("of a long name no more is shown than its field takes, and no half of a letter", () => {
+  const letter = "\u{1f468}", shown = (name) => nameShown({ work: { name } });
+  assert.deepEqual(["", "a name", LONG, letter.repeat(1500), `a${letter.repeat(1500)}`].map(shown), ["", "a name", "x".repeat(2000), letter.repeat(1000), `a${letter.repeat(999)}`]);
+  assert.equal(putBackTold({ past: [{ work: { inputs: [], name: LONG } }] }), `Puts back the name ${"x".repeat(200)}..`);
 });
