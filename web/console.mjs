@@ -1,6 +1,7 @@
 // Recordings in any text: what an editor's console prints, with whatever stands around it, or published test data. The twin of
 // python/saxtegun/recording_search.py, which holds what is looked for; both are held to the texts of tests/forms.
 import { ROUNDS, WHITE_SPACE, behindSpace, endOfEscaped, endOfText, tokenAt, unescaped } from "./javascript.mjs";
+import { atOnce } from "./pieces.mjs";
 import { faultOf, restOf } from "./session-file.mjs";
 
 const SPACE_SET = `[${WHITE_SPACE}]*`;
@@ -15,6 +16,7 @@ const HTML_LETTER = /&(?:#([0-9]{1,7});?|#[xX]([0-9a-fA-F]{1,6});?|(quot|lt|gt|a
 const MOST_DEPTH = 8; // an entry holds a body, which holds its inputs; behind one that is cut off another may begin
 const LEAST_LETTERS = 9; // of anything that is taken or skipped by name
 const LEAST_READ = 100_000; // letters of what is quoted are read in vain at most, beside four times those of the text
+const OF_A_STEP = 64; // places where a recording may begin that are looked at in a step
 const MOST_OF_A_HEAD = 4000; // letters of a source in which its first heading is looked for, where it is cut off
 const HEADING = /objects/giu;
 
@@ -57,8 +59,10 @@ class Search {
     return this.line;
   }
 
-  run() {
-    for (let at = 0; ;) {
+  // Searches as work in pieces: so many letters of how many are searched.
+  *run() {
+    for (let at = 0, count = 0; ; count += 1) {
+      if (count % OF_A_STEP === 0) yield [at, this.text.length];
       BEGIN.lastIndex = at;
       const begin = BEGIN.exec(this.text);
       if (begin === null) return this;
@@ -66,28 +70,29 @@ class Search {
       if (list !== undefined) at = this.readList(begin.index);
       else if (this.isInner) at = begin.index + begin[0].length;
       else if (html !== undefined) {
-        this.readInner(begin.index, fromHtml(this.text.slice(begin.index)));
+        yield* this.readInner(begin.index, fromHtml(this.text.slice(begin.index)));
         return this;
-      } else at = this.readQuoted(begin.index, begin.groups.escaped !== undefined);
+      } else at = yield* this.readQuoted(begin.index, begin.groups.escaped !== undefined);
     }
   }
 
   // Searches a text that was quoted; whether something was in it.
-  readInner(at, text) {
-    const { found, skipped } = new Search(text, this.lineOf(at), true).run();
+  *readInner(at, text) {
+    const inner = new Search(text, this.lineOf(at), true), work = inner.run(), { found, skipped } = inner;
+    while (!work.next().done) yield [at, this.text.length];
     for (const it of found) this.found.push(it);
     for (const it of skipped) this.skipped.push(it);
     return found.length + skipped.length > 0;
   }
 
   // Reads what was quoted or escaped once; where the search goes on.
-  readQuoted(at, isEscaped) {
+  *readQuoted(at, isEscaped) {
     if (this.left < 0) return at + 1;
     const end = isEscaped ? endOfEscaped(this.text, at) : endOfText(this.text, at);
     this.left -= Math.abs(end) - at;
     if (end - at < LEAST_LETTERS) return at + 1;
     const text = unescaped(isEscaped ? this.text.slice(at, end) : this.text.slice(at + 1, end - 1));
-    return text !== null && this.readInner(at, text) ? end : at + 1;
+    return text !== null && (yield* this.readInner(at, text)) ? end : at + 1;
   }
 
   // Reads the list that begins at a place, as far as it goes; where the search goes on.
@@ -158,8 +163,11 @@ class Search {
   }
 }
 
-// The recordings of a text, { line, name, source, inputs, level, index }, and what was skipped in it, { line, what }: "compiler", "cut-off", or a fault.
-export function findingsIn(text) {
-  const { found, skipped } = new Search(text).run();
+// The recordings of a text, { line, name, source, inputs, level, index }, and what was skipped in it, { line, what }: "compiler", "cut-off", or a fault. They
+// are looked for as work in pieces.
+export function* searching(text) {
+  const { found, skipped } = yield* new Search(text).run();
   return { found, skipped };
 }
+
+export const findingsIn = (text) => atOnce(searching(text));

@@ -1,7 +1,8 @@
 // Files that come into the page and leave it, by the hand of whoever sits before it.
-import { findingsIn } from "./console.mjs";
+import { searching } from "./console.mjs";
 import { at } from "./elements.mjs";
 import { allSkippedTold, nothingTold } from "./findings.mjs";
+import { atOnce } from "./pieces.mjs";
 import { MOST_SESSIONS, Refusal, codingOf, textOf } from "./session-file.mjs";
 
 const MOST_OF_A_FILE = 64 * 2 ** 20; // of a file that is read, as python/saxtegun/files.py has it
@@ -26,14 +27,15 @@ function entriesIn(text) {
 const isLines = (text) => text.trimStart()[0] === "{" && !text.includes('"source"');
 
 // What bytes are taken for, { kind, text, bytes, found, skipped }: "sessions", "recordings" (found in a text), "lines", or a "game". Refused where they are none.
-export function handed(name, bytes) {
+// A long text is searched as work in pieces.
+export function* handing(name, bytes) {
   const long = tooLongTold(name, bytes.length);
   if (long !== null) throw new Refusal(long);
   const coding = codingOf(bytes), text = textOf(bytes, name, coding), isWide = coding !== "utf-8", plain = text.replace(/^\ufeff+/, "");
   const count = entriesIn(isWide ? plain : text);
   if (count > MOST_SESSIONS) throw new Refusal(`${name} has more than 65,536 sessions`);
   if (count !== null) return { kind: "sessions", text, bytes: isWide ? new TextEncoder().encode(plain) : bytes };
-  const { found, skipped } = findingsIn(plain);
+  const { found, skipped } = yield* searching(plain);
   if (found.length > 0) return { kind: "recordings", text, found, skipped };
   if (isLines(plain)) return { kind: "lines", text: plain };
   if (skipped.length > 0) throw new Refusal(`no recording is left in ${name}: ${allSkippedTold(skipped)}`);
@@ -41,6 +43,8 @@ export function handed(name, bytes) {
   if (why !== null) throw new Refusal(`${name}: ${why}`);
   return { kind: "game", text: plain };
 }
+
+export const handed = (...words) => atOnce(handing(...words));
 
 const NOT_IN_FILES = /[\\/:*?"<>|\p{Cc}\p{Cf}\p{Surrogate}]+/gu;
 const MOST_OF_A_NAME = 60; // letters

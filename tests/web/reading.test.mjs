@@ -4,12 +4,12 @@ import test from "node:test";
 import { readBy } from "../../web/descriptions.mjs";
 import { comparing, withComparison, withOtherFile, withRecordings } from "../../web/filing.mjs";
 import { titlesOf, toAdd } from "../../web/findings.mjs";
-import { handed, isTyped } from "../../web/handing.mjs";
+import { handed, handing, isTyped } from "../../web/handing.mjs";
 import { MOST_READ, framesIn, readingRuns, runsOf } from "../../web/lines.mjs";
 import { clockTold, readingTold, tabTold, verdictOf } from "../../web/page-words.mjs";
 import { readableAnswer } from "../../web/page-engine.mjs";
 import { atOnce, inPieces } from "../../web/pieces.mjs";
-import { MOST_SESSIONS, SessionFile, refusalTold } from "../../web/session-file.mjs";
+import { MOST_SESSIONS, Refusal, SessionFile, refusalTold } from "../../web/session-file.mjs";
 import { differenceOf, rowsOf, sessionOpened } from "../../web/suite.mjs";
 import { beginning, edited, ticked, withOwnText } from "../../web/work.mjs";
 import { Bench, GAME, comparedWithLines, module } from "./bench.mjs";
@@ -147,6 +147,18 @@ test("an answer with more frames or stages than the page takes in a moment is ha
     const { frames, stages, cause, fault } = readableAnswer(answerOf(most + 1));
     assert.deepEqual([frames, stages, cause, fault], [[], [], "engine:memory", "memory"]);
   }
+});
+
+test("a text in which recordings are looked for is searched in pieces, which can be stopped", async () => {
+  for (const piece of ['["a",', '"[\\"', '[&quot;']) {
+    const bytes = new TextEncoder().encode(piece.repeat(2000)), stopping = new AbortController(), told = [];
+    assert.equal(await inPieces(handing("f", bytes), stopping.signal, (...words) => { told.push(words); stopping.abort(); }), null);
+    assert.deepEqual(told, [[0, bytes.length]]);
+    const steps = [], isRead = () => { for (const step of handing("f", bytes)) steps.push(step); };
+    assert.throws(isRead, Refusal);
+    assert.ok(steps.length > 1 && steps.every(([done, all]) => done <= all && all === bytes.length), piece);
+  }
+  assert.equal((await inPieces(handing("f", new TextEncoder().encode(GAME)), signal)).kind, "game");
 });
 
 test("no more sessions come into the page than the engine plays", () => {
