@@ -7,12 +7,25 @@ import { MOST_SESSIONS, Refusal, codingOf, textOf } from "./session-file.mjs";
 
 const MOST_OF_A_FILE = 64 * 2 ** 20; // of a file that is read, as python/saxtegun/files.py has it
 
+const MOST_LISTS = 16 * MOST_SESSIONS; // of a sessions file, of which each session has three; with millions a browser would stand still for half a minute
 const MOST_TYPED = 2 ** 21; // letters that are pasted into a field: a game's text has half of them at most, and a browser takes minutes to lay out many more
 
 const unreadableTold = (name) => `${name} can't be read`;
 
 // Why a file isn't read, by its size, or null.
 const tooLongTold = (name, size) => (size > MOST_OF_A_FILE ? `${name} has more than 64 MiB, and is not read` : null);
+
+// Whether a text has more lists and objects outside of its texts than are read at once.
+function hasManyLists(text) {
+  let count = 0, isInText = false;
+  for (let at = 0; at < text.length; at += 1) {
+    const letter = text[at];
+    if (letter === "\\") at += 1;
+    else if (letter === '"') isInText = !isInText;
+    else if (!isInText && (letter === "[" || letter === "{") && (count += 1) > MOST_LISTS) return true;
+  }
+  return false;
+}
 
 // How many entries a text has that is a sessions file, or meant to be one; else null.
 function entriesIn(text) {
@@ -32,6 +45,7 @@ export function* handing(name, bytes) {
   const long = tooLongTold(name, bytes.length);
   if (long !== null) throw new Refusal(long);
   const coding = codingOf(bytes), text = textOf(bytes, name, coding), isWide = coding !== "utf-8", plain = text.replace(/^\ufeff+/, "");
+  if (/^\s*\[\s*\[/.test(plain) && hasManyLists(plain)) throw new Refusal(`${name} has more lists than 65,536 sessions have`);
   const count = entriesIn(isWide ? plain : text);
   if (count > MOST_SESSIONS) throw new Refusal(`${name} has more than 65,536 sessions`);
   if (count !== null) return { kind: "sessions", text, bytes: isWide ? new TextEncoder().encode(plain) : bytes };

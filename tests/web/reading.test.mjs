@@ -165,6 +165,9 @@ test("no more sessions come into the page than the engine plays", () => {
   const bytesOf = (count) => new TextEncoder().encode(JSON.stringify(new Array(count).fill(["", ["", [], ""]])));
   assert.equal(handed("f.json", bytesOf(MOST_SESSIONS)).kind, "sessions");
   assert.throws(() => handed("f.json", bytesOf(MOST_SESSIONS + 1)), { message: "f.json has more than 65,536 sessions" });
+  const listsOf = (count) => new TextEncoder().encode(`[["a\\"[[[[",["[[",[],""${",[]".repeat(count - 4)}]]]`);
+  assert.equal(handed("f.json", listsOf(16 * MOST_SESSIONS)).kind, "sessions");
+  assert.throws(() => handed("f.json", listsOf(16 * MOST_SESSIONS + 1)), { message: "f.json has more lists than 65,536 sessions have" });
   const added = (count) => Array.from({ length: count }, (_, index) => ({ name: "a", source: "", inputs: [], level: "", index })), full = withRecordings(beginning(GAME), added(MOST_SESSIONS - 1));
   assert.equal(withRecordings(full, added(MOST_SESSIONS)).file.entries.length, MOST_SESSIONS);
   assert.throws(() => withRecordings(full, added(MOST_SESSIONS + 1)), { message: "with them recordings.json would have more than 65,536 sessions" });
