@@ -55,6 +55,24 @@ WRONG = {
 }
 
 
+# An engine that plays a session so, behind its start.
+PLAYS = r"""
+const { serve } = require(process.argv[1]);
+const level = { width: 1, height: 1, at: () => ["background"] };
+serve((entry, frame) => { frame(0, "start", level); %s; }, process.argv.slice(2));
+"""
+# What an engine may do, of which its status must not say that sessions passed, or that some did not; and what is said of that.
+FAILING = {
+    "throw null": "null\nthe engine failed: null",
+    'throw "no such game"': "the engine failed: no such game",
+    "return new Promise(() => {})": "the engine failed: it ended without an answer",
+    "process.exit(0)": "the engine failed: it ended without an answer",
+    'setTimeout(() => { throw new Error("a timer") }); return new Promise(() => {})': "the engine failed: a timer",
+    'Promise.reject(new Error("a promise"))': "the engine failed: a promise",
+    'globalThis.first ??= frame; if (first !== frame) first(1, "move", level)': "the engine failed: a frame comes behind the close of its session",
+}
+
+
 # Tells a press of a level of two cells, a group that acts, and a stop.
 STAGES = r"""
 const { serveStages } = require(process.argv[1]);
@@ -110,6 +128,22 @@ class Adapter(OnSessions):
                 words = (case / "args").read_text(encoding="utf-8").split("\n")[:-1]
                 ran = subprocess.run([NODE, ENGINE, *words], stdin=file, cwd=room, stdout=subprocess.PIPE, stderr=subprocess.PIPE)
                 self.assertEqual((ran.stdout, ran.stderr, ran.returncode), (b"", (case / "stderr").read_bytes(), 2))
+
+    def test_an_engine_that_fails_in_any_way_has_no_answer(self):
+        """Also one that ends in the midst of it: what it has shown by then is not all, and no status says that it is."""
+        sessions = self.write("sessions.json", json.dumps([[name, ["", [], "background:0,"]] for name in "ab"]))
+        for does, told in FAILING.items():
+            with self.subTest(does):
+                ran = node("-e", PLAYS % does, ADAPTER / "program.js", sessions)
+                self.assertEqual(ran.returncode, 2, ran.stderr)
+                self.assertTrue(ran.stderr.decode().endswith(f"{told}\n"), ran.stderr)
+        self.assertEqual(node("-e", PLAYS % "return null", ADAPTER / "program.js", sessions).returncode, 0)
+
+    def test_no_more_is_read_than_a_file_may_have(self):
+        for file in (self.write("long.json", "[]".ljust(2**24 + 1)), "/dev/zero"):
+            ran = node(ENGINE, file)
+            self.assertEqual((ran.stdout, ran.stderr, ran.returncode), (b"", b"too-many\n", 2))
+        self.assertEqual(node(ENGINE, stdin=b"[]".ljust(2**24)).returncode, 0)
 
     def test_an_engine_that_throws_has_no_answer(self):
         sessions = self.write("sessions.json", json.dumps([["no source", ["", [], ""]]]))

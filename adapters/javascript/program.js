@@ -13,13 +13,15 @@
 //
 // `input` inputs are taken behind it, 0 is the start. Of a group or loop `tell` also gets block and lines; of a step that stops tick and stop.
 //
-// Where the engine throws, the status is 2. A file is tested as far as JavaScript can: it doesn't tell 1.0 from 1, and nests as deep as it will.
+// Where the engine throws, now or later, or ends without an answer, as behind a promise that nobody keeps, the status is 2. A file is tested as far as
+// JavaScript can: it doesn't tell 1.0 from 1, and nests as deep as it will.
 
 const fs = require("fs");
 const { Lines, readLevelText, stageLine } = require("./lines.js");
 
 const INPUTS = [0, 1, 2, 3, 4, "undo", "restart", "tick"];
 const MOST = 65536; // entries, and inputs of one
+const MOST_BYTES = 16777216;
 
 class Refusal extends Error {}
 
@@ -47,10 +49,22 @@ function readWords(words) {
   return given;
 }
 
+// The bytes of a file, or of the standard input, as far as a byte more than there may be: what is read may have no end.
+function readBytes(file) {
+  const from = file === null ? 0 : fs.openSync(file, "r");
+  const bytes = Buffer.alloc(MOST_BYTES + 1);
+  let count = 0;
+  for (let more = 1; more > 0; count += more) more = fs.readSync(from, bytes, count, bytes.length - count, null);
+  return bytes.subarray(0, count);
+}
+
 function readInput(file) {
   try {
-    return new TextDecoder("utf-8", { fatal: true, ignoreBOM: true }).decode(fs.readFileSync(file === null ? 0 : file));
+    const bytes = readBytes(file);
+    if (bytes.length > MOST_BYTES) throw new Refusal("too-many");
+    return new TextDecoder("utf-8", { fatal: true, ignoreBOM: true }).decode(bytes);
   } catch (why) {
+    if (why instanceof Refusal) throw why;
     throw new Refusal(why instanceof TypeError ? "not-json" : why.code === "EISDIR" || file === null ? "read-fault" : "open-fault");
   }
 }
@@ -82,15 +96,33 @@ function readEntries(text) {
   });
 }
 
-// Does what sets the exit status; where that throws, it says why, and the status is 2.
+// Does what sets the exit status; where something throws, or nothing is left to do before there is an answer, it says why, and the status is 2.
 async function answer(act) {
-  process.stdout.on("error", () => process.exit(2));
+  let isOver = false;
+  const fail = (why) => {
+    isOver = true;
+    process.exitCode = 2;
+    // an engine may throw what is no error
+    const { stack = String(why), message = String(why) } = Object(why);
+    if (!(why instanceof Refusal)) process.stderr.write(`${stack}\nthe engine failed: `);
+    process.stderr.write(`${message}\n`);
+  };
+  process.stdout.on("error", () => {
+    isOver = true;
+    process.exit(2);
+  });
+  process.on("uncaughtException", (why) => {
+    fail(why);
+    process.exit(2);
+  });
+  process.on("exit", () => {
+    if (!isOver) fail(new Refusal("the engine failed: it ended without an answer"));
+  });
   try {
     process.exitCode = await act();
+    isOver = true;
   } catch (why) {
-    if (!(why instanceof Refusal)) process.stderr.write(`${why.stack}\nthe engine failed: `);
-    process.stderr.write(`${why.message}\n`);
-    process.exitCode = 2;
+    fail(why);
   }
 }
 
@@ -101,7 +133,12 @@ function serve(play, words = process.argv.slice(2)) {
     const lines = new Lines((text) => process.stdout.write(text), order);
     for (const entry of readEntries(readInput(file))) {
       lines.start(entry.name, entry.level);
-      const close = await play(entry, (at, kind, level) => lines.frame(at, kind, level));
+      let isOpen = true;
+      const close = await play(entry, (at, kind, level) => {
+        if (!isOpen) throw new Error("a frame comes behind the close of its session");
+        lines.frame(at, kind, level);
+      });
+      isOpen = false;
       lines.close(...(close || []));
     }
     return lines.allPassed ? 0 : 1;
