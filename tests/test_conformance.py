@@ -1,5 +1,7 @@
 """conformance/run: how it tells a case that differs, that hangs or that fails, with programs that answer wrong; and what the suite says of itself."""
+import os
 import re
+import signal
 import subprocess
 import sys
 import unittest
@@ -9,6 +11,7 @@ from time import monotonic, sleep
 from xml.etree import ElementTree
 
 from test_logs import is_command
+from test_processes import hear_signals
 from tool import CASES, TOP, InARoom
 
 RUN = TOP / "conformance/run"
@@ -110,6 +113,35 @@ class Runner(InARoom):
         while state.exists() and ") Z " not in state.read_text() and monotonic() < until:
             sleep(0.05)
         self.assertFalse(state.exists() and ") Z " not in state.read_text())
+
+    def test_who_ends_it_ends_what_plays(self):
+        """Engines that would never end: several cases at once, of which more would follow, and two programs on a file."""
+        program = self.program(f"echo $$ >>'{self.room}/numbers'; exec sleep 1000")
+        numbers, folder = self.room / "numbers", self.room / "tmp"
+        folder.mkdir()
+        for number in (signal.SIGTERM, signal.SIGHUP, signal.SIGINT):
+            for words, count in (("--limit", "1000", "--jobs", "2", program), 2), (("--both", program, program, CASES / UNDO / "input.json"), 1):
+                numbers.write_text("")
+                environment = {**os.environ, "TMPDIR": str(folder)}
+                with self.subTest(number=number, words=words[0]):
+                    ran = subprocess.Popen([sys.executable, RUN, *map(str, words)], env=environment, stdout=subprocess.PIPE, stderr=subprocess.PIPE, preexec_fn=hear_signals)
+                    self.wait_for(lambda: len(numbers.read_text().split()) == count)
+                    ran.send_signal(number)
+                    try:
+                        _, errors = ran.communicate(timeout=60)
+                    finally:
+                        ran.kill()
+                    self.assertEqual((ran.returncode, errors), (2 if number == signal.SIGINT else -number, b""))
+                    self.assertEqual([*folder.iterdir()], [])
+                    for left in map(int, numbers.read_text().split()):
+                        with self.assertRaises(ProcessLookupError):
+                            os.kill(left, 0)
+
+    def wait_for(self, is_so):
+        until = monotonic() + 60
+        while not is_so():
+            self.assertLess(monotonic(), until, "it did not come")
+            sleep(0.05)
 
     def test_a_junit_file_has_each_case(self):
         self.ran("--junit", self.room / "x.xml", "--only", UNDO, "--only", "movement-*", self.answers(UNDO, str))
