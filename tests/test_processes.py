@@ -333,7 +333,7 @@ class Done(unittest.TestCase):
             away = Path(name)
             (away / "below").mkdir()
             known = subprocess.run([sys.executable, "-c", "import sys; print(*sys.modules)"], stdout=subprocess.PIPE, check=True).stdout.decode().split()
-            for module in {"argparse", "gc", "json", "select", "signal", "subprocess", "tempfile", "traceback"} - {*known}:
+            for module in {"argparse", "fnmatch", "gc", "json", "select", "signal", "subprocess", "tempfile", "traceback", "xml"} - {*known}:
                 for folder in (away, away / "below"):
                     (folder / f"{module}.py").write_text("raise SystemExit('a stranger was run')\n")
             for path in (":/none", "/none:", ".", "below", "./below:/none", f"/none:{os.pardir}/{away.name}", ""):
@@ -343,6 +343,8 @@ class Done(unittest.TestCase):
                     self.assertEqual((ran.returncode, ran.stderr), (0, b""))
                     ran = subprocess.run([sys.executable, "-B", str(TOP / "dev/release"), "--none"], cwd=away, env=env, stdin=subprocess.DEVNULL, capture_output=True)
                     self.assertEqual((ran.returncode, b"a stranger" in ran.stderr), (2, False), ran.stderr)
+                    ran = subprocess.run([sys.executable, "-B", str(TOP / "conformance/run"), "--version"], cwd=away, env=env, stdin=subprocess.DEVNULL, capture_output=True)
+                    self.assertEqual((ran.returncode, ran.stderr), (0, b""))
             # where it is called among Python's own modules these stay there
             ran = subprocess.run([sys.executable, "-B", str(TOP / "saxtegun"), "lines", "--help"], cwd=os.path.dirname(os.__file__), env={**os.environ, "PYTHONPATH": ":/none"}, capture_output=True)
             self.assertEqual((ran.returncode, ran.stderr), (0, b""))
