@@ -271,18 +271,37 @@ class InACi(unittest.TestCase):
         (runner.work / "closes.expected").touch()
         status, out, errors = runner.run({"run": commands})
         self.assertEqual(status, 1)
-        self.assertIn('["a recording that has gone stale","differs",null]\n', (runner.work / "closes").read_text())
-        shutil.copy(runner.work / "closes", runner.work / "closes.expected")
+        closes = self.taken(runner.temp, "closes")
+        self.assertIn(b'["a recording that has gone stale","differs",null]\n', closes)
+        (runner.work / "closes.expected").write_bytes(closes)
         self.assertEqual(runner.run({"run": commands}), (0, "", ""))
+        self.taken(runner.temp, "closes")
         # names that would be commands, or move a cursor: of what changes, and of what stands beside it
         names = ["::error file=README.md,line=1::forged", "x ##[error]forged", "\x1b]0;owned\x07\x9b2J", "##vso[task.complete]"]
         entries = json.loads((runner.work / "sessions.json").read_text(encoding="utf-8"))
         named = [[name, entry[1]] for name, entry in zip([*names, "last"], entries)]
         (runner.work / "sessions.json").write_text(json.dumps(named), encoding="utf-8")
         status, out, errors = runner.run({"run": commands})
-        self.assertEqual((status, out), (1, "closes.expected closes differ: byte 3, line 1\n"))
-        closes = (runner.work / "closes").read_bytes()
-        self.assertEqual((errors, closes.decode("ascii").replace("\n", "").isprintable(), closes.count(b"\n")), ("", True, 5))
+        self.assertRegex(out, r"^closes\.expected \S+/closes differ: byte 3, line 1\n\Z")
+        closes = self.taken(runner.temp, "closes")
+        self.assertEqual((status, errors, closes.decode("ascii").replace("\n", "").isprintable(), closes.count(b"\n")), (1, "", True, 5))
+        # a checkout whose links would make what is written what is expected, or the other way round
+        for link, target in (("closes", "closes.expected"), ("closes.expected", "closes"), ("lines", "sessions.json")):
+            runner = self.runner()
+            self.act(runner, sessions="", sha256=self.sum)
+            (runner.work / "closes.expected").write_text("[]\n")
+            (runner.work / link).unlink(missing_ok=True)
+            (runner.work / link).symlink_to(target)
+            with self.subTest(link):
+                self.assertNotEqual(runner.run({"run": commands})[0], 0)
+                self.assertEqual((runner.work / "sessions.json").read_bytes(), EXAMPLE.read_bytes())
+
+    def taken(self, folder, name):
+        """The bytes of the one file of this name in a folder of a folder, which is taken away."""
+        [file] = folder.glob(f"*/{name}")
+        content = file.read_bytes()
+        shutil.rmtree(file.parent)
+        return content
 
     def test_the_commands_that_play_parts_give_the_bytes_of_one_run(self):
         runner = self.runner()
@@ -291,6 +310,21 @@ class InACi(unittest.TestCase):
         # typed by hand, where no shell ends at a status
         self.assertEqual(runner.run({"run": f"set +e +o pipefail\n{commands}"}), (0, "1\n", ""))
         self.assertEqual((runner.work / "lines").read_text(encoding="utf-8"), lines_of_example(EXAMPLE.read_text(encoding="utf-8")))
+
+    def test_the_commands_that_play_parts_write_through_no_link_of_a_checkout(self):
+        for commands in (it for it in commands_of_page() if "join" in it and "parallel" not in it):
+            runner = self.runner()
+            self.act(runner, sessions="", sha256=self.sum)
+            for name in ("game.txt", "recordings.json"):
+                shutil.copy(TOP / "examples/day" / name, runner.work)
+            (runner.room / "kept").mkdir()
+            for name in ("lines", "report.html", "times", "parts"):
+                (runner.room / "kept/file").write_text("kept")
+                (runner.work / name).symlink_to(runner.room / "kept" / ("file" if name != "parts" else ""))
+            with self.subTest(commands):
+                runner.run({"run": f"set +e +o pipefail\n{commands}"})
+                self.assertEqual([(it.name, it.read_text()) for it in (runner.room / "kept").iterdir()], [("file", "kept")])
+                self.assertTrue((runner.work / "lines").stat().st_size)
 
     def test_the_commands_for_a_suite_over_one_game_give_its_lines_and_report(self):
         runner = self.runner()
