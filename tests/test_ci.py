@@ -424,12 +424,15 @@ class InACi(unittest.TestCase):
         put(top / SOLVER, STAND_IN.solver)
         put(top / MODULE, STAND_IN.module)
         put(top / "out/gate-passed", f"commit {git(top, 'rev-parse', 'HEAD')}\n{sum_of(STAND_IN.program)}  {PROGRAM}\n{sum_of(STAND_IN.describer)}  {DESCRIBER}\n{sum_of(STAND_IN.solver)}  {SOLVER}\n{sum_of(STAND_IN.module)}  {MODULE}\n".encode())
+        # what an earlier release left on the machine
+        put(top / "release/saxtegun-0.0.1-linux-x86_64.tar.gz", b"old")
         put(runner.room / "bin/gh", b'#!/bin/sh\necho "$GH_TOKEN" "$@"\n')
         runner.env["PATH"] = f"{runner.room}/bin:{runner.env['PATH']}"
         made, published = [runner.run(step) for step in file["jobs"]["release"]["steps"] if "run" in step]
         self.assertEqual((made[0], published[0]), (0, 0), made)
         self.assertIn(f"saxtegun_{self.version}_amd64.deb", made[1])
         self.assertTrue(published[1].startswith(f"token release create v{self.version} saxtegun/release/NOTICES saxtegun/release/SHA256SUMS saxtegun/release/saxtegun-"), published)
+        self.assertNotIn("0.0.1", published[1])
 
 
 if __name__ == "__main__":
