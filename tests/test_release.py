@@ -446,6 +446,17 @@ class Release(unittest.TestCase):
         with self.assertRaisesRegex(Broken, "as ./check does"):
             differences(self.one, forged, STAND_IN)
 
+    def test_what_says_that_a_gate_passed_and_not_how_is_not_ours(self):
+        """Also where no gate has passed here, so that what is made here without one is the same byte by byte."""
+        ungated = STAND_IN._replace(ends=())
+        made = release_of(self.one, self.version, ungated)
+        for content in (made.archive(), made.package()):
+            file = Path(self.kept.name) / "ungated"
+            file.write_bytes(content)
+            for built in (ungated, STAND_IN):
+                with self.assertRaisesRegex(Broken, "as ./check does"):
+                    differences(self.one, file, built)
+
     def gate(self):
         """A clone in which the gate has passed, and what it built."""
         top = clone(Path(tempfile.mkdtemp(dir=self.kept.name)) / "gate", self.one)
