@@ -165,6 +165,17 @@ class Suite(InARoom):
         self.assert_refused(self.split(2, text), "there are more than 131,072 sessions, and a part has at most 65,536: ask for more parts")
         self.assert_refused(self.split(3, text), "is no JSON list")
 
+    def test_what_was_split_is_joined_however_long_its_names_are(self):
+        """parts.txt has six letters for each of these, and so more than any other text that is read."""
+        names = [str(it) + "\u00e4" * 2_000_000 for it in range(6)]
+        self.assertEqual(self.split(2, json.dumps([[it, ["", [], ""]] for it in names], ensure_ascii=False)).status, 0)
+        self.assertGreater((self.parts / "parts.txt").stat().st_size, 2**26)
+        closes = [{"cause": "NoSource:0", "close": "refused", "frames": 0, "name": it, "session": number} for number, it in enumerate(names)]
+        whole = "".join(json.dumps(it, ensure_ascii=False, separators=(",", ":")) + "\n" for it in closes)
+        self.play(whole)
+        joined = run("join", self.parts)
+        self.assertEqual((joined.errors, joined.status, joined.out == whole), ("", 1, True))
+
     def test_a_folder_that_is_there_is_left_alone(self):
         self.parts.mkdir()
         self.assert_refused(self.split(2, "[1, 2]"), "is there already")

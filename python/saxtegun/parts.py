@@ -10,6 +10,8 @@ from saxtegun.files import read_text
 
 # No *.json, which are the parts.
 MANIFEST = "parts.txt"
+# So many bytes it has at most. It holds the names of all sessions, so it may be about as long as what was split.
+MOST_BYTES = 2**30
 
 
 class Part(NamedTuple):
@@ -81,7 +83,7 @@ def read_manifest(folder: str) -> Manifest:
         raise Refused(f"{folder} is no folder")
     if not os.path.exists(path):
         raise Refused(f"{folder} has no parts: {MANIFEST}, which saxtegun split writes, is not there")
-    *lines, last = read_text(path).splitlines() or [""]
+    *lines, last = read_text(path, MOST_BYTES).splitlines() or [""]
     count, demands = number_in(last, "sessions"), number_in(last, "solved")
     if count is None or demands is None:
         # nobody can tell whether an older one is whole

@@ -24,6 +24,7 @@ from typing import Any, List, Sequence, Tuple
 from saxtegun.commands import Refused
 from saxtegun.files import read_text
 from saxtegun.parts import MANIFEST, Part, manifest_of, name_in
+from saxtegun.parts import MOST_BYTES as MOST_OF_MANIFEST
 from saxtegun.sessions import DEMAND, MOST_BYTES, MOST_ENTRIES, after_space
 from saxtegun.texts import say_demands
 
@@ -132,8 +133,11 @@ def write_parts(count: int, entries: Entries, folder: str) -> None:
             with open(os.path.join(room, part.file("json")), "wb") as file:
                 file.write(data_of(entries, first, behind))
             parts.append(part)
+        listed = manifest_of(parts, entries.demands)
+        if len(listed) > MOST_OF_MANIFEST:
+            raise Refused(f"the names of the sessions are too long to be listed in {MANIFEST}, which join reads")
         with open(os.path.join(room, MANIFEST), "w", encoding="ascii", newline="\n") as manifest:
-            manifest.write(manifest_of(parts, entries.demands))
+            manifest.write(listed)
         os.rename(room, folder)
     finally:
         shutil.rmtree(room, ignore_errors=True)
