@@ -237,6 +237,16 @@ class Asked(InARoom):
         self.assertLess(len(counts), 20)
         self.assertLess(sum(counts), 500)
 
+    def test_the_longest_source_that_is_played_is_kept_beside_others(self):
+        """A game of a MiB by turns with small ones, as in a file where its recordings have the empty text: each turn would ask for it anew."""
+        longest = "title x".ljust(2**20)
+        wanted = [it for number in range(300) for it in (longest, f"title {number}")]
+        with asked_for() as counts:
+            expect(wanted)
+            for it in wanted:
+                description_of(it)
+        self.assertEqual(counts, [301])
+
     def sessions_of(self, count, lines=""):
         """A file of sessions of as many games."""
         path = self.room / "sessions.json"

@@ -22,10 +22,10 @@ SECTIONS = ("prelude", "objects", "legend", "sounds", "collisionlayers", "rules"
 # So many seconds the engine has for sources outside of explaining, and so many bytes it may tell at once: far more than of any source.
 SECONDS = 60.0
 MOST_TOLD = 2**28
-# So many letters of sources are kept with what was told of them, beside the last one.
-MOST_KEPT = 2**20
+# So many letters of sources are kept with what was told of them: of the longest that is played, and as many of others, which may come by turns with it.
+MOST_KEPT = 2**21
 # So many sources, and letters of them, are asked for at once.
-MOST_AT_ONCE, MOST_LETTERS_AT_ONCE = 1000, 2**20
+MOST_AT_ONCE, MOST_LETTERS_AT_ONCE = 1000, 2**21
 CANT_ASK = "the engine can't be asked what it reads of a source: "
 NONE_TOLD = "what it wrote is no description"
 JSON = json.JSONDecoder()

@@ -7,7 +7,7 @@ from typing import Dict, Iterator, List, NamedTuple, Optional, Sequence
 
 from saxtegun.commands import cut, plural
 from saxtegun.descriptions import expected
-from saxtegun.levelsets import entries_of_levels
+from saxtegun.levelsets import places_of_levels
 from saxtegun.lines import UNANSWERED
 from saxtegun.playing import Engine, Late, runs_played
 from saxtegun.sessions import Entry, Sessions
@@ -86,7 +86,7 @@ def listed(indices: Sequence[int]) -> str:
 
 def places_of(entry: Entry) -> Places:
     """The places of the levels of a source, messages left out, but for the one that an entry names."""
-    places = [place for place, it in enumerate(entries_of_levels(entry.source)) if it.rows]
+    places = places_of_levels(entry.source)
     # an index that names a message begins with the level behind it
     own = next((it for it in places if it >= entry.index), None)
     others = [it for it in places if it != own]
