@@ -156,7 +156,7 @@ class Programs(InAFreshClone):
         shutil.copy(TOP / "replay", self.top)
         self.put(self.top / "crates/pz_replayer/out/pz_replayer", '#!/bin/sh\necho built "$@"\n')
         strange = self.room / "stranger"
-        for name in ("bash", "dirname", "find"):
+        for name in ("bash", "dirname", "find", "sed"):
             self.put(strange / name, f'#!/bin/sh\ntouch {self.room}/ran\nPATH=/usr/bin:/bin\nexec {name} "$@"\n')
         self.put(strange / "setup", f"touch {self.room}/ran\n")
         for path in (".:/usr/bin:/bin", ":/usr/bin:/bin", "../stranger:/usr/bin:/bin", ".", ""):
@@ -167,6 +167,8 @@ class Programs(InAFreshClone):
                     self.assertFalse((self.room / "ran").exists())
                 ran = subprocess.run([self.top / "replay", self.empty], cwd=strange, env={"PATH": path, "BASH_ENV": "./setup", "CDPATH": "."}, stdout=subprocess.PIPE, stderr=subprocess.PIPE)
                 self.assertEqual((ran.returncode, ran.stdout.decode()), (0, f"built {self.empty}\n"), ran.stderr)
+                ran = subprocess.run([self.top / "replay", "--help"], cwd=strange, env={"PATH": path}, stdout=subprocess.PIPE, stderr=subprocess.PIPE)
+                self.assertIn(b"Plays a sessions file:", ran.stdout, ran.stderr)
                 self.assertFalse((self.room / "ran").exists())
 
     def test_what_replay_builds_by_takes_no_module_of_a_folder(self):
