@@ -209,6 +209,15 @@ class Asked(InARoom):
             self.assertEqual(description_of("title y").prelude[0].value, "x", "the stand-in tells each the same")
             self.assertEqual(called.call_count, 2)
 
+    def test_what_was_told_before_it_was_too_much_is_known(self):
+        """Small games may tell so much together, of which each alone tells far less."""
+        line, sources = description_line("title x"), [f"title {it}" for it in range(10)]
+        self.stand_in(f"[print({line!r}) for it in sys.argv[1:]]")
+        expect(sources)
+        with mock.patch.object(descriptions, "MOST_TOLD", 4 * len(line) - 1), mock.patch.object(descriptions, "watched", side_effect=descriptions.watched) as called:
+            self.assertEqual([description_of(it).prelude[0].value for it in sources], ["x"] * 10)
+        self.assertEqual(called.call_count, 4)
+
     def test_only_so_many_letters_are_asked_for_at_once(self):
         sources = [f"title {it}" + "\n" * 100 for it in range(10)]
         expect(sources)

@@ -21,9 +21,11 @@ from saxtegun.programs import describer_words
 SECTIONS = ("prelude", "objects", "legend", "sounds", "collisionlayers", "rules", "winconditions", "levels")
 # So many seconds the engine has for sources outside of explaining, and so many bytes it may tell at once: far more than of any source.
 SECONDS = 60.0
-MOST_TOLD = 2**28
-# So many letters of sources are kept with what was told of them: of the longest that is played, and as many of others, which may come by turns with it.
+MOST_TOLD = 2**27
+# So many letters of sources are kept with what was told of them: of the longest that is played, and as many of others, which may come by turns with it. A source
+# of which more than so many times its letters are told counts as if it had more, since that is what takes memory.
 MOST_KEPT = 2**21
+MOST_OF_A_LETTER = 32
 # So many sources, and letters of them, are asked for at once.
 MOST_AT_ONCE, MOST_LETTERS_AT_ONCE = 1000, 2**21
 CANT_ASK = "the engine can't be asked what it reads of a source: "
@@ -308,10 +310,16 @@ def why_it_ended(words: Sequence[str], told: "IO[bytes]", folder: str) -> str:
     return "" if ran.status == 0 else cut(ran.said) or f"it ended with status {ran.status}"
 
 
+def why_cut(told: "IO[bytes]") -> str:
+    """Cuts off what is more than may be told at once; why not all is read then, or nothing."""
+    if os.fstat(told.fileno()).st_size <= MOST_TOLD:
+        return ""
+    told.truncate(MOST_TOLD)
+    return f"it told more than {MOST_TOLD // 2**20} MiB"
+
+
 def lines_told(told: "IO[bytes]") -> List[str]:
     """The lines that are whole."""
-    if os.fstat(told.fileno()).st_size > MOST_TOLD:
-        raise Undescribed(f"it told more than {MOST_TOLD // 2**20} MiB")
     told.seek(0)
     try:
         return [it[:-1].decode("utf-8") for it in told if it.endswith(b"\n")]
@@ -320,13 +328,14 @@ def lines_told(told: "IO[bytes]") -> List[str]:
 
 
 def asked(sources: Sequence[str], words: Sequence[str]) -> List[str]:
-    """The lines by which one process tells sources: all of them, or as many as it told before it ended. Refused where that is none."""
+    """The lines by which one process tells sources: all of them, or as many as it told before it ended, or before it had told too much. Refused where that is none."""
     names = [str(number) for number in range(len(sources))]
     try:
         with tempfile.TemporaryFile() as told, room_for_now() as room:
             for name, source in zip(names, sources):
                 (Path(room) / name).write_bytes(bytes_of(source))
             why = why_it_ended([*words, *names], told, room)
+            why = why_cut(told) or why
             lines = lines_told(told)
     except OSError as error:
         raise Undescribed(error.strerror) from None
@@ -372,6 +381,8 @@ class Descriptions:
 
     def __init__(self) -> None:
         self.known: Dict[str, Description] = {}
+        # as how many letters each counts, and all of them
+        self.sizes: Dict[str, int] = {}
         self.letters = 0
         self.has_forgotten = False
         # lines that are not read yet
@@ -381,6 +392,7 @@ class Descriptions:
     def cache_clear(self) -> None:
         """Forgets all, as what remembers what it told does."""
         self.known.clear()
+        self.sizes.clear()
         self.told.clear()
         self.letters, self.has_forgotten = 0, False
 
@@ -393,7 +405,7 @@ class Descriptions:
         if source not in self.known:
             if source not in self.told:
                 self.ask(source)
-            self.keep(source, read(self.told.pop(source)))
+            self.take(source, self.told.pop(source))
         return self.known[source]
 
     def with_next(self, source: str) -> List[str]:
@@ -417,15 +429,16 @@ class Descriptions:
             self.told.clear()
         self.told.update(zip(them, asked(them, how_to_ask())))
 
-    def keep(self, source: str, told: Description) -> None:
-        """Keeps what was told of a source, and forgets the oldest of those that are too many."""
-        self.known[source] = told
-        self.letters += len(source)
+    def take(self, source: str, told: str) -> None:
+        """Reads and keeps what was told of a source, and forgets the oldest of those that are too many."""
+        self.known[source] = read(told)
+        self.sizes[source] = max(len(source), len(told) // MOST_OF_A_LETTER)
+        self.letters += self.sizes[source]
         while self.letters > MOST_KEPT:
             oldest = next(iter(self.known))
             if oldest == source:
                 break
-            self.letters -= len(oldest)
+            self.letters -= self.sizes.pop(oldest)
             del self.known[oldest]
             self.has_forgotten = True
 
