@@ -10,6 +10,7 @@ import signal
 import subprocess
 import tempfile
 import time
+from contextlib import suppress
 from typing import IO, Iterator, Mapping, Sequence, Tuple
 
 # A process counts the memory of the one that started it as its own, and this one is larger than many a program. So a small shell starts the
@@ -34,22 +35,23 @@ class Run:
 
 
 def watched(command: Sequence[str], output: str) -> Tuple[float, int, resource.struct_rusage]:
-    """Runs a command with its output into a file: the wall time, the status, and what the system says of it."""
+    """Runs a command with its output into a file: the wall time, the status, and what the system says of it. It ends with this, and with it all that it has
+    started, and left behind."""
     if shutil.which(command[0]) is None:
         raise FileNotFoundError(f"there is no program {command[0]!r}")
-    with subprocess.Popen(["sh", "-c", START, output, *command], stdin=subprocess.PIPE, stdout=subprocess.PIPE) as shell:
+    with subprocess.Popen(["sh", "-c", START, output, *command], stdin=subprocess.PIPE, stdout=subprocess.PIPE, start_new_session=True) as shell:
         assert shell.stdin is not None and shell.stdout is not None
-        program = int(shell.stdout.readline())
         try:
+            program = int(shell.stdout.readline())
             shell.wait()
             start = time.monotonic()
             shell.stdin.write(b"\n")
             shell.stdin.close()
             _, status, usage = os.wait4(program, 0)
             return time.monotonic() - start, status, usage
-        except KeyboardInterrupt:
-            os.kill(program, signal.SIGKILL)  # the shell let it ignore the interrupt
-            raise
+        finally:
+            with suppress(ProcessLookupError):
+                os.killpg(shell.pid, signal.SIGKILL)
 
 
 def digest_of(file: IO[bytes]) -> str:

@@ -1,9 +1,14 @@
 """bench/compare: on small programs of the shell, that answer the same, or not, or not at all."""
 import os
 import re
+import signal
+import subprocess
 import sys
 import unittest
+from pathlib import Path
+from time import monotonic, sleep
 
+from test_processes import hear_signals
 from tool import TOP, InARoom, run
 
 COPIES = 'cat "$1"\n'
@@ -14,6 +19,14 @@ while time.process_time() < 0.5:
     pass
 sys.stdout.write(open(sys.argv[1]).read())
 """
+
+
+def state_of(number):
+    """The letter for what a process does; X where there is none."""
+    try:
+        return Path(f"/proc/{number}/stat").read_text().rpartition(")")[2].split()[0]
+    except OSError:
+        return "X"
 
 
 class Compare(InARoom):
@@ -49,6 +62,26 @@ class Compare(InARoom):
         self.assertEqual(answer.status, 2)
         self.assertIn(what, answer.errors)
         self.assertNotIn("Traceback", answer.errors)
+
+    def test_who_ends_it_ends_what_plays(self):
+        program = self.program("waits", f'sleep 1000 & echo $! $$ >"{self.room}/numbers"; exec sleep 1000\n')
+        numbers = self.room / "numbers"
+        for number in (signal.SIGTERM, signal.SIGHUP, signal.SIGINT):
+            numbers.write_text("")
+            with self.subTest(number=number):
+                ran = subprocess.Popen([TOP / "bench" / "compare", program, program, self.file], stdout=subprocess.DEVNULL, stderr=subprocess.PIPE, preexec_fn=hear_signals)
+                self.wait_for(numbers.read_text)
+                ran.send_signal(number)
+                self.assertEqual(ran.communicate(timeout=60)[1], b"")
+                self.assertEqual(ran.returncode, 2 if number == signal.SIGINT else -number)
+                for it in map(int, numbers.read_text().split()):
+                    self.wait_for(lambda: state_of(it) in "ZX")
+
+    def wait_for(self, is_so):
+        until = monotonic() + 60
+        while not is_so():
+            self.assertLess(monotonic(), until, "it did not come")
+            sleep(0.05)
 
     def test_equal_answers_and_what_each_took(self):
         works, copies = self.program("works", WORKS, sys.executable), self.program("copies", COPIES)
