@@ -14,7 +14,7 @@ from test_logs import is_command
 from test_processes import hear_signals
 from tool import CASES, TOP, InARoom
 
-RUN = TOP / "conformance/run"
+RUN, HOSTILE = TOP / "conformance/run", TOP / "conformance/hostile"
 UNDO = "undo-with-nothing-past-then-undo-of-a-move"
 
 
@@ -107,12 +107,7 @@ class Runner(InARoom):
         program = self.answers(UNDO, str)
         program.write_text(f"{program.read_text()}\nsleep 1000 >&- 2>&- & echo $! >'{self.room}/left'\n")
         self.assertEqual(self.ran("--only", UNDO, program)[0], 0)
-        number = int((self.room / "left").read_text())
-        state = Path(f"/proc/{number}/stat")
-        until = monotonic() + 10
-        while state.exists() and ") Z " not in state.read_text() and monotonic() < until:
-            sleep(0.05)
-        self.assertFalse(state.exists() and ") Z " not in state.read_text())
+        self.wait_for_the_end_of(int((self.room / "left").read_text()))
 
     def test_who_ends_it_ends_what_plays(self):
         """Engines that would never end: several cases at once, of which more would follow, and two programs on a file."""
@@ -136,6 +131,36 @@ class Runner(InARoom):
                     for left in map(int, numbers.read_text().split()):
                         with self.assertRaises(ProcessLookupError):
                             os.kill(left, 0)
+
+    def test_what_plays_hostile_files_stops_what_writes_without_an_end(self):
+        for script in ("exec yes", "exec yes >&2", "trap '' XFSZ; exec yes"):
+            with self.subTest(script):
+                ran = subprocess.run([sys.executable, HOSTILE, "--quick", self.program(script), "nothing-as-file"], stdout=subprocess.PIPE, stderr=subprocess.PIPE, timeout=120)
+                self.assertEqual((ran.returncode, ran.stderr), (1, b""))
+                self.assertRegex(ran.stdout.decode(), "^nothing-as-file .* differs: .*\n0 passed, 1 failed\n$")
+
+    def test_who_ends_what_plays_hostile_files_ends_what_plays(self):
+        program = self.program(f"sleep 1000 & echo $! $$ >'{self.room}/numbers'; exec sleep 1000")
+        numbers, folder = self.room / "numbers", self.room / "tmp"
+        folder.mkdir()
+        for number in (signal.SIGTERM, signal.SIGHUP, signal.SIGINT):
+            numbers.write_text("")
+            with self.subTest(number=number):
+                ran = subprocess.Popen([sys.executable, HOSTILE, "--quick", program, "nothing-as-file"], env={**os.environ, "TMPDIR": str(folder)}, stdout=subprocess.PIPE, stderr=subprocess.PIPE, preexec_fn=hear_signals)
+                self.wait_for(lambda: numbers.read_text().split())
+                ran.send_signal(number)
+                try:
+                    self.assertEqual(ran.communicate(timeout=60), (b"", b""))
+                finally:
+                    ran.kill()
+                self.assertEqual((ran.returncode, [*folder.iterdir()]), (128 + number, []))
+                for left in map(int, numbers.read_text().split()):
+                    self.wait_for_the_end_of(left)
+
+    def wait_for_the_end_of(self, number):
+        """Of a process that is nobody's child here, so that it may stand in the list for long."""
+        state = Path(f"/proc/{number}/stat")
+        self.wait_for(lambda: not state.exists() or ") Z " in state.read_text())
 
     def wait_for(self, is_so):
         until = monotonic() + 60
