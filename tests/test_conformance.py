@@ -5,9 +5,12 @@ import signal
 import subprocess
 import sys
 import unittest
+from concurrent.futures import ThreadPoolExecutor
 from fnmatch import fnmatchcase
 from pathlib import Path
 from time import monotonic, sleep
+from types import ModuleType
+from unittest import mock
 from xml.etree import ElementTree
 
 from test_logs import is_command
@@ -16,6 +19,15 @@ from tool import CASES, TOP, InARoom
 
 RUN, HOSTILE = TOP / "conformance/run", TOP / "conformance/hostile"
 UNDO = "undo-with-nothing-past-then-undo-of-a-move"
+
+
+def loaded(path):
+    """A tool as a module."""
+    module = ModuleType(path.name)
+    module.__file__ = str(path)
+    with mock.patch.object(sys, "path", [*sys.path]), mock.patch.dict(sys.modules, {path.name: module}):
+        exec(compile(path.read_text(encoding="utf-8"), str(path), "exec"), module.__dict__)
+    return module
 
 
 class Runner(InARoom):
@@ -131,6 +143,22 @@ class Runner(InARoom):
                     for left in map(int, numbers.read_text().split()):
                         with self.assertRaises(ProcessLookupError):
                             os.kill(left, 0)
+
+    def test_who_ends_it_while_it_begins_ends_what_plays(self):
+        """Cases are played already while others are still handed out."""
+        run = loaded(RUN)
+        left = iter(range(3))
+
+        class Hurried(ThreadPoolExecutor):
+            def submit(self, *words):
+                if next(left, None) is None:
+                    raise KeyboardInterrupt
+                return super().submit(*words)
+
+        begin = monotonic()
+        with mock.patch.object(run, "ThreadPoolExecutor", Hurried), self.assertRaises(KeyboardInterrupt):
+            run.run(run.Words([], 2, 30, None, [str(self.program("exec sleep 1000"))]))
+        self.assertLess(monotonic() - begin, 25)
 
     def test_what_plays_hostile_files_stops_what_writes_without_an_end(self):
         for script in ("exec yes", "exec yes >&2", "trap '' XFSZ; exec yes"):
