@@ -343,8 +343,11 @@ class Done(unittest.TestCase):
                     self.assertEqual((ran.returncode, ran.stderr), (0, b""))
                     ran = subprocess.run([sys.executable, "-B", str(TOP / "dev/release"), "--none"], cwd=away, env=env, stdin=subprocess.DEVNULL, capture_output=True)
                     self.assertEqual((ran.returncode, b"a stranger" in ran.stderr), (2, False), ran.stderr)
-                    ran = subprocess.run([sys.executable, "-B", str(TOP / "conformance/run"), "--version"], cwd=away, env=env, stdin=subprocess.DEVNULL, capture_output=True)
-                    self.assertEqual((ran.returncode, ran.stderr), (0, b""))
+                    for tool, word in ("conformance/run", "--version"), ("conformance/hostile", "--help"), ("bench/compare", "--help"):
+                        ran = subprocess.run([sys.executable, "-B", str(TOP / tool), word], cwd=away, env=env, stdin=subprocess.DEVNULL, capture_output=True)
+                        self.assertEqual((ran.returncode, ran.stderr), (0, b""))
+                    ran = subprocess.run([sys.executable, "-B", str(TOP / "conformance/faults")], cwd=away, env={**env, "PATH": "/none"}, stdin=subprocess.DEVNULL, capture_output=True)
+                    self.assertIn(b"'cc'", ran.stderr)
             # where it is called among Python's own modules these stay there
             ran = subprocess.run([sys.executable, "-B", str(TOP / "saxtegun"), "lines", "--help"], cwd=os.path.dirname(os.__file__), env={**os.environ, "PYTHONPATH": ":/none"}, capture_output=True)
             self.assertEqual((ran.returncode, ran.stderr), (0, b""))
