@@ -34,7 +34,7 @@ GATE_ENDED = "The gate, ./check, passed on that commit; so its parts ended:"
 ENDED = re.compile(r"(rt ci|cases by the module|cases by the program): [1-9][0-9]{0,8} passed, 0 failed")
 PARTS = ["rt ci", "cases by the module", "cases by the program"]
 # The engine for Node and for pages, beside its module.
-GLUE = ["engine/saxtegun.mjs", "engine/saxtegun.d.ts", "engine/replay.mjs", "engine/stages.mjs", "engine/describe.mjs", "engine/solve.mjs", "engine/streams.mjs"]
+GLUE = ["engine/saxtegun.mjs", "engine/saxtegun.d.ts", "engine/replay.mjs", "engine/stages.mjs", "engine/describe.mjs", "engine/solve.mjs", "engine/open.mjs", "engine/streams.mjs"]
 # What stands in a release as it stands here: the command with its package, the examples, and the documents for users.
 TAKEN = ["saxtegun", "VERSION", "README.md", "CHANGELOG.md", "CONTRIBUTING.md", "SECURITY.md", NOTICES, "python", "web", "examples", "docs", "adapters", "HANDLES", *GLUE]
 
@@ -216,7 +216,7 @@ def engine_files(top: Path, files: Dict[str, File], version: str) -> Dict[str, F
         "type": "module",
         "exports": {".": {"types": "./saxtegun.d.ts", "default": "./saxtegun.mjs"}, "./out/saxtegun.wasm": "./out/saxtegun.wasm"},
         "types": "./saxtegun.d.ts",
-        "bin": {"saxtegun-replay": "replay.mjs", "saxtegun-stages": "stages.mjs", "saxtegun-describe": "describe.mjs", "saxtegun-solve": "solve.mjs"},
+        "bin": {"saxtegun-replay": "replay.mjs", "saxtegun-stages": "stages.mjs", "saxtegun-describe": "describe.mjs", "saxtegun-solve": "solve.mjs", "saxtegun-open": "open.mjs"},
         "engines": {"node": ">=20"},
     }
     packed = {path.partition("/")[2]: files[path] for path in [*GLUE, MODULE]}

@@ -569,6 +569,7 @@ export function numbered(lines, first) {
 }
 
 function joined(pieces, size = pieces.reduce((sum, piece) => sum + piece.length, 0)) {
+  if (pieces.length === 1 && pieces[0].length === size) return pieces[0];
   const whole = new Uint8Array(size);
   let at = 0;
   for (const piece of pieces) {

@@ -245,7 +245,7 @@ class Twins(unittest.TestCase):
             self.assertEqual(there, it, case)
 
     def test_the_logic_of_the_page(self):
-        for name in ("logic", "state", "shown", "drawing", "stages", "solving", "reading", "random", "keeping", "behind", "strangers"):
+        for name in ("logic", "state", "shown", "drawing", "stages", "solving", "reading", "random", "keeping", "behind", "strangers", "frames-of-lines"):
             with self.subTest(name):
                 ran = subprocess.run([NODE, "--test", "--test-reporter=tap", OWN / f"{name}.test.mjs"], stdout=subprocess.PIPE, stderr=subprocess.STDOUT, check=False)
                 self.assertEqual(ran.returncode, 0, ran.stdout.decode(errors="replace"))

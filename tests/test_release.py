@@ -198,7 +198,7 @@ class Release(unittest.TestCase):
     def test_the_package_for_node_has_what_npm_wants(self):
         with tarfile.open(self.release / f"saxtegun-engine-{self.version}.tgz") as tar:
             content = {info.name: tar.extractfile(info).read() for info in tar}
-        wanted = ["NOTICES", "describe.mjs", "out/saxtegun.wasm", "package.json", "replay.mjs", "saxtegun.d.ts", "saxtegun.mjs", "solve.mjs", "stages.mjs", "streams.mjs"]
+        wanted = ["NOTICES", "describe.mjs", "open.mjs", "out/saxtegun.wasm", "package.json", "replay.mjs", "saxtegun.d.ts", "saxtegun.mjs", "solve.mjs", "stages.mjs", "streams.mjs"]
         self.assertEqual(sorted(content), [f"package/{it}" for it in wanted])
         said = json.loads(content["package/package.json"])
         self.assertEqual((said["name"], said["version"]), ("saxtegun-engine", self.version))

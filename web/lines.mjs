@@ -2,7 +2,7 @@
 import { CLOSES } from "./closes.mjs";
 import { Refusal } from "./session-file.mjs";
 
-const KINDS = ["start", "move", "undo", "restart", "load", "tick", "over"];
+export const KINDS = ["start", "move", "undo", "restart", "load", "tick", "over"];
 const BEFORE_OVER = ["move", "tick", "over"]; // of what kinds the frame is before one that shows that play is over
 export const MOST_READ = 2 ** 24; // bytes of lines that are read without giving the thread back: those of one frame, or of a run
 const NEW_LINE = 0x0a;
@@ -11,7 +11,7 @@ const CLOSE_LETTER = 0x63; // a close begins with its cause or itself, and a fra
 const isCount = (value) => Number.isInteger(value) && value >= 0;
 
 // The lines of bytes as spans.
-function* spansOf(bytes) {
+export function* spansOf(bytes) {
   for (let begin = 0; begin < bytes.length;) {
     const at = bytes.indexOf(NEW_LINE, begin), end = at < 0 ? bytes.length : at;
     yield [begin, end];

@@ -2,6 +2,7 @@
 import { load } from "../engine/saxtegun.mjs";
 import { readBy } from "./descriptions.mjs";
 import { at } from "./elements.mjs";
+import { framesTold, handedOver, isLevelLonger, takenOver } from "./frames-of-lines.mjs";
 import { KeptOpen, ONE_MORE } from "./kept-open.mjs";
 import { MOST_OF_A_LEVEL } from "./level-text.mjs";
 import { MOST_INPUTS } from "./session-file.mjs";
@@ -31,15 +32,16 @@ const BROKEN = noAnswer("broken");
 
 // An answer as it is handed to the page, which takes what it is handed, and reads the texts of levels, on its own thread: one that takes it long is none.
 export function readableAnswer(answer) {
-  const { frames = [], stages = [] } = answer, isLong = ({ level }) => level?.length > MOST_OF_A_LEVEL;
+  const { frames = [], stages = [] } = answer, isLong = (shown) => isLevelLonger(shown, MOST_OF_A_LEVEL);
   if (frames.length > MOST_FRAMES || stages.length > MOST_STAGES_OF_AN_INPUT) return noAnswer("memory");
   return frames.some(isLong) || stages.some(isLong) ? noAnswer("long-level") : answer;
 }
 
 // What the engine makes of a recording: { frames, cause, isSolved }. A fault of the engine is a cause that begins with `engine:`.
 export function playedBy(engine, { source, index, order, inputs, from, isTicked }) {
-  const isFull = inputs.length >= MOST_INPUTS;
-  const { frames, close, fault } = engine.frames({ source: playedText(source, isTicked), index, inputs: isFull ? inputs : [...inputs, ONE_MORE] }, { order, from });
+  const played = inputs.length >= MOST_INPUTS ? inputs : [...inputs, ONE_MORE], text = playedText(source, isTicked);
+  const whole = () => framesTold(engine.replay(JSON.stringify([["", [text, played, "", index]]]), { order }));
+  const { frames, close, fault } = from === 0 ? whole() : engine.frames({ source: text, index, inputs: played }, { order, from });
   if (fault !== null) return refusedPlay(fault);
   return { frames: frames.filter((frame) => frame.at <= inputs.length), cause: close.cause ?? null, isSolved: frames.at(-1)?.kind === "over" };
 }
@@ -109,7 +111,7 @@ class PlayerThread {
       let timer = 0;
       this.worker.onmessage = ({ data }) => {
         clearTimeout(timer);
-        settle(data);
+        settle(takenOver(data));
       };
       this.worker.onerror = (event) => {
         event.preventDefault();
@@ -124,8 +126,9 @@ class PlayerThread {
 
 // Hands an answer to the page, or that there is none where it is larger than may be handed over.
 function hand(answer) {
+  const { answer: handed, parts } = handedOver(answer);
   try {
-    globalThis.postMessage(answer);
+    globalThis.postMessage(handed, parts);
   } catch {
     globalThis.postMessage(BROKEN);
   }

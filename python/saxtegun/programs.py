@@ -26,7 +26,7 @@ STAGES = (TOP / "crates/pz_stager/out/pz_stager", TOP / "bin/pz_stager")
 DESCRIBER, SOLVER = "pz_describer", "pz_solver"
 DESCRIBERS, SOLVERS = ((TOP / "crates" / it / "out" / it, TOP / "bin" / it) for it in (DESCRIBER, SOLVER))
 REPLAY_IN_NODE, STAGES_IN_NODE, DESCRIBE_IN_NODE = TOP / "engine/replay.mjs", TOP / "engine/stages.mjs", TOP / "engine/describe.mjs"
-SOLVE_IN_NODE = TOP / "engine/solve.mjs"
+SOLVE_IN_NODE, OPEN_IN_NODE = TOP / "engine/solve.mjs", TOP / "engine/open.mjs"
 OLDEST_NODE = 20
 HOW_TO_GET_ONE = (
     "install Node 20 or later (nodejs.org), name the program of a release by SAXTEGUN_PROGRAM, or prove and build it with the Rattle kit by ./replay"
@@ -131,7 +131,7 @@ def in_node() -> Player:
 
 def is_in_node(words: Sequence[str]) -> bool:
     """Whether our own functions play in Node where a program is called so."""
-    return list(words[1:2]) in tuple([str(it)] for it in (REPLAY_IN_NODE, STAGES_IN_NODE, DESCRIBE_IN_NODE, SOLVE_IN_NODE))
+    return list(words[1:2]) in tuple([str(it)] for it in (REPLAY_IN_NODE, STAGES_IN_NODE, DESCRIBE_IN_NODE, SOLVE_IN_NODE, OPEN_IN_NODE))
 
 
 def environment_of(words: Sequence[str]) -> Optional[Dict[str, str]]:

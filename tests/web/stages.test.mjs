@@ -150,7 +150,8 @@ it("looking through inputs is stopped, told, and goes on when it is asked for ag
 it("of a stopped game the input is looked at as well at which it stopped", async () => {
   const loop = GAME.replace("[ > Player | Crate ] -> [ > Player | > Crate ]", "startloop\n[ > Player | Crate ] -> [ > Player | Crate ] again\n[ > Player | Crate ] -> [ left Player | Crate ]\n[ left Player | Crate ] -> [ > Player | Crate ]\nendloop");
   const engine = { stages: (_, number) => ({ stages: [{ input: number, stop: "loop-limit", tick: 0 }], fault: null }) }, bench = await staged(engine, [], loop);
-  bench.runner.update((state) => ({ ...state, work: { ...state.work, inputs: [2, 1, 0] }, played: { ...state.played, inputs: [2, 1, 0], frames: [0, 1, 2].map((at) => ({ ...state.played.frames[0], at })), cause: "loop-limit" } }));
+  const { kind, level } = framesOf(bench.state)[0];
+  bench.runner.update((state) => ({ ...state, work: { ...state.work, inputs: [2, 1, 0] }, played: { ...state.played, inputs: [2, 1, 0], frames: [0, 1, 2].map((at) => ({ at, kind, level })), cause: "loop-limit" } }));
   await bench.act(opened, true);
   assert.deepEqual([stagesTold(bench.state), stagesNow(bench.state).stages.map(stageTold)], ["Stages of input 1 (left) and input 2 (up):", ["stopped: loop-limit", "stopped: loop-limit"]]);
   await bench.act(stageChosen, 1);

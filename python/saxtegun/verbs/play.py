@@ -23,7 +23,8 @@ import signal
 import sys
 import tempfile
 from argparse import ArgumentParser, Namespace
-from typing import Any, List, NoReturn, Optional
+from contextlib import contextmanager
+from typing import Any, Iterator, List, NoReturn, Optional
 
 from saxtegun.commands import Refused, add_ticks, plural, printable, say
 from saxtegun.explanations import cause_told, told
@@ -32,7 +33,8 @@ from saxtegun.games import game_of
 from saxtegun.keyboard import DRAW, keyboard, pass_over
 from saxtegun.levels import Labels, in_rows, read_cells, width_of
 from saxtegun.levelsets import count_of_levels, entries_of_levels
-from saxtegun.lines import Frame
+from saxtegun.lines import Frame, Run
+from saxtegun.open_sessions import Closed, OpenSession, opened
 from saxtegun.playing import Engine, runs_of, shown_beyond
 from saxtegun.sessions import Entry, Input, Sessions, check_name, guard_size, read_or_new, with_more
 from saxtegun.terminal import CLEAR, KEYS, Screen, fitted, lettered, screen_now
@@ -99,6 +101,7 @@ class Play:
         self.engine = Engine(program=given.program, has_ticks=given.ticks_as_recorded)
         self.inputs: List[Input] = []
         self.frames: List[Frame] = []
+        self.session: Optional[OpenSession] = None
         run = runs_of([self.entry()], Sessions(given.game, "", []), self.engine)[0]
         if run.cause is not None:
             sentence, below = told(run, self.entry(), game=given.game)
@@ -113,14 +116,32 @@ class Play:
         switch = game_of(self.source).switches.get(key)
         if switch is not None:
             return f"the game has {switch}: the key is left out"
-        longer = self.entry()._replace(inputs=[*self.inputs, key])
-        run = shown_beyond(longer, len(self.frames), self.engine._replace(workers=1))
+        run = self.shown_with(key)
         if run.cause:
             return f"{cause_told(run.cause)}: the key is left out"
         self.inputs.append(key)
         self.frames += run.frames
         kinds = [it.kind for it in run.frames]
         return "solved: all levels" if "over" in kinds else "the next level" if "load" in kinds else ""
+
+    def shown_with(self, key: Input) -> Run:
+        """What one more input shows: in the session that is open, which is left as it was where the key is left out, or by all inputs."""
+        try:
+            if self.session is not None:
+                run = self.session.give(key)
+                if run.cause:
+                    self.session.back(len(self.inputs))
+                return run
+        except Closed:
+            self.session = None
+        longer = self.entry()._replace(inputs=[*self.inputs, key])
+        return shown_beyond(longer, len(self.frames), self.engine._replace(workers=1))
+
+    @contextmanager
+    def kept_open(self) -> Iterator[None]:
+        """Keeps its session open as long as this lasts, where the engine does."""
+        with opened(self.entry(), self.engine) as self.session:
+            yield
 
     def draw(self, word: str) -> None:
         """Draws the level that is reached, and what there is to say of the last key."""
@@ -192,7 +213,8 @@ def main(given: Namespace) -> int:
     on_signals(interrupt)
     try:
         try:
-            press_keys(play)
+            with play.kept_open():
+                press_keys(play)
         finally:
             on_signals(pass_over)
     except KeyboardInterrupt:

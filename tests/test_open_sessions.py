@@ -1,0 +1,139 @@
+"""A session that is kept open in Node while it is played: what it shows, and what is done where it is lost."""
+import json
+import os
+import signal
+import sys
+import time
+import unittest
+from argparse import Namespace
+from random import Random
+from unittest import mock
+
+from tool import TOP, InARoom  # which puts the package on the path
+from saxtegun import open_sessions, programs
+from saxtegun.commands import Refused
+from saxtegun.open_sessions import Closed, OpenSession, opened
+from saxtegun.playing import Engine, shown_beyond
+from saxtegun.sessions import Entry
+from saxtegun.verbs.play import Play
+
+DAY = (TOP / "examples/day/game.txt").read_text(encoding="utf-8")
+# A game in which a press to the left never comes to rest.
+ENDLESS = DAY.replace("[ > Player | Crate ] -> [ > Player | > Crate ]", "[ > Player | Crate ] -> [ > Player | > Crate ]\n[ left Player ] -> [ left Player ] again\nlate [ Player | ] -> [ | Player ]")
+KEYS = (0, 1, 2, 3, 4, "undo", "restart", "tick")
+
+
+def in_node() -> str:
+    try:
+        return programs.in_node().words[0]
+    except Refused:
+        return ""
+
+
+NODE = in_node()
+
+
+@unittest.skipUnless(NODE, "no Node, or no module is released")
+class OpenSessions(InARoom):
+    """Each plays by the released module, whatever is built here."""
+
+    def setUp(self):
+        super().setUp()
+        words = mock.patch.object(programs, "CHOSEN", [[NODE, str(programs.REPLAY_IN_NODE)]])
+        words.start()
+        self.addCleanup(words.stop)
+        unnamed = mock.patch.dict(os.environ)
+        unnamed.start()
+        self.addCleanup(unnamed.stop)
+        os.environ.pop("SAXTEGUN_PROGRAM", None)
+
+    def entry(self, source=DAY, inputs=(), index=0):
+        return Entry(0, "play", source, list(inputs), "", index, {}, False)
+
+    def play(self, source=DAY):
+        path = self.room / "game.txt"
+        path.write_text(source, encoding="utf-8")
+        return Play(Namespace(game=str(path), level=1, program=None, ticks_as_recorded=False, letters=True))
+
+    def test_each_key_shows_what_playing_all_shows(self):
+        random = Random(78)
+        for index in (0, 1):
+            inputs, known = [], 1
+            with opened(self.entry(index=index), Engine()) as session:
+                for _ in range(10):
+                    inputs.append(random.choice(KEYS))
+                    shown = shown_beyond(self.entry(inputs=inputs, index=index), known, Engine())
+                    self.assertEqual(session.give(inputs[-1]), shown)
+                    known += len(shown.frames)
+                back = shown_beyond(self.entry(inputs=inputs[:7], index=index), 0, Engine())
+                self.assertEqual(session.back(7), back._replace(frames=[it for it in back.frames if it.at == 7]))
+
+    def test_a_key_costs_a_press(self):
+        keys = [0, 1, 2, 3] * 250
+        with opened(self.entry(), Engine()) as session:
+            session.ask(keys)
+            begin = time.monotonic()
+            for key in keys[:100]:
+                session.give(key)
+        # some ten times what it takes on a busy machine: to begin Node and play all would take longer for each
+        self.assertLess(time.monotonic() - begin, 100 * 0.02)
+
+    def test_a_key_that_is_left_out_leaves_the_session_as_it_was(self):
+        source = DAY.replace("RULES\n", "RULES\n[ left Player ] -> [ Player ] again\n", 1)
+        play = self.play(source)
+        with play.kept_open():
+            for key in (3, 1, 0, "undo", 2, 1):
+                play.press(key)
+            open_inputs, open_frames = list(play.inputs), list(play.frames)
+        whole = self.play(source)
+        for key in (3, 1, 0, "undo", 2, 1):
+            whole.press(key)
+        self.assertEqual((open_inputs, open_frames), (whole.inputs, whole.frames))
+
+    def test_where_node_is_lost_all_is_played_whole(self):
+        play = self.play()
+        with mock.patch.object(open_sessions, "started", side_effect=open_sessions.started) as started, play.kept_open():
+            self.assertEqual(started.call_count, 1)
+            play.press(3)
+            play.session.asked.close()
+            play.press(1)
+            self.assertIsNone(play.session)
+            play.press("undo")
+        self.assertEqual(play.inputs, [3, 1, "undo"])
+        self.assertEqual(play.frames, self.shown(play.inputs))
+
+    def shown(self, inputs):
+        return shown_beyond(self.entry(inputs=inputs), 0, Engine()).frames
+
+    def test_what_is_no_answer_closes_it(self):
+        for written in (b"", b"no line", b"no JSON\n", b"{}\n", b'{"at":0}\n', b'{"fault":"memory"}\n'):
+            answered = self.room / "answered"
+            answered.write_bytes(written)
+            with self.subTest(written), answered.open("rb") as lines, (self.room / "asked").open("wb") as asked, self.assertRaises(Refused):
+                OpenSession("play", asked, lines).give(3)
+
+    def test_nothing_is_open_where_another_program_plays_or_the_game_is_refused(self):
+        with opened(self.entry(), Engine(program=sys.executable)) as session:
+            self.assertIsNone(session)
+        for entry in (self.entry("no game"), self.entry(index=7)):
+            with opened(entry, Engine()) as session:
+                self.assertIsNone(session)
+
+    def test_a_line_that_asks_nothing_ends_the_program(self):
+        for asked in (b"{}", b"[9]", b"-1", b"[", b'["up"]', b"1" * 1_048_577):
+            with self.subTest(asked[:9]), opened(self.entry(), Engine()) as session:
+                session.asked.write(asked + b"\n")
+                session.asked.flush()
+                with self.assertRaises(Closed):
+                    session.answer()
+
+    def test_too_few_inputs_leave_it_as_it_was(self):
+        with opened(self.entry(), Engine()) as session:
+            session.give(3)
+            with self.assertRaisesRegex(Closed, "too-few-inputs"):
+                session.back(2)
+            self.assertEqual(session.give(1).frames, self.shown([3, 1])[-1:])
+
+
+if __name__ == "__main__":
+    unittest.main()
