@@ -161,6 +161,19 @@ test("a text in which recordings are looked for is searched in pieces, which can
   assert.equal((await inPieces(handing("f", new TextEncoder().encode(GAME)), signal)).kind, "game");
 });
 
+test("JSON that begins otherwise than sessions do is not read as such, whatever it has many of", (t) => {
+  const read = [], parse = JSON.parse;
+  t.mock.method(JSON, "parse", (text, ...words) => {
+    read.push(text);
+    return parse(text, ...words);
+  });
+  const others = ['[0,[],{}]', ' \n[ {"a":[]}]', '["",[]]', '{"a":[[],[]]}'], sessions = ["[]", " [ ]", '\n[ ["a",["",[],""]]]'];
+  for (const text of others.slice(0, 3)) assert.throws(() => handed("f", new TextEncoder().encode(text)), Refusal);
+  assert.equal(handed("f", new TextEncoder().encode(others[3])).kind, "lines");
+  for (const text of sessions) assert.equal(handed("f", new TextEncoder().encode(text)).kind, "sessions");
+  assert.deepEqual([...others, ...sessions].filter((text) => read.includes(text)), sessions);
+});
+
 test("no more sessions come into the page than the engine plays", () => {
   const bytesOf = (count) => new TextEncoder().encode(JSON.stringify(new Array(count).fill(["", ["", [], ""]])));
   assert.equal(handed("f.json", bytesOf(MOST_SESSIONS)).kind, "sessions");
