@@ -149,6 +149,16 @@ test("an answer with more frames or stages than the page takes in a moment is ha
   }
 });
 
+test("an answer whose levels take more room than the page has for them is handed over as none", () => {
+  for (const [letter, most] of [["a", 128], ["\u20ac", 64]]) {
+    const level = letter.repeat(2 ** 21), answerOf = (count) => ({ frames: new Array(count - 1).fill({ at: 0, kind: "start", level }), stages: [{ stage: "end", level }], cause: null, fault: null });
+    const whole = answerOf(most);
+    assert.equal(readableAnswer(whole), whole);
+    const { frames, stages, cause, fault } = readableAnswer(answerOf(most + 1));
+    assert.deepEqual([frames, stages, cause, fault], [[], [], "engine:memory", "memory"]);
+  }
+});
+
 test("a text in which recordings are looked for is searched in pieces, which can be stopped", async () => {
   for (const piece of ['["a",', '"[\\"', '[&quot;']) {
     const bytes = new TextEncoder().encode(piece.repeat(2000)), stopping = new AbortController(), told = [];
