@@ -394,7 +394,7 @@ class Engine {
   async replayInWorkers(text, { order = 'columns', workers = idleProcessors(), progress = () => {}, signal } = {}) {
     numberOf(order);
     if (!Number.isInteger(workers) || workers < 1 || workers > MOST_WORKERS) throw new TypeError(`there are 1 to ${MOST_WORKERS} workers`);
-    const file = bytesOf(text);
+    const file = bytesOf(text)?.slice() ?? null; // what is handed in may be changed before it is played
     if (file === null) return refused('not-json');
     signal?.throwIfAborted();
     const crew = new Crew(this.#module, this.#worker);
