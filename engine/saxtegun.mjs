@@ -184,26 +184,30 @@ class Instance {
   }
 }
 
-/** The open sessions of one instance. Where a call does not come back none of them is open any more. */
+/** The open sessions of one instance, which is made for the first. Where a call does not come back none of them is open any more. */
 class Shelf {
-  #instance;
+  #module;
+  #instance = null;
+  #isBroken = false;
 
   constructor(module) {
-    this.#instance = new Instance(module);
+    this.#module = module;
   }
 
   get isBroken() {
-    return this.#instance === null;
+    return this.#isBroken;
   }
 
   /** What a call answers: { number, frames, close, fault }. */
   ask(bytes, call) {
     if (this.isBroken) return { number: -1, frames: [], close: null, fault: 'broken' };
     try {
+      this.#instance ??= new Instance(this.#module);
       const { number, lines, fault } = this.#instance.askOpen(bytes, call);
       return { number, ...framesOf({ lines, fault }) };
     } catch (error) {
       this.#instance = null;
+      this.#isBroken = true;
       return { number: -1, frames: [], close: null, fault: faultOf(error) };
     }
   }
@@ -236,10 +240,10 @@ class OpenSession {
   }
 
   give(inputs) {
-    const bytes = bytesOfInputs(inputs);
+    const given = [...inputs], bytes = bytesOfInputs(given);
     const answer = this.#ask(bytes, (exports, held, input, room, outcome) =>
       exports.saxtegun_give(held, this.#number, input.at, BigInt(input.size), room.at, BigInt(room.size), outcome));
-    if (answer.fault === null) this.#inputs = this.#inputs.concat(inputs);
+    if (answer.fault === null) this.#inputs = this.#inputs.concat(given);
     return answer;
   }
 
@@ -303,7 +307,8 @@ class Engine {
   }
 
   open(session, { order = 'columns' } = {}) {
-    const number = numberOf(order), file = bytesOf(fileOfOne({ ...session, inputs: [] }));
+    const number = numberOf(order), file = bytesOf(fileOfOne({ ...session, inputs: [] })), inputs = [...session.inputs];
+    bytesOfInputs(inputs); // a wrong one is told before anything is open
     if (!this.#has(OPEN)) return notOpened('no-open-sessions');
     if (file === null) return notOpened('not-json');
     if (this.#shelf === null || this.#shelf.isBroken) this.#shelf = new Shelf(this.#module);
@@ -311,8 +316,8 @@ class Engine {
       exports.saxtegun_open(held, input.at, BigInt(input.size), number, 0, room.at, BigInt(room.size), outcome));
     if (opened.fault !== null || opened.close.close === 'refused') return { ...notOpened(opened.fault), close: opened.close };
     const its = new OpenSession(shelf, opened.number);
-    if (session.inputs.length === 0) return { session: its, frames: opened.frames, close: opened.close, fault: null };
-    const given = its.give(session.inputs);
+    if (inputs.length === 0) return { session: its, frames: opened.frames, close: opened.close, fault: null };
+    const given = its.give(inputs);
     if (given.fault !== null) its.close();
     return { ...given, session: given.fault === null ? its : null };
   }
@@ -394,7 +399,7 @@ class Engine {
   async replayInWorkers(text, { order = 'columns', workers = idleProcessors(), progress = () => {}, signal } = {}) {
     numberOf(order);
     if (!Number.isInteger(workers) || workers < 1 || workers > MOST_WORKERS) throw new TypeError(`there are 1 to ${MOST_WORKERS} workers`);
-    const file = bytesOf(text);
+    const file = bytesOf(text)?.slice() ?? null; // what is handed in may be changed before it is played
     if (file === null) return refused('not-json');
     signal?.throwIfAborted();
     const crew = new Crew(this.#module, this.#worker);

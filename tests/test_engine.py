@@ -270,13 +270,25 @@ class EngineDescriptions(OnDescriptions):
                 self.assertEqual(self.describe(self.write(case["source"].encode())), (0, compact(case["told"]), ""))
 
 
-@unittest.skipUnless(NODE and IS_BUILT, "there is no node, or the module is not built")
-class EngineGlue(InARoom):
-    """The exports, the functions of the glue and their refusals; the name begins with Engine, by which ./check finds it."""
+class InNode(InARoom):
+    """Tests in JavaScript."""
 
     def pass_in_node(self, name):
         ran = subprocess.run([NODE, "--test", "--test-reporter=tap", OWN / name], stdout=subprocess.PIPE, stderr=subprocess.STDOUT, check=False)
         self.assertEqual(ran.returncode, 0, ran.stdout.decode(errors="replace"))
+
+
+@unittest.skipUnless(NODE, "there is no node")
+class TheExample(InNode):
+    """The script of the page of docs/engine.md, over an engine of the test's own."""
+
+    def test_the_page(self):
+        self.pass_in_node("example.test.mjs")
+
+
+@unittest.skipUnless(NODE and IS_BUILT, "there is no node, or the module is not built")
+class EngineGlue(InNode):
+    """The exports, the functions of the glue and their refusals; the name begins with Engine, by which ./check finds it."""
 
     def test_the_glue(self):
         self.pass_in_node("glue.test.mjs")

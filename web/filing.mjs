@@ -4,7 +4,7 @@ import { plural } from "./elements.mjs";
 import { addedTold, toAdd } from "./findings.mjs";
 import { readingRuns } from "./lines.mjs";
 import { remembering } from "./past.mjs";
-import { framesOf, isPlayed } from "./replaying.mjs";
+import { framesOf, isPlayed, sourceOf } from "./replaying.mjs";
 import { MOST_SESSIONS, Refusal, SessionFile } from "./session-file.mjs";
 import { isOther, runWithFrames, runsOfNow, sessionOpened } from "./suite.mjs";
 import { isTooLong } from "./texts.mjs";
@@ -39,6 +39,11 @@ export function savedAs(state, number = null) {
   const next = withFile({ ...state, work: { ...state.work, opened: null } }, file, { work: { ...state.work, opened }, looked: null });
   return { ...next, saved: `Saved in ${file.name} as session ${opened}.` };
 }
+
+const isSameAtHand = (one, other) => one.file === other.file && sourceOf(one) === sourceOf(other) && ["index", "name", "opened"].every((it) => one.work[it] === other.work[it]);
+
+// Saves the recording as `savedAs` does, where that was asked for in an earlier state, and waited until all was played: not what came to hand meanwhile.
+export const savedLater = (state, asked, number) => (isSameAtHand(state, asked) ? savedAs(state, number) : { ...state, saved: "Not saved: another text, recording or file came meanwhile." });
 
 export function removed(state) {
   if (state.work.opened === null) return state;

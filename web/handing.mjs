@@ -27,8 +27,11 @@ function hasManyLists(text) {
   return false;
 }
 
-// How many entries a text has that is a sessions file, or meant to be one; else null.
+const BEGINS_LIKE_SESSIONS = /^\s*\[\s*[[\]]/;
+
+// How many entries a text has that is a sessions file, or meant to be one; else null. JSON that begins otherwise is not read: it may have millions of lists.
 function entriesIn(text) {
+  if (!BEGINS_LIKE_SESSIONS.test(text)) return null;
   try {
     const value = JSON.parse(text);
     return Array.isArray(value) && (value.length === 0 || Array.isArray(value[0])) ? value.length : null;

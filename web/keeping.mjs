@@ -6,6 +6,7 @@ const DATABASE = "saxtegun";
 const STORE = "kept";
 const PATIENCE = 5000; // milliseconds that a page that was left may take to be gone
 const AFTER_KEY = 200; // milliseconds that a key waits until it is written, with those that follow it
+const MOST_OF_OPENING = 15_000; // milliseconds that the database may take until the page begins without what it has, which stays there
 const LATE = 2000; // milliseconds that the database may take before it is said that it hasn't kept the last changes
 
 function settled(request) {
@@ -31,9 +32,12 @@ async function asked(mode, act) {
   }
 }
 
+// What is read of the store, as long as it comes before a promise that is refused once it is too late.
+const readBefore = (late, act) => Promise.race([asked("readonly", act), late]);
+
 // What was kept under a name: { name, value, note }, where the value is undefined if the database has none, and null if it doesn't answer.
-async function keptUnder(name) {
-  const note = noted(name), value = await asked("readonly", (it) => it.get(name)).catch(() => null);
+async function keptUnder(name, late) {
+  const note = noted(name), value = await readBefore(late, (it) => it.get(name)).catch(() => null);
   return { name, value, note };
 }
 
@@ -42,15 +46,18 @@ const lastOf = ({ value, note }, name) => Math.max(numberKept(value, name), numb
 // What this browser keeps for one tab.
 export class Store {
   // The store of this tab. `entries` are what was kept, [{ name, value, note }]: first what this tab goes on with, and then what closed tabs left, the newest first.
-  static async open() {
+  static async open(most = MOST_OF_OPENING) {
     const store = new Store(), { name: former, isLeft, isCut } = formerVisit();
-    const names = new Set([...(await asked("readonly", (it) => it.getAllKeys()).catch(() => [])), ...namesNoted()]);
+    let timer = 0;
+    const late = new Promise((_, refuse) => { timer = setTimeout(refuse, most); });
+    const names = new Set([...(await readBefore(late, (it) => it.getAllKeys()).catch(() => [])), ...namesNoted()]);
     if (former !== null && (await isFree(former, isLeft ? PATIENCE : 0))) store.name = former;
     for (const name of names) {
       if (String(name).startsWith(FIRST) && name !== former && (await isFree(name))) store.left.push(name);
     }
     // where the page that was left isn't gone yet, this one goes on with a copy of its work
-    await store.read(store.name !== null || isLeft ? former : null);
+    await store.read(store.name !== null || isLeft ? former : null, late);
+    clearTimeout(timer);
     store.isCut = isCut;
     return store;
   }
@@ -62,9 +69,9 @@ export class Store {
     document.addEventListener("visibilitychange", () => (document.visibilityState === "hidden" ? this.leave() : formerVisit()));
   }
 
-  async read(first) {
+  async read(first, late) {
     const isThere = ({ value, note }) => value !== undefined || note !== null;
-    const own = first === null ? [] : [await keptUnder(first)], others = await Promise.all(this.left.map(keptUnder));
+    const own = first === null ? [] : [await keptUnder(first, late)], others = await Promise.all(this.left.map((name) => keptUnder(name, late)));
     this.entries = [...own, ...others.sort((one, other) => lastOf(other, "kept") - lastOf(one, "kept"))].filter(isThere);
   }
 

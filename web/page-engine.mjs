@@ -16,6 +16,7 @@ const MOMENT = 30; // milliseconds for which inputs are looked through before it
 const GRACE = 100; // milliseconds that a worker has to end what isn't wanted any more
 const MOST_FRAMES = 2 ** 19; // that the page takes at once, of 65,536 inputs eight each; with millions it would stand still for long
 const MOST_STAGES_OF_AN_INPUT = 2 ** 16; // that it takes, of 500 ticks 131 each
+const MOST_ROOM_OF_LEVELS = 2 ** 28; // bytes of their texts as a browser holds them, in the worker and in the page: a tab has some 4 GiB
 const IDLE = 200; // milliseconds without a question, after which a session is opened for the keys that may come; behind a key it is opened at once
 
 // The module, which stands in the page compressed.
@@ -30,11 +31,16 @@ const refusedPlay = (fault) => ({ frames: [], cause: `engine:${fault}`, isSolved
 const noAnswer = (fault) => ({ ...refusedPlay(fault), stages: [], solution: null, fault, lines: null });
 const BROKEN = noAnswer("broken");
 
+const WIDE = /[^\0-\xff]/; // a letter beside which each letter of a text takes two bytes
+
+const roomOfLevels = (items) => items.reduce((sum, { level = "" }) => sum + (WIDE.test(level) ? 2 : 1) * level.length, 0);
+
 // An answer as it is handed to the page, which takes what it is handed, and reads the texts of levels, on its own thread: one that takes it long is none.
 export function readableAnswer(answer) {
   const { frames = [], stages = [] } = answer, isLong = (shown) => isLevelLonger(shown, MOST_OF_A_LEVEL);
   if (frames.length > MOST_FRAMES || stages.length > MOST_STAGES_OF_AN_INPUT) return noAnswer("memory");
-  return frames.some(isLong) || stages.some(isLong) ? noAnswer("long-level") : answer;
+  if (frames.some(isLong) || stages.some(isLong)) return noAnswer("long-level");
+  return roomOfLevels(frames) + roomOfLevels(stages) > MOST_ROOM_OF_LEVELS ? noAnswer("memory") : answer;
 }
 
 // What the engine makes of a recording: { frames, cause, isSolved }. A fault of the engine is a cause that begins with `engine:`.

@@ -14,7 +14,7 @@ import { inPieces } from "./pieces.mjs";
 import { Runner } from "./running.mjs";
 import { Refusal, SessionFile } from "./session-file.mjs";
 import { isFailure } from "./session-list.mjs";
-import { RECORDINGS, comparing, filed, savedAs, withComparison, withOtherFile, withRecordings } from "./filing.mjs";
+import { RECORDINGS, comparing, filed, savedLater, withComparison, withOtherFile, withRecordings } from "./filing.mjs";
 import { framesOf, isAtEnd, shownOf } from "./replaying.mjs";
 import { keepingTold, visitTold } from "./page-words.mjs";
 import { say } from "./saying.mjs";
@@ -126,9 +126,10 @@ class Playground {
 
   // Saves the recording as a session, once all is played in the order of recorded levels.
   async save(number) {
+    const asked = this.state;
     if (this.state.order !== RECORDED_ORDER) this.act(inOrder, RECORDED_ORDER);
     await this.runner.idle();
-    this.act(savedAs, number);
+    this.act(savedLater, asked, number);
     at("stage").focus({ preventScroll: true });
   }
 

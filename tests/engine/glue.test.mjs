@@ -47,6 +47,12 @@ test('the order is columns where none is named', async () => {
   assert.notEqual(textOf(byColumns.lines), lines);
 });
 
+test('bytes that are changed once they were handed in are played in workers as they were', async () => {
+  const engine = await load(), file = new Uint8Array(read(WALK, 'input.json')), answer = engine.replayInWorkers(file, { order: 'rows' });
+  file.fill(0x20);
+  assert.deepEqual(await answer, { status: 0, passed: true, lines: new Uint8Array(read(WALK, 'stdout')), fault: null });
+});
+
 test('a file that is refused has its fault and no lines', async () => {
   const engine = await load();
   const entry = '["a",["",[],""]]';

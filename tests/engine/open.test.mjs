@@ -80,6 +80,22 @@ it('a call that is refused leaves a session as it was', () => {
   assert.deepEqual([session.inputs, session.give([])], [[RIGHT], ONE]);
 });
 
+it('inputs come by any list, and a wrong one opens nothing', () => {
+  const { session } = walk(new Uint8Array([RIGHT]));
+  for (const inputs of [new Set(['undo']), new Uint8Array([RIGHT]), [][Symbol.iterator](), '']) assert.equal(session.give(inputs).fault, null);
+  assert.deepEqual([session.inputs, session.give([])], [[RIGHT, 'undo', RIGHT], engine.frames({ source: WALK, inputs: session.inputs, level: LEVELS.right }, { order: 'rows', from: 3 })]);
+  for (let turn = 0; turn < 3000; turn += 1) assert.throws(() => walk([5]), TypeError);
+  assert.deepEqual(walk().session.give([RIGHT]), ONE);
+});
+
+it('an instance that gets no memory opens nothing, which is told', async t => {
+  const other = await load(readFileSync(MODULE));
+  t.mock.method(WebAssembly, 'Instance', function none() { throw new RangeError('no memory'); });
+  assert.deepEqual(other.open({ source: WALK, inputs: [] }), { session: null, ...nothing('memory') });
+  t.mock.restoreAll();
+  assert.equal(other.open({ source: WALK, inputs: [] }).fault, null);
+});
+
 it('a session that is refused is told, and not opened', () => {
   assert.deepEqual(engine.open({ source: '', inputs: [RIGHT] }), { session: null, frames: [], close: { cause: 'Section:0', ...close('refused', 0) }, fault: null });
   assert.deepEqual(engine.open({ source: WALK, inputs: [], level: 'x' }), { session: null, ...nothing('bad-level 0') });

@@ -15,9 +15,9 @@ const FILE = new SessionFile("mine.json", new TextEncoder().encode(JSON.stringif
 
 // A visit of the page, which keeps its states.
 class Visit {
-  static async of() {
+  static async of(...words) {
     const visit = new Visit();
-    visit.store = await Store.open();
+    visit.store = await Store.open(...words);
     const { state, read, ...it } = stateOfVisit(visit.store.entries, GAME);
     await visit.store.goOn(read);
     Object.assign(visit, { state, told: visitTold({ ...it, isCut: it.isCut || visit.store.isCut }), kept: [] });
@@ -206,6 +206,19 @@ test("what a broken database doesn't hand out stays where it is, and that is sai
   next.act(withGame, LONG[2]);
   await next.written();
   assert.deepEqual([...browser.database.entries.values()].map(({ text }) => text).sort(), [LONG[0], LONG[2]].sort());
+});
+
+test("a database that never opens holds up no visit: what it has stays where it is, which is said, and what is made is noted", async () => {
+  const browser = new OneTab();
+  await worked(browser, LONG[0]);
+  browser.leave();
+  browser.database.isMute = true;
+  const next = await Visit.of(20);
+  assert.match(next.told, /^What this browser kept of an earlier visit can't be read by this page/);
+  next.act(withGame, LONG[1]);
+  browser.leave();
+  browser.database.isMute = false;
+  assert.deepEqual(textsOf((await Visit.of()).state).sort(), [LONG[0], LONG[1]]);
 });
 
 test("what a broken database doesn't take is noted", async () => {

@@ -149,6 +149,16 @@ test("an answer with more frames or stages than the page takes in a moment is ha
   }
 });
 
+test("an answer whose levels take more room than the page has for them is handed over as none", () => {
+  for (const [letter, most] of [["a", 128], ["\u20ac", 64]]) {
+    const level = letter.repeat(2 ** 21), answerOf = (count) => ({ frames: new Array(count - 1).fill({ at: 0, kind: "start", level }), stages: [{ stage: "end", level }], cause: null, fault: null });
+    const whole = answerOf(most);
+    assert.equal(readableAnswer(whole), whole);
+    const { frames, stages, cause, fault } = readableAnswer(answerOf(most + 1));
+    assert.deepEqual([frames, stages, cause, fault], [[], [], "engine:memory", "memory"]);
+  }
+});
+
 test("a text in which recordings are looked for is searched in pieces, which can be stopped", async () => {
   for (const piece of ['["a",', '"[\\"', '[&quot;']) {
     const bytes = new TextEncoder().encode(piece.repeat(2000)), stopping = new AbortController(), told = [];
@@ -159,6 +169,19 @@ test("a text in which recordings are looked for is searched in pieces, which can
     assert.ok(steps.length > 1 && steps.every(([done, all]) => done <= all && all === bytes.length), piece);
   }
   assert.equal((await inPieces(handing("f", new TextEncoder().encode(GAME)), signal)).kind, "game");
+});
+
+test("JSON that begins otherwise than sessions do is not read as such, whatever it has many of", (t) => {
+  const read = [], parse = JSON.parse;
+  t.mock.method(JSON, "parse", (text, ...words) => {
+    read.push(text);
+    return parse(text, ...words);
+  });
+  const others = ['[0,[],{}]', ' \n[ {"a":[]}]', '["",[]]', '{"a":[[],[]]}'], sessions = ["[]", " [ ]", '\n[ ["a",["",[],""]]]'];
+  for (const text of others.slice(0, 3)) assert.throws(() => handed("f", new TextEncoder().encode(text)), Refusal);
+  assert.equal(handed("f", new TextEncoder().encode(others[3])).kind, "lines");
+  for (const text of sessions) assert.equal(handed("f", new TextEncoder().encode(text)).kind, "sessions");
+  assert.deepEqual([...others, ...sessions].filter((text) => read.includes(text)), sessions);
 });
 
 test("no more sessions come into the page than the engine plays", () => {

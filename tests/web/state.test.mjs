@@ -7,7 +7,7 @@ import { stateFrom, stateOfVisit } from "../../web/kept-work.mjs";
 import { playedBy } from "../../web/page-engine.mjs";
 import { faultOfText, othersTold, ownTold, putBackTold, statusOf, stepTold, tabTold, verdictOf } from "../../web/page-words.mjs";
 import { SessionFile } from "../../web/session-file.mjs";
-import { accepted, filed, followed, namesakeOf, removed, savedAs, withOtherFile, withRecordings } from "../../web/filing.mjs";
+import { accepted, filed, followed, namesakeOf, removed, savedAs, savedLater, withOtherFile, withRecordings } from "../../web/filing.mjs";
 import { framesOf, isPlayed, shownOf, sourceOf } from "../../web/replaying.mjs";
 import { differenceOf, playedAgain, rowsOf, seenOf, sessionOf, sessionOpened } from "../../web/suite.mjs";
 import { beginning, begunAnew, cutBack, edited, fromLevel, held, inOrder, lookedAt, lookedAtInput, named, pressed, putBack, released, withGame, withOwnText } from "../../web/work.mjs";
@@ -283,6 +283,21 @@ it("a session that was removed or replaced is put back", async () => {
   assert.deepEqual(entriesIn(bench.state), []);
   await bench.act(putBack);
   assert.equal(entriesIn(bench.state).length, 1);
+});
+
+it("what waits to be saved is not what came to hand meanwhile", async () => {
+  const others = ["keep", "keep too"].map((name) => [name, [GAME, [3], "background:0,", 0]]);
+  for (const change of [(state) => withOtherFile(state, fileOf(others)), (state) => withOtherFile(state, null), (state) => named(state, "another"), begunAnew, (state) => withGame(state, WON_BY_A_MOVE)]) {
+    const bench = await withPush(), asked = bench.state;
+    await bench.act(change);
+    const { file } = bench.state;
+    await bench.act(savedLater, asked, 0);
+    assert.deepEqual([bench.state.file === file, bench.state.saved], [true, "Not saved: another text, recording or file came meanwhile."]);
+  }
+  const bench = await withPush(), asked = bench.state;
+  await bench.act(pressed, 3);
+  await bench.act(savedLater, asked, 0);
+  assert.deepEqual(entriesIn(bench.state).map(([, [, inputs]]) => inputs), [[...PUSHING, 3]]);
 });
 
 it("a key behind a session that was closed, and put back, does no harm", async () => {

@@ -4,10 +4,10 @@
 const begin = setTimeout; // what isn't a page's
 const soon = (act) => begin(act, 0);
 
-// A database that writes once it isn't held, and forgets what a page that was left had not written.
+// A database that opens unless it is mute, writes once it isn't held, and forgets what a page that was left had not written.
 class Database {
   constructor() {
-    Object.assign(this, { entries: new Map(), isHeld: false, isBroken: false, waiting: [], page: 0 });
+    Object.assign(this, { entries: new Map(), isHeld: false, isBroken: false, isMute: false, waiting: [], page: 0 });
   }
 
   // Lets what waits be done.
@@ -23,7 +23,7 @@ class Database {
 
   open() {
     const { page } = this, request = { result: { transaction: () => this.transaction(page), close: () => {} } };
-    soon(() => (this.isBroken ? request.onerror() : request.onsuccess()));
+    if (!this.isMute) soon(() => (this.isBroken ? request.onerror() : request.onsuccess()));
     return request;
   }
 
