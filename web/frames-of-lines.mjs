@@ -2,7 +2,7 @@
 // worker hands the page the lines, with where the frames stand in them.
 import { KINDS, spansOf } from "./lines.mjs";
 
-const MOST_TOLD = 2 ** 29; // bytes of lines of which frames are told; those of more would take a page's memory
+const MOST_TOLD = 2 ** 28; // bytes of lines of which frames are told; a page has no room for more
 const HEAD = 96; // bytes with which a line tells everything but the level
 const HEAD_OF_FRAME = /^\{"at":(\d+),"frame":\d+,"kind":"([a-z]+)"/;
 

@@ -33,7 +33,10 @@ const BROKEN = noAnswer("broken");
 
 const WIDE = /[^\0-\xff]/; // a letter beside which each letter of a text takes two bytes
 
-const roomOfLevels = (items) => items.reduce((sum, { level = "" }) => sum + (WIDE.test(level) ? 2 : 1) * level.length, 0);
+const roomOfText = (text) => (WIDE.test(text) ? 2 : 1) * text.length;
+
+// The room of levels: of those that stand in lines, which are one list of bytes, that of the lines.
+const roomOfLevels = (items) => items.reduce((sum, item) => sum + (item.size ?? roomOfText(item.level ?? "")), 0);
 
 // An answer as it is handed to the page, which takes what it is handed, and reads the texts of levels, on its own thread: one that takes it long is none.
 export function readableAnswer(answer) {
