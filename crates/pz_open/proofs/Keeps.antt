@@ -1,8 +1,8 @@
 -- What is kept of a session stays right as inputs come and go.
-use Rattle.std.proofs.Common.{◌≡◌, ℕ, ◌≤◌, ◌+◌, Bool, true, false, List, [], ◌∷◌, ◌++◌, filter, length, nat_le, sym, subst, arith, get_or, min}
+use Rattle.std.proofs.Common.{◌≡◌, ℕ, ◌≤◌, ◌+◌, ◌-◌, Bool, true, false, List, [], ◌∷◌, ◌++◌, filter, length, nat_le, sym, subst, ap, ◌∙◌, arith, get_or, min}
 use Rattle.std.specs.Prelude.{All, drop, take}
-use Rattle.std.specs.List.{items_where_true}
-use Rattle.std.proofs.lemmas.List.{length-append, length-take, take-append-le, take-take, take-append-drop, take_all}
+use Rattle.std.specs.List.{items_where_true, slice_range}
+use Rattle.std.proofs.lemmas.List.{drop-take, length-append, length-take, take-append-le, take-take, take-append-drop, take_all}
 use Rattle.std.proofs.lemmas.List.Elements.{All-cons, All-filter, All-head, All-nil, All-tail, filter_passes}
 use Rattle.std.proofs.lemmas.Bool.Decides.{nat_tests}
 use Rattle.pz_record.specs.declared.input.Input.{Input}
@@ -52,3 +52,11 @@ kept_here plan inputs place standing = record {
 -- places behind the first inputs are places of all inputs
 pub all_of_first : (plan : PlanState) (inputs : List Input) (count : ℕ) (kept : List Kept) → All (IsKeptOf plan (take count inputs)) kept → All (IsKeptOf plan inputs) kept
 all_of_first plan inputs count kept are = subst (λ (all : List Input). All (IsKeptOf plan all) kept) (take-append-drop count inputs) (all_more plan (take count inputs) (drop count inputs) kept are)
+
+-- the first elements, and those behind them up to a place, are the first up to there
+pub first_to : (xs : List Input) (from to : ℕ) → from ≤ to → take from xs ++ slice_range xs from to ≡ take to xs
+first_to xs from to low =
+    let whole : from + (to - from) ≡ to = omega arith in
+    (λ i. sym (take-take from to xs low) i ++ sym (drop-take from (to - from) xs) i)
+    ∙ ap (λ (n : ℕ). take from (take to xs) ++ drop from (take n xs)) whole
+    ∙ take-append-drop from (take to xs)

@@ -1,5 +1,6 @@
 -- How a place is led on by an input.
 use Rattle.std.proofs.Common.{◌≡◌, ℕ, ◌+◌, List, [], ◌∷◌, ◌++◌, length, Option, Some, None, Result, Ok, refl, ap, sym, ◌∙◌, subst, arith}
+use Rattle.std.proofs.lemmas.List.{append_assoc, append-nil}
 use Rattle.pz_record.specs.declared.input.Input.{Input}
 use Rattle.pz_case.specs.declared.item.Item.{Item}
 use Rattle.pz_case.specs.declared.item.Item.TheVariants as item
@@ -16,7 +17,7 @@ use Rattle.pz_open.specs.declared.telling.Told.{Told}
 use Rattle.pz_open.specs.declared.place.Moved.{Moved}
 use Rattle.pz_open.specs.Opened.{ComesWith, HasStopped, KeepsPlan, StandsAt, frame_items, items_with}
 use Rattle.pz_open.specs.Telling.{IsTold}
-use Rattle.pz_open.specs.Places.{CanGoOn, IsEnded, IsPlace, IsSettled, state_of_stood}
+use Rattle.pz_open.specs.Places.{CanGoOn, IsEnded, IsLed, IsPlace, IsSettled, IsStood, state_of_stood}
 use Rattle.pz_open.proofs.Keeping.{EndKeeps, chain_keeps, start_keeps}
 use Rattle.pz_open.proofs.Opening as opening
 
@@ -85,6 +86,35 @@ module _ (plan : PlanState) (stood : Stood) (input : Input) (before told : Told)
     led_items (Some stop) is ends =
         subst (ComesWith plan inputs input) (sym (ends.items ∙ ap (λ (items : List Item). items ++ opening.stopped plan inputs frames from at input stop is.end) (told_items (Some stop) is)))
         (opening.comes_stopped plan inputs frames from at input stop is.end)
+
+-- an input from a state where a session stands
+module _ (plan : PlanState) (from : State) (stood : IsStood plan from) (input : Input) (before told : Told) (state : State) where
+  pub stays_stood : IsTold before (chain_of input from) told None state → IsStood plan (settled state)
+  stays_stood is = again plan from (ap (λ (s : State). s.game) (sym stood)) (ap (λ (s : State). s.program) (sym stood)) (ap (λ (s : State). s.order) (sym stood)) (ap (λ (s : State). s.recorded) (sym stood))
+      state (keeps_after from state (chain_of input from).after (chain_keeps input from) is.end)
+
+  pub stands_behind : (inputs : List Input) → StandsAt plan inputs before.frames from → IsTold before (chain_of input from) told None state → IsLed plan (inputs ++ input ∷ []) told.frames None (settled state)
+  stands_behind inputs at is =
+      subst (λ (n : ℕ). StandsAt plan (inputs ++ input ∷ []) n (settled state)) (sym is.frames) (opening.stands_next plan inputs before.frames from at input state is.end)
+
+  pub has_stopped_behind : (inputs : List Input) (stop : Stop) (end : State) → StandsAt plan inputs before.frames from → IsTold before (chain_of input from) told (Some stop) state → IsLed plan (inputs ++ input ∷ []) told.frames (Some stop) end
+  has_stopped_behind inputs stop end at is =
+      subst (λ (n : ℕ). HasStopped plan (inputs ++ input ∷ []) n stop) (sym is.frames) (opening.stops_next plan inputs before.frames from at input stop is.end)
+
+-- where a session was resumed, it stands
+pub stood_there : (plan : PlanState) (stood : Stood) (state : State) → state ≡ state_of_stood plan stood → IsStood plan state
+stood_there plan stood state is = subst (IsStood plan) (sym is) refl
+
+-- where a session stands at a state, its place is there
+pub place_of_stood : (plan : PlanState) (inputs : List Input) (frames : ℕ) (state : State) → IsStood plan state → StandsAt plan inputs frames state → StandsAt plan inputs frames (state_of_stood plan (stood_in state))
+place_of_stood plan inputs frames state stood at = subst (StandsAt plan inputs frames) (sym stood) at
+
+-- a session that has stopped shows nothing more, whatever inputs come
+pub stays_so : (plan : PlanState) (inputs more : List Input) (frames : ℕ) (stop : Stop) → HasStopped plan inputs frames stop → HasStopped plan (inputs ++ more) frames stop
+stays_so plan inputs [] frames stop at = subst (λ (all : List Input). HasStopped plan all frames stop) (sym (append-nil inputs)) at
+stays_so plan inputs (input ∷ more) frames stop at =
+    subst (λ (all : List Input). HasStopped plan all frames stop) (append_assoc inputs (input ∷ []) more)
+    (stays_so plan (inputs ++ input ∷ []) more frames stop (opening.stays_stopped plan inputs frames stop at input))
 
 -- the start of a session
 module _ (plan : PlanState) (before told : Told) (state : State) (moved : Moved) where

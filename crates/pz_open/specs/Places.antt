@@ -23,6 +23,10 @@ abbrev pub CanGoOn : PlanState → Place → Type 0
 CanGoOn plan (At stood frames) = IsOneGame (state_of_stood plan stood)
 CanGoOn plan (Stopped stop frames) = ⊤
 
+-- a session of a plan stands there, between two inputs
+abbrev pub IsStood : PlanState → State → Type 0
+IsStood plan state = state_of_stood plan (stood_in state) ≡ state
+
 -- how many frames it has shown by then
 abbrev pub frames_at : Place → ℕ
 frames_at (At stood frames) = frames
@@ -32,6 +36,11 @@ frames_at (Stopped stop frames) = frames
 abbrev pub IsPlace : PlanState → List Input → Place → Type 0
 IsPlace plan inputs (At stood frames) = StandsAt plan inputs frames (state_of_stood plan stood)
 IsPlace plan inputs (Stopped stop frames) = HasStopped plan inputs frames stop
+
+-- these inputs have led a session to a state, or it has stopped by then
+abbrev pub IsLed : PlanState → List Input → ℕ → Option Stop → State → Type 0
+IsLed plan inputs frames None state = StandsAt plan inputs frames state
+IsLed plan inputs frames (Some stop) state = HasStopped plan inputs frames stop
 
 -- a chain has led from what was told to a place: where it settles, or where it stopped; the close comes last
 pub record IsSettled (told : Told) (state : State) (moved : Moved) : Type 0 where

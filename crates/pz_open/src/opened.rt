@@ -11,7 +11,7 @@ ghost use Rattle.pz_open.specs.declared.opened.GiveFault.TheVariants.{TooMany};
 ghost use Rattle.pz_open.specs.declared.opened.BackFault.TheVariants.{TooFew};
 
 use crate::label::Label;
-use crate::place::{Moved, Place, begin, go_on};
+use crate::place::{Moved, Place, begin, go_on, go_through};
 use pz_case::plan::Plan;
 use pz_record::input::{Input, MOST_INPUTS};
 use std::alloc::{AllocError, Global};
@@ -105,6 +105,19 @@ fn is_worth_keeping(at: usize, count: usize) -> bool {
     lowest >= STRIDE && lowest >= count.saturating_sub(at) / 4
 }
 
+/// The next number of inputs behind which a place is worth keeping on the way to `count`, or `count`.
+fn next_worth_keeping(from: usize, count: usize) -> usize
+    requires { from < count }
+    ensures further { from < result }
+    ensures within { result ≤ count }
+{
+    let mut at = from + 1;
+    'inputs: while at < count && !is_worth_keeping(at, count) {
+        at += 1;
+    }
+    at
+}
+
 /// Keeps the place behind so many inputs on the way to `count`, if it is worth keeping. Where memory is refused it isn't kept.
 fn keep(kept: &mut Vec<Kept>, place: &Place, at: usize, count: usize)
     ensures { (plan : PlanState) → (inputs : List Input) → IsKeptOf plan inputs (record { count = at; place = place.now }) → All (IsKeptOf plan inputs) kept.old.items → All (IsKeptOf plan inputs) kept.new.items }
@@ -174,10 +187,11 @@ fn play_on(
     } = from;
     let mut place = place;
     let mut taken = begun;
-    'inputs: while taken < count {
-        let moved = go_on(alloc, plan, place, taken as u64 + 1, inputs[taken])?;
-        place = moved.place;
-        taken += 1;
+    'stages: while taken < count {
+        let next = next_worth_keeping(taken, count);
+        let further = go_through(alloc, plan, place, &inputs[taken..next])?;
+        place = further;
+        taken = next;
         keep(kept, &place, taken, count);
     }
     Ok(place)

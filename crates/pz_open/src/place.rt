@@ -1,9 +1,10 @@
 //! Where a session that is kept open stands, and how an input leads on.
 
-ghost use Rattle.std.specs.Prelude.{◌≡◌, ◌+◌, ◌++◌, ◌∷◌, [], List, IfOk, length};
+ghost use Rattle.std.specs.Prelude.{◌≡◌, ◌+◌, ◌++◌, ◌∷◌, [], List, None, IfOk, length};
 ghost use Rattle.pz_record.specs.declared.input.Input.{Input};
-ghost use Rattle.pz_open.specs.Opened.{ComesWith, items_with};
-ghost use Rattle.pz_open.specs.Places.{CanGoOn, IsEnded, IsPlace, frames_at};
+ghost use Rattle.pz_case.specs.Plan.{PlanState};
+ghost use Rattle.pz_open.specs.Opened.{ComesWith, StandsAt, items_with};
+ghost use Rattle.pz_open.specs.Places.{CanGoOn, IsEnded, IsLed, IsPlace, IsStood, frames_at};
 
 use crate::telling::{Told, play, start};
 use pz_case::item::{Item, Stop, Verdict};
@@ -138,6 +139,84 @@ pub fn go_on(
             );
             let stop = play(&mut board, &mut told, input)?;
             ended(board, told, stop)
+        }
+    }
+}
+
+/// Plays the chain of an input to where it settles, and counts the frames that it shows. Some: the session stops there.
+fn play_one(
+    alloc: Global,
+    board: &mut Board<'_>,
+    frames: &mut u64,
+    input: Input,
+) -> Result<Option<Stop>, AllocError>
+    ensures stood { IfOk result (λ stop. (plan : PlanState) → IsStood plan board.old → stop ≡ None → IsStood plan board.new) }
+    ensures led { IfOk result (λ stop. (plan : PlanState) (before : List Input) → IsStood plan board.old → StandsAt plan before frames.old board.old → IsLed plan (before ++ input ∷ []) frames.new stop board.new) }
+{
+    let mut told = Told {
+        items: Vec::new(alloc),
+        frames: *frames,
+        taken: 0,
+    };
+    let stop = play(board, &mut told, input)?;
+    *frames = told.frames;
+    match stop {
+        Some(stop) => Ok(Some(stop)),
+        None => {
+            board.settle()?;
+            Ok(None)
+        }
+    }
+}
+
+/// Plays the chains of inputs, as `play_one` plays one.
+fn play_all(
+    alloc: Global,
+    board: &mut Board<'_>,
+    frames: &mut u64,
+    inputs: &[Input],
+) -> Result<Option<Stop>, AllocError>
+    ensures stood { IfOk result (λ stop. (plan : PlanState) → IsStood plan board.old → stop ≡ None → IsStood plan board.new) }
+    ensures led { IfOk result (λ stop. (plan : PlanState) (before : List Input) → IsStood plan board.old → StandsAt plan before frames.old board.old → IsLed plan (before ++ inputs.now) frames.new stop board.new) }
+{
+    let mut taken = 0;
+    'inputs: while taken < inputs.len() {
+        match play_one(alloc, board, frames, inputs[taken])? {
+            Some(stop) => return Ok(Some(stop)),
+            None => taken += 1,
+        }
+    }
+    Ok(None)
+}
+
+/// Goes on from a place by inputs, one after another, and tells nothing of what they show. A session that has stopped stays where it is.
+/// Err: memory was refused.
+pub fn go_through(
+    alloc: Global,
+    plan: &Plan,
+    place: Place,
+    inputs: &[Input],
+) -> Result<Place, AllocError>
+    requires { CanGoOn plan.now place }
+    ensures go_on { IfOk result (CanGoOn plan.now) }
+    ensures place { IfOk result (λ next. (before : List Input) → IsPlace plan.now before place → IsPlace plan.now (before ++ inputs.now) next) }
+{
+    match place {
+        Place::Stopped(stop, frames) => Ok(Place::Stopped(stop, frames)),
+        Place::At(standing, frames) => {
+            let mut frames = frames;
+            let mut board = Board::resume(
+                alloc,
+                plan.game(),
+                plan.program(),
+                plan.order(),
+                plan.recorded(),
+                standing,
+            );
+            match play_all(alloc, &mut board, &mut frames, inputs)? {
+                Some(stop) => Ok(Place::Stopped(stop, frames)),
+                None => Ok(Place::At(board.leave(), frames)),
+            }
         }
     }
 }

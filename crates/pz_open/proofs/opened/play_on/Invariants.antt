@@ -4,8 +4,8 @@ use Rattle.pz_open.specs.Kept.{IsKeptOf, IsStanding}
 use Rattle.pz_open.proofs.opened.play_on.Given as goal
 
 -- the place is behind the inputs that were taken
-abbrev pub invariant-inputs : goal.invariant-inputs
-invariant-inputs l = (l.taken ≤ l.count) × (IsStanding l.plan (take l.taken l.inputs) l.place) × All (IsKeptOf l.plan l.inputs) l.kept.items
+abbrev pub invariant-stages : goal.invariant-stages
+invariant-stages l = (l.taken ≤ l.count) × (IsStanding l.plan (take l.taken l.inputs) l.place) × All (IsKeptOf l.plan l.inputs) l.kept.items
 
-abbrev pub decreases-inputs : goal.decreases-inputs
-decreases-inputs l = l.count - l.taken
+abbrev pub decreases-stages : goal.decreases-stages
+decreases-stages l = l.count - l.taken
