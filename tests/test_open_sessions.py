@@ -75,8 +75,12 @@ class OpenSessions(InARoom):
             begin = time.monotonic()
             for key in keys[:100]:
                 session.give(key)
-        # some ten times what it takes on a busy machine: to begin Node and play all would take longer for each
-        self.assertLess(time.monotonic() - begin, 100 * 0.02)
+            each = (time.monotonic() - begin) / 100
+        begin = time.monotonic()
+        for _ in range(3):
+            shown_beyond(self.entry(inputs=keys), len(keys), Engine())
+        # whatever else the machine does, to begin Node and play all takes some thirty times as long
+        self.assertLess(each, (time.monotonic() - begin) / 3 / 3)
 
     def test_a_key_that_is_left_out_leaves_the_session_as_it_was(self):
         source = DAY.replace("RULES\n", "RULES\n[ left Player ] -> [ Player ] again\n", 1)
