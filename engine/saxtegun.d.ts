@@ -169,7 +169,7 @@ export interface Moved {
 
 /**
  * A session that is kept open. It shows what the session of its inputs shows, whatever was called before. A call with a fault leaves it as it was, but for
- * `broken`, and `memory` of lines that no room could be had for: they close all open sessions of the engine.
+ * `broken`, and `memory` of lines that no room could be had for, or beyond 512 MiB: they close all open sessions of the engine.
  */
 export interface OpenSession {
   /** The inputs that it was given so far. */

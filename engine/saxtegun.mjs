@@ -184,7 +184,10 @@ class Instance {
   }
 }
 
-/** The open sessions of one instance, which is made for the first. Where a call does not come back none of them is open any more. */
+/**
+ * The open sessions of one instance, which is made for the first. Where a call does not come back, or its lines are too long to be read, none of them is
+ * open any more.
+ */
 class Shelf {
   #module;
   #instance = null;
@@ -203,13 +206,18 @@ class Shelf {
     if (this.isBroken) return { number: -1, frames: [], close: null, fault: 'broken' };
     try {
       this.#instance ??= new Instance(this.#module);
-      const { number, lines, fault } = this.#instance.askOpen(bytes, call);
-      return { number, ...framesOf({ lines, fault }) };
+      const { number, lines, fault } = this.#instance.askOpen(bytes, call), told = framesOf({ lines, fault });
+      return told.fault === fault ? { number, ...told } : this.#end(told.fault);
     } catch (error) {
-      this.#instance = null;
-      this.#isBroken = true;
-      return { number: -1, frames: [], close: null, fault: faultOf(error) };
+      return this.#end(faultOf(error));
     }
+  }
+
+  /** Leaves the instance, whose sessions may have gone on without anyone being told. */
+  #end(fault) {
+    this.#instance = null;
+    this.#isBroken = true;
+    return { number: -1, frames: [], close: null, fault };
   }
 
   close(number) {

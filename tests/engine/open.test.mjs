@@ -96,6 +96,17 @@ it('an instance that gets no memory opens nothing, which is told', async t => {
   assert.equal(other.open({ source: WALK, inputs: [] }).fault, null);
 });
 
+it('lines that are too long to be read close all sessions, of which none goes on unseen', async t => {
+  for (const act of [session => session.give([RIGHT]), session => session.back(0), session => session.give([])]) {
+    const other = await load(readFileSync(MODULE)), [session, beside] = ['one', 'beside'].map(() => other.open({ source: WALK, inputs: ['undo'] }).session);
+    t.mock.method(TextDecoder.prototype, 'decode', () => { throw new RangeError('too long a string'); });
+    assert.deepEqual([act(session), session.inputs], [nothing('memory'), ['undo']]);
+    t.mock.restoreAll();
+    assert.deepEqual([session, beside].map(it => [it.isOpen, it.give([])]), Array(2).fill([false, nothing('broken')]));
+    assert.equal(other.open({ source: WALK, inputs: [] }).fault, null);
+  }
+});
+
 it('a session that is refused is told, and not opened', () => {
   assert.deepEqual(engine.open({ source: '', inputs: [RIGHT] }), { session: null, frames: [], close: { cause: 'Section:0', ...close('refused', 0) }, fault: null });
   assert.deepEqual(engine.open({ source: WALK, inputs: [], level: 'x' }), { session: null, ...nothing('bad-level 0') });
