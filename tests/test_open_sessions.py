@@ -4,6 +4,7 @@ import os
 import signal
 import sys
 import time
+import tracemalloc
 import unittest
 from argparse import Namespace
 from random import Random
@@ -21,6 +22,9 @@ DAY = (TOP / "examples/day/game.txt").read_text(encoding="utf-8")
 # A game in which a press to the left never comes to rest.
 ENDLESS = DAY.replace("[ > Player | Crate ] -> [ > Player | > Crate ]", "[ > Player | Crate ] -> [ > Player | > Crate ]\n[ left Player ] -> [ left Player ] again\nlate [ Player | ] -> [ | Player ]")
 KEYS = (0, 1, 2, 3, 4, "undo", "restart", "tick")
+# A game whose frames are long, by the name of its player.
+LETTERS = 100_000
+LONG = f"title long\nOBJECTS\nBackground .\nred\n{'n' * LETTERS} p\nred\nLEGEND\nPlayer = p\nCOLLISIONLAYERS\nBackground\np\nRULES\nWINCONDITIONS\nLEVELS\np.\n"
 
 
 def in_node() -> str:
@@ -88,11 +92,11 @@ class OpenSessions(InARoom):
         with play.kept_open():
             for key in (3, 1, 0, "undo", 2, 1):
                 play.press(key)
-            open_inputs, open_frames = list(play.inputs), list(play.frames)
+            found = list(play.inputs), play.count, play.last
         whole = self.play(source)
         for key in (3, 1, 0, "undo", 2, 1):
             whole.press(key)
-        self.assertEqual((open_inputs, open_frames), (whole.inputs, whole.frames))
+        self.assertEqual(found, (whole.inputs, whole.count, whole.last))
 
     def test_where_node_is_lost_all_is_played_whole(self):
         play = self.play()
@@ -104,7 +108,20 @@ class OpenSessions(InARoom):
             self.assertIsNone(play.session)
             play.press("undo")
         self.assertEqual(play.inputs, [3, 1, "undo"])
-        self.assertEqual(play.frames, self.shown(play.inputs))
+        shown = self.shown(play.inputs)
+        self.assertEqual((play.count, play.last), (len(shown), shown[-1]))
+
+    def test_a_frame_takes_no_memory_behind_the_next(self):
+        play = self.play(LONG)
+        with play.kept_open():
+            play.press(3)
+            tracemalloc.start()
+            self.addCleanup(tracemalloc.stop)
+            for key in (1, 3) * 10:
+                play.press(key)
+            kept, _ = tracemalloc.get_traced_memory()
+        self.assertGreater(len(play.last.level), LETTERS)
+        self.assertLess(kept, 5 * LETTERS)
 
     def shown(self, inputs):
         return shown_beyond(self.entry(inputs=inputs), 0, Engine()).frames

@@ -33,7 +33,7 @@ from saxtegun.games import game_of
 from saxtegun.keyboard import DRAW, keyboard, pass_over
 from saxtegun.levels import Labels, in_rows, read_cells, width_of
 from saxtegun.levelsets import count_of_levels, entries_of_levels
-from saxtegun.lines import Frame, Run
+from saxtegun.lines import Run
 from saxtegun.open_sessions import Closed, OpenSession, opened
 from saxtegun.playing import Engine, runs_of, shown_beyond
 from saxtegun.sessions import Entry, Input, Sessions, check_name, guard_size, read_or_new, with_more
@@ -89,7 +89,7 @@ def guard_saving(name: str, path: str) -> None:
 
 
 class Play:
-    """A game while it is played: the inputs so far, and what they show."""
+    """A game while it is played: the inputs so far, how many frames they show, and the last of these. Those before it are not held: there may be many, and large ones."""
 
     def __init__(self, given: Namespace) -> None:
         self.given, self.source = given, read_text(given.game).lstrip(MARK)
@@ -100,13 +100,12 @@ class Play:
         self.index = places[given.level - 1] if places else 0
         self.engine = Engine(program=given.program, has_ticks=given.ticks_as_recorded)
         self.inputs: List[Input] = []
-        self.frames: List[Frame] = []
         self.session: Optional[OpenSession] = None
         run = runs_of([self.entry()], Sessions(given.game, "", []), self.engine)[0]
         if run.cause is not None:
             sentence, below = told(run, self.entry(), game=given.game)
             raise Refused(f"{given.game} is not played: {sentence}" + (f": {below[0]}" if below else ""))
-        self.frames = run.frames
+        self.count, self.last = len(run.frames), run.frames[-1]
 
     def entry(self, level: str = "") -> Entry:
         return Entry(0, "play", self.source, self.inputs, level, self.index, {}, False)
@@ -120,7 +119,7 @@ class Play:
         if run.cause:
             return f"{cause_told(run.cause)}: the key is left out"
         self.inputs.append(key)
-        self.frames += run.frames
+        self.count, self.last = self.count + len(run.frames), [self.last, *run.frames][-1]
         kinds = [it.kind for it in run.frames]
         return "solved: all levels" if "over" in kinds else "the next level" if "load" in kinds else ""
 
@@ -135,7 +134,7 @@ class Play:
         except Closed:
             self.session = None
         longer = self.entry()._replace(inputs=[*self.inputs, key])
-        return shown_beyond(longer, len(self.frames), self.engine._replace(workers=1))
+        return shown_beyond(longer, self.count, self.engine._replace(workers=1))
 
     @contextmanager
     def kept_open(self) -> Iterator[None]:
@@ -157,7 +156,7 @@ class Play:
 
     def level_in(self, screen: Optional[Screen]) -> List[str]:
         """The level that is reached, in a terminal or as plain letters."""
-        text, labels = self.frames[-1].level, Labels()
+        text, labels = self.last.level, Labels()
         cells = read_cells(text, labels)
         if cells is None:
             return ["a name of an object holds a comma, so the level can't be drawn"]
@@ -167,7 +166,7 @@ class Play:
 
     def save(self, name: str, path: str) -> None:
         """Adds what was played to a file, or where that fails writes it to standard output: it is lost in no case."""
-        entry = json.dumps([name, ["", self.inputs, self.frames[-1].level, self.index]], ensure_ascii=False, separators=(",", ":"))
+        entry = json.dumps([name, ["", self.inputs, self.last.level, self.index]], ensure_ascii=False, separators=(",", ":"))
         try:
             append(path, entry)
         except Refused as why:
