@@ -10,20 +10,25 @@ const CLOSE_LETTER = 0x63; // a close begins with its cause or itself, and a fra
 
 const isCount = (value) => Number.isInteger(value) && value >= 0;
 
+// Where a line ends.
+export function endOfLine(bytes, begin) {
+  const at = bytes.indexOf(NEW_LINE, begin);
+  return at < 0 ? bytes.length : at;
+}
+
 // The lines of bytes as spans.
-export function* spansOf(bytes) {
-  for (let begin = 0; begin < bytes.length;) {
-    const at = bytes.indexOf(NEW_LINE, begin), end = at < 0 ? bytes.length : at;
+function* spansOf(bytes) {
+  for (let begin = 0, end; begin < bytes.length; begin = end + 1) {
+    end = endOfLine(bytes, begin);
     yield [begin, end];
-    begin = end + 1;
   }
 }
 
 // The runs in lines that the page's own engine wrote: how each session closed, and where its lines stand. Its frames are read by framesIn.
 export function runsOf(bytes) {
   const runs = [], decoder = new TextDecoder();
-  let first = 0;
-  for (const [begin, end] of spansOf(bytes)) {
+  for (let begin = 0, first = 0, end; begin < bytes.length; begin = end + 1) {
+    end = endOfLine(bytes, begin);
     if (bytes[begin + 2] !== CLOSE_LETTER) continue;
     const { name, close, cause = null, frames } = JSON.parse(decoder.decode(bytes.subarray(begin, end)));
     runs.push({ name, close, cause, count: frames, begin: first, end: begin });
