@@ -60,13 +60,14 @@ export function followed(state) {
 
 export const filed = (state) => ({ ...state, isUnsaved: false });
 
-// Another file takes the place of the one that is open, or none.
+// Another file takes the place of the one that is open, or none. Where it has one session, that is opened at once, and played while the file is.
 export function withOtherFile(state, file) {
   const work = { ...state.work, opened: null }, own = file === null ? null : theOneText(file);
   const isUntouched = state.text.trim() === "" || state.text === state.example;
   const taken = own !== null && isUntouched && work.own === null ? { text: own } : {};
   const next = { ...state, ...taken, file, work, isUnsaved: false, suite: null, good: null, seen: new Map(), comparison: null, isHeld: false, isNew: file !== null, tab: "sessions", told: null, saved: "", since: null };
-  return remembering(state, next);
+  const taking = remembering(state, next);
+  return file?.entries.length === 1 ? sessionOpened(taking, 0) : taking;
 }
 
 // Adds recordings that were found in a text: those that aren't there yet. What was skipped beside them is told.

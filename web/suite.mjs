@@ -102,12 +102,16 @@ function mayMakeWay(state) {
   return work.inputs.length === 0 && work.name === "" && file !== null;
 }
 
+// Whether a session was opened, and something was done with it since.
+const isGoneOnWith = (state) => state.work.opened !== null && (!isSessionOpen(state) || state.queue.length > 0);
+
 const isBroken = ({ close }) => close === "differs" || close === "stopped";
 
-// Opens what is to be looked at once all is played: of a file that was just opened the first failure, and else the first that broke.
+// Opens what is to be looked at once all is played: of a file that was just opened the first failure, unless its one session was opened at once and gone on
+// with; and else the first that broke.
 function showingFailure(state) {
   const { isNew, work, suite } = state, next = { ...state, isNew: false };
-  if (isNew) return suite.runs.length === 0 ? next : sessionOpened(next, Math.max(0, rowsOf(next).findIndex(isFailure)));
+  if (isNew) return suite.runs.length === 0 || isGoneOnWith(next) ? next : sessionOpened(next, Math.max(0, rowsOf(next).findIndex(isFailure)));
   if (work.opened !== null && isBroken(suite.runs[work.opened])) return { ...next, since: isSessionOpen(next) ? changeOf(next, work.opened) : null };
   const first = suite.runs.findIndex((run, number) => isBroken(run) && state.good?.runs[number]?.close === "passed");
   return first < 0 || !mayMakeWay(next) ? next : sessionOpened(next, first);

@@ -175,6 +175,20 @@ it("the first session that breaks is shown where nothing is in the way, and else
   assert.deepEqual([bench.state.work.inputs, bench.state.work.opened, tabTold(bench.state)], [[3], null, "Sessions: 1 differs"]);
 });
 
+it("a file of one session is opened at once, is looked at from its start where it passes, and what is done with it meanwhile stays", async () => {
+  const [name, [, inputs, level, index]] = DAY[0];
+  for (const [recorded, looked] of [[level, 0], ["background:0,\n", null]]) {
+    const bench = new Bench(), file = fileOf([[name, ["", inputs, recorded, index]]]), state = withOtherFile(bench.state, file);
+    assert.deepEqual([state.work.opened, state.work.inputs, state.isNew], [0, inputs, true]);
+    await bench.act(withOtherFile, file);
+    assert.deepEqual([bench.state.work.opened, bench.state.looked, bench.state.isNew, bench.state.past.length], [0, looked, false, 0]);
+  }
+  const bench = new Bench();
+  bench.runner.update((state) => withOtherFile(state, fileOf([[name, ["", inputs, level, index]]])));
+  await bench.act((state) => pressed(state, 3));
+  assert.deepEqual([bench.state.work.inputs.slice(0, inputs.length), bench.state.work.inputs.length > inputs.length, bench.state.isNew], [inputs, true, false]);
+});
+
 it("Play all shows the first that doesn't pass", async () => {
   const bench = new Bench();
   await bench.act(withOtherFile, new SessionFile("block-pushing.json", new Uint8Array(read("examples/block-pushing.json"))));
