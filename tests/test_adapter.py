@@ -146,10 +146,10 @@ class Adapter(OnSessions):
         self.assertEqual(node(ENGINE, stdin=b"[]".ljust(2**24)).returncode, 0)
 
     def test_an_engine_that_throws_has_no_answer(self):
-        sessions = self.write("sessions.json", json.dumps([["no source", ["", [], ""]]]))
+        sessions = self.write("sessions.json", json.dumps([["another source", ["", [], ""]]]))
         answer = run("test", sessions, "--program", ENGINE)
         self.assertEqual((answer.status, answer.out), (2, ""))
-        self.assertIn("sessions.json was not played: the engine failed: Cannot read", answer.errors.splitlines()[-1])
+        self.assertIn("sessions.json was not played: the engine failed: this engine plays one game alone", answer.errors.splitlines()[-1])
 
 
 @unittest.skipUnless(NODE, "node is not there")

@@ -2,19 +2,25 @@
 "use strict";
 // How an engine is plugged in: a player who pushes crates, in the game of examples/block-pushing.json and in no other.
 
+const { readFileSync } = require("fs");
+const { join } = require("path");
 const { serve } = require("./program.js");
 
+const [[, [SOURCE]]] = JSON.parse(readFileSync(join(__dirname, "../../examples/block-pushing.json"), "utf8"));
 const STEPS = [[0, -1], [-1, 0], [0, 1], [1, 0]];
 const GLYPHS = {
-  ".": [], "#": ["wall"], p: ["player"], "*": ["crate"], "@": ["crate", "target"], o: ["target"],
+  ".": [], "#": ["wall"], P: ["player"], "*": ["crate"], "@": ["crate", "target"], O: ["target"],
 };
+const DRAWN = [
+  "####.. #.O#.. #..### #@P..# #..*.# #..### ####..",
+  "###### #....# #.#P.# #.*@.# #.O@.# #....# ######",
+];
 
-// The levels of a source, each as columns of cells, which are sets of names.
-function levelsOf(source) {
-  const blocks = source.split("LEVELS\n=======\n")[1].trim().split("\n\n");
-  return blocks.map((block) => {
-    const rows = block.split("\n");
-    return Array.from(rows[0], (_, column) => rows.map((row) => new Set(["background", ...GLYPHS[row[column].toLowerCase()]])));
+// The levels of the game, each as columns of cells, which are sets of names.
+function levels() {
+  return DRAWN.map((drawn) => {
+    const rows = drawn.split(" ");
+    return Array.from(rows[0], (_, column) => rows.map((row) => new Set(["background", ...GLYPHS[row[column]]])));
   });
 }
 
@@ -41,8 +47,9 @@ function pushed(before, [across, down]) {
 const isSame = (one, other) => one.every((column, x) => column.every((cell, y) => cell.size === other[x][y].size && [...cell].every((it) => other[x][y].has(it))));
 
 serve((entry, frame) => {
-  const levels = levelsOf(entry.source).slice(entry.index);
-  let level = levels.shift();
+  if (entry.source !== SOURCE) throw new Error("this engine plays one game alone, that of examples/block-pushing.json");
+  const ahead = levels().slice(entry.index);
+  let level = ahead.shift();
   let past = [];
   frame(0, "start", shown(level));
   entry.inputs.forEach((input, taken) => {
@@ -55,8 +62,8 @@ serve((entry, frame) => {
     level = pushed(before, STEPS[input]);
     if (!isSame(before, level)) past.push(before);
     frame(taken + 1, "move", shown(level));
-    if (levels.length > 0 && isSolved(level)) {
-      level = levels.shift();
+    if (ahead.length > 0 && isSolved(level)) {
+      level = ahead.shift();
       past = [];
       frame(taken + 1, "load", shown(level));
     }
