@@ -130,7 +130,7 @@ class OpenSessions(InARoom):
         for written in (b"", b"no line", b"no JSON\n", b"{}\n", b'{"at":0}\n', b'{"fault":"memory"}\n'):
             answered = self.room / "answered"
             answered.write_bytes(written)
-            with self.subTest(written), answered.open("rb") as lines, (self.room / "asked").open("wb") as asked, self.assertRaises(Refused):
+            with self.subTest(written), answered.open("rb") as lines, (self.room / "asked").open("wb") as asked, self.assertRaises(Closed):
                 OpenSession("play", asked, lines).give(3)
 
     def test_nothing_is_open_where_another_program_plays_or_the_game_is_refused(self):

@@ -51,11 +51,12 @@ class OpenSession:
             frames.append(frame)
 
     def ask(self, what: object) -> Run:
+        """What a line of its input is answered. Closed where no answer comes, or one that is none."""
         try:
             self.asked.write(json.dumps(what).encode() + b"\n")
             self.asked.flush()
             return self.answer()
-        except (OSError, ValueError) as why:
+        except (OSError, ValueError, Refused) as why:
             raise Closed(str(why)) from None
 
     def give(self, key: Input) -> Run:
