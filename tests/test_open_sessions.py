@@ -98,6 +98,15 @@ class OpenSessions(InARoom):
             whole.press(key)
         self.assertEqual(found, (whole.inputs, whole.count, whole.last))
 
+    def test_a_key_beyond_the_most_inputs_is_left_out(self):
+        play = self.play()
+        with play.kept_open():
+            play.session.ask([3, 1] * 32_767 + [3])
+            play.inputs = [3, 1] * 32_767 + [3]
+            self.assertEqual(play.press(1), "")
+            self.assertEqual(play.press(3), "a recording has 65,536 inputs at most: the key is left out")
+        self.assertEqual(len(play.inputs), 65_536)
+
     def test_where_node_is_lost_all_is_played_whole(self):
         play = self.play()
         with mock.patch.object(open_sessions, "started", side_effect=open_sessions.started) as started, play.kept_open():

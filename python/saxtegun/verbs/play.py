@@ -37,6 +37,7 @@ from saxtegun.lines import Run
 from saxtegun.open_sessions import Closed, OpenSession, opened
 from saxtegun.playing import Engine, runs_of, shown_beyond
 from saxtegun.sessions import Entry, Input, Sessions, check_name, guard_size, read_or_new, with_more
+from saxtegun.solutions import MOST_INPUTS
 from saxtegun.terminal import CLEAR, KEYS, Screen, fitted, lettered, screen_now
 
 USAGE = "play GAME.txt [--level N] [--save NAME SESSIONS.json] [--letters]"
@@ -115,6 +116,8 @@ class Play:
         switch = game_of(self.source).switches.get(key)
         if switch is not None:
             return f"the game has {switch}: the key is left out"
+        if len(self.inputs) >= MOST_INPUTS:
+            return f"a recording has {MOST_INPUTS:,} inputs at most: the key is left out"
         run = self.shown_with(key)
         if run.cause:
             return f"{cause_told(run.cause)}: the key is left out"
