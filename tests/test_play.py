@@ -183,6 +183,25 @@ class DayOfTerminals(OfAGame):
         self.assertIn(" icanon", window.until("over"))
 
 
+    def test_a_window_that_is_closed_saves_what_was_played(self):
+        suite, errors = self.room / "mine.json", self.room / "errors"
+        words = shlex.join([*map(str, (sys.executable, TOP / "saxtegun", "play", self.game, "--save", "mine", suite))])
+        window = Window(80, 30, f"exec {words} 2>'{errors}'")
+        window.until("q ends")
+        window.press(b"d")
+        window.until("1 input")
+        os.close(window.end)
+        self.assertEqual(os.waitstatus_to_exitcode(os.waitpid(window.pid, 0)[1]), 0)
+        self.assertEqual(errors.read_text(), f"play: mine: 1 input saved in {suite}\n")
+
+    def test_keys_that_come_with_a_larger_window_are_played(self):
+        window = self.window(80, 30)
+        window.until("q ends")
+        window.resize(90, 30)
+        window.press(b"da" * 10)
+        window.until("20 inputs")
+
+
 class Terminal(OfAGame):
     LOOK = "OBJECTS\nBackground .\n#112233\n\nPlayer p\n#fff transparent\n0....\n.1...\n.....\n.....\n....0\n\nWall #\nred\n\nMark\nblue\n\nLEGEND\nCOLLISIONLAYERS\nBackground\nPlayer, Wall\nMark\n"
 

@@ -478,6 +478,42 @@ class Ends(Programs):
                 self.wait_for(lambda: len(self.numbers()) == 2)
                 self.assert_ends(ran, number)
 
+    def test_a_review_that_is_ended_keeps_its_answers_and_leaves_no_folder(self):
+        """It waits for an answer while the lines that it reads are held. Ctrl-C leaves the file as it was, and says so."""
+        stale = json.loads(EXAMPLE.read_text(encoding="utf-8"))[-1]
+        before = json.dumps([stale, stale])
+        program = self.program(f"cat '{self.write('lines', lines_of_example(before))}'\nexit 1")
+        for number in (signal.SIGTERM, signal.SIGHUP, signal.SIGINT):
+            suite = self.write("stale.json", before)
+            with self.subTest(number), self.started("accept", suite, "--review", "--in-place", "--program", program, stdin=subprocess.PIPE) as ran:
+                told = self.told_up_to(ran, b"accept it?")
+                ran.stdin.write(b"y\n")
+                ran.stdin.flush()
+                told += self.told_up_to(ran, b"accept it?")
+                ran.send_signal(number)
+                told += ran.stderr.read()
+                self.assertEqual(ran.wait(timeout=20), 2 if number == signal.SIGINT else -number)
+                self.assertEqual((list(self.folder.iterdir()), b"Traceback" in told, b"nothing is changed" in told), ([], False, number == signal.SIGINT))
+                first, second = json.loads(suite.read_text(encoding="utf-8"))
+                self.assertEqual((first == stale, second == stale), (number == signal.SIGINT, True))
+
+    def told_up_to(self, ran, words):
+        told = b""
+        while words not in told:
+            told += os.read(ran.stderr.fileno(), 1) or self.fail(told)
+        return told
+
+    def test_a_comparison_of_two_texts_leaves_no_folder(self):
+        """The lines of the first text are held while the second is played."""
+        program = self.program(f"if [ -e '{self.room}/played' ]; then echo $$ >>numbers; exec sleep 1000; fi\ntouch '{self.room}/played'\ncat '{self.lines}'\nexit 1")
+        texts = [self.write(name, "OBJECTS\n") for name in ("one.txt", "other.txt")]
+        for number in (signal.SIGTERM, signal.SIGHUP, signal.SIGINT):
+            for name in ("numbers", "played"):
+                (self.room / name).unlink(missing_ok=True)
+            with self.subTest(number), self.started("compare", "--sources", *texts, EXAMPLE, "--program", program) as ran:
+                self.wait_for(self.numbers)
+                self.assert_ends(ran, number)
+
     def test_whoever_is_impatient_leaves_no_program_behind(self):
         for words in (("test", EXAMPLE), ("coverage", EXAMPLE), ("lines", EXAMPLE)):
             (self.room / "numbers").unlink(missing_ok=True)

@@ -1,5 +1,6 @@
 """`saxtegun source` and `saxtegun accept`: an edited game under old recordings, and what it reaches as the new ones."""
 import json
+import os
 import subprocess
 import sys
 import unittest
@@ -129,6 +130,12 @@ class Accept(OnSessions):
             self.assertEqual(ran.returncode, 0)
             self.assertIn("    | reached    recorded\n", ran.stderr.decode())
             self.assertIn(f"{changed} of 5 recorded levels changed", ran.stderr.decode())
+
+    def test_an_answer_that_is_no_text_is_asked_for_again(self):
+        env = {**os.environ, "PYTHONIOENCODING": "utf-8:strict"}
+        ran = subprocess.run([sys.executable, TOP / "saxtegun", "accept", EXAMPLE, self.lines, "--review"], input=b"\xff\ny\n", env=env, stdout=subprocess.PIPE, stderr=subprocess.PIPE)
+        self.assertEqual((ran.returncode, ran.stderr.count(b"accept it?")), (0, 2))
+        self.assertIn(b"1 of 5 recorded levels changed", ran.stderr)
 
     def test_a_level_that_can_not_be_read_back_is_not_accepted(self):
         sessions = self.write("sessions.json", '[["comma", ["", [], "a:0,"]]]')

@@ -138,6 +138,8 @@ def failure_told(why: OSError) -> str:
     """What failed, of which nobody else has said more."""
     if why.filename:
         return f"{why.filename} can't be read or written: {why.strerror}"
+    if str(why.strerror).startswith("No usable temporary"):
+        return "no folder for temporary files can be written; TMPDIR may name one"
     return "the working folder isn't there any more" if isinstance(why, FileNotFoundError) else f"writing failed: {why.strerror}"
 
 
@@ -180,9 +182,10 @@ def come_again(may_come: Callable[[], bool], why: BaseException) -> None:
 
 
 def come_no_more() -> None:
-    """What ends this process has been heard."""
+    """What ends this process has been heard. Nothing of it is held, so what stood still where it came can be tidied up."""
     if hasattr(signal, "setitimer"):
         signal.setitimer(signal.ITIMER_REAL, 0)
+        signal.signal(signal.SIGALRM, signal.SIG_IGN)
 
 
 def hear_again(unheard: Any) -> None:
@@ -243,6 +246,9 @@ def open_streams(name: str, is_data: bool) -> None:
             stream.reconfigure(encoding="utf-8", newline="\n", errors="backslashreplace")
             if is_log(stream) and not (is_data and which == "stdout"):
                 setattr(sys, which, Log(stream))
+    if hasattr(sys.stdin, "reconfigure"):
+        # what is typed may be anything
+        sys.stdin.reconfigure(encoding="utf-8", errors="replace")
     if sys.stderr is None:
         # the lowest number that is free is that of what is closed
         sys.stderr = open(os.devnull, "w", encoding="utf-8")

@@ -6,7 +6,7 @@ import os
 import select
 import signal
 import sys
-from contextlib import contextmanager
+from contextlib import contextmanager, suppress
 from typing import Any, Iterator, List
 
 # No key: the terminal has to be drawn anew.
@@ -56,10 +56,13 @@ class Terminal(Keyboard):
         self.take()
 
     def take(self) -> None:
-        self.tty.setcbreak(0)
+        """Has each key told, also those that were pressed before. A terminal may be gone by now."""
+        with suppress(self.termios.error):
+            self.tty.setcbreak(0, self.termios.TCSADRAIN)
 
     def give_back(self) -> None:
-        self.termios.tcsetattr(0, self.termios.TCSADRAIN, self.before)
+        with suppress(self.termios.error):
+            self.termios.tcsetattr(0, self.termios.TCSADRAIN, self.before)
 
     def end(self) -> None:
         self.give_back()

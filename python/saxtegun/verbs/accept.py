@@ -29,9 +29,10 @@ from __future__ import annotations
 
 import sys
 from argparse import ArgumentParser, Namespace
-from typing import Dict, List, Mapping, Optional, Sequence, Tuple, Union
+from contextlib import contextmanager
+from typing import Dict, Iterator, List, Mapping, Optional, Sequence, Tuple, Union
 
-from saxtegun.commands import Refused, add_game, add_playing, add_ticks, plural, printable, say, seconds_in
+from saxtegun.commands import Ended, Refused, add_game, add_playing, add_ticks, plural, printable, say, seconds_in
 from saxtegun.descriptions import expect
 from saxtegun.explanations import UNREADABLE, Ending, heading, source_told, told
 from saxtegun.files import guard_output, guard_places, write_again
@@ -105,6 +106,21 @@ def write(sessions: Sessions, changes: Mapping[int, Tuple[str, Union[str, int]]]
         write_again(given.sessions, sessions.text, new)
 
 
+@contextmanager
+def reviewed(sessions: Sessions, changes: Mapping[int, Tuple[str, Union[str, int]]], given: Namespace) -> Iterator[None]:
+    """Writes what was accepted by then where a review is ended, as by a window that is closed. Ctrl-C leaves the file as it was."""
+    try:
+        yield
+    except Ended:
+        if given.review and given.in_place:
+            write(sessions, changes, given)
+        raise
+    except KeyboardInterrupt:
+        if given.review:
+            say("accept: stopped, so nothing is changed; q ends with what was accepted before")
+        raise
+
+
 def reindex(sessions: Sessions, wanted: Sequence[Entry], given: Namespace) -> int:
     """Sets the indices with which recordings pass again."""
     found = reindexed(wanted, sessions, engine_of(given), given.within)
@@ -142,7 +158,7 @@ def main(given: Namespace) -> int:
     changes: Dict[int, Tuple[str, str]] = {}
     said: List[str] = []
     failed, late = False, False
-    with lines_or_played(sessions, given.lines, engine_of(given), is_drawn=True) as runs:
+    with reviewed(sessions, changes, given), lines_or_played(sessions, given.lines, engine_of(given), is_drawn=True) as runs:
         for run in runs:
             if run.number not in wanted or run.close == "passed":
                 continue

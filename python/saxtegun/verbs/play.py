@@ -36,7 +36,7 @@ from saxtegun.levelsets import count_of_levels, entries_of_levels
 from saxtegun.lines import Run
 from saxtegun.open_sessions import Closed, OpenSession, opened
 from saxtegun.playing import Engine, runs_of, shown_beyond
-from saxtegun.sessions import Entry, Input, Sessions, check_name, guard_size, read_or_new, with_more
+from saxtegun.sessions import MOST_BYTES, Entry, Input, Sessions, check_name, guard_size, read_or_new, with_more
 from saxtegun.solutions import MOST_INPUTS
 from saxtegun.terminal import CLEAR, KEYS, Screen, fitted, lettered, screen_now
 
@@ -173,7 +173,8 @@ class Play:
         try:
             append(path, entry)
         except Refused as why:
-            raise Refused(f"{why}; what was played {handed_out(entry)}: keep it, and call saxtegun add") from None
+            advice = "keep it, and call saxtegun add" if len(entry.encode()) < MOST_BYTES else f"no sessions file takes it, which has {MOST_BYTES // 2**20} MiB at most"
+            raise Refused(f"{why}; what was played {handed_out(entry)}: {advice}") from None
         say(f"play: {name}: {plural(len(self.inputs), 'input')} saved in {path}")
 
 
