@@ -31,8 +31,8 @@ function wanted(isSo) {
 const isText = (value) => typeof value === "string";
 const isWhole = (value) => Number.isSafeInteger(value) && value >= 0;
 
-// Whether a value is a list of such things; of one with gaps they are no things.
-const isListOf = (value, isOne) => Array.isArray(value) && [...value].every(isOne);
+// Whether a value is a list of such things. It is gone through no further than its first gap: one of gaps alone may have any length.
+const isListOf = (value, isOne) => Array.isArray(value) && value.findIndex((one) => !isOne(one)) < 0;
 
 const isKeptInput = (input) => ["undo", "restart", "tick"].includes(input) || (isWhole(input) && input <= 4);
 
@@ -74,7 +74,7 @@ export function stateFrom(value, example) {
     const { version, text, order, work, queue = [], file: bytes, isUnsaved, past, tab, isTicked, isBusy } = value.version === undefined ? fromFirst(value) : value;
     wanted(version === VERSION && isText(text) && ORDERS_OF_CELLS.includes(order) && Array.isArray(past));
     const file = fileFrom(bytes);
-    return { ...beginning(example), text, order, work: workFrom(work, file), queue: queueFrom(queue), file, isUnsaved: Boolean(isUnsaved), past: Array.from(past, lostFrom).slice(-MOST_PAST), tab: tab === "sessions" ? tab : "game", isTicked: Boolean(isTicked), isHeld: Boolean(isBusy) };
+    return { ...beginning(example), text, order, work: workFrom(work, file), queue: queueFrom(queue), file, isUnsaved: Boolean(isUnsaved), past: Array.from(past.slice(-MOST_PAST), lostFrom), tab: tab === "sessions" ? tab : "game", isTicked: Boolean(isTicked), isHeld: Boolean(isBusy) };
   } catch {
     return null;
   }

@@ -357,6 +357,11 @@ it("what can't be read, or has another version, leaves a page that works", async
   assert.deepEqual(stateOfVisit([{ name: "one", value: {} }], GAME).state, beginning(GAME));
 });
 
+it("a list of gaps alone, which takes no room in the store, takes none as it is read", async () => {
+  const { kept } = await withPush(), gaps = Object.assign([], { length: 300_000_000 });
+  for (const strange of [{ work: { ...kept.work, inputs: gaps } }, { queue: gaps }, { past: gaps }]) assert.equal(stateFrom({ ...kept, ...strange }, GAME), null);
+});
+
 it("of thousands of recordings over one text that text is kept once, and the file is there again byte for byte", async () => {
   const bench = new Bench(), entries = Array.from({ length: 3000 }, (_, number) => [`s${number}`, [BROKEN, [number % 4], "background:0,", 0]]), file = fileOf(entries);
   bench.runner.update((state) => ({ ...withOtherFile(state, file), isHeld: true }));
