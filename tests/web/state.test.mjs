@@ -420,6 +420,20 @@ it("what a closed tab left can be put back in the one that goes on", async () =>
   assert.deepEqual([bench.state.text, bench.state.work.inputs], [GAME, [1, 2]]);
 });
 
+it("a visit after one that ended while a file was played is held, unless that took but a moment", async () => {
+  const bench = new Bench(), { playAll } = bench.engine;
+  let end = () => {};
+  const ended = new Promise((settle) => { end = settle; });
+  bench.engine.playAll = (...words) => ended.then(() => playAll(...words));
+  bench.runner.update((state) => withOtherFile(state, fileOf(DAY)));
+  const kept = [bench.kept.isBusy];
+  for (let count = 0; count < 1000 && !bench.kept.isBusy; count += 1) await new Promise((settle) => setTimeout(settle, 10));
+  kept.push(bench.kept.isBusy);
+  end();
+  await bench.runner.idle();
+  assert.deepEqual([...kept, bench.kept.isBusy, closes(bench.state).includes(null)], [false, true, false, false]);
+});
+
 it("a visit after one that ended while something was played begins with the text, and plays nothing until it is asked for", async () => {
   const bench = await played(1);
   bench.kept.isBusy = true;
