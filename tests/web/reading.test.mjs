@@ -113,6 +113,17 @@ test("a frame or a line that has more than is read at once is refused, and what 
   assert.throws(() => atOnce(readingRuns(text, 1)), { message: "line 1 has more than 16 MiB, and is not read" });
 });
 
+it("of more lines than are wanted none are held, and where those of one session are more than a worker's share, one plays after the other", async () => {
+  const entries = [["long", new Array(200).fill(1)], ["b", [1]], ["c", [2]], ["d", [3]]].map(([name, inputs]) => [name, [GAME, inputs, "", 0]]), bytes = JSON.stringify(entries), { lines } = module.replay(bytes);
+  for (const workers of [1, 3]) {
+    const told = [], played = async (most) => module.replayInWorkers(bytes, { workers, most, progress: (...words) => told.push(words) });
+    const whole = await played(lines.length);
+    assert.deepEqual([Buffer.from(whole.lines).equals(lines), whole.fault, told.at(-1)], [true, null, [4, 4]]);
+    assert.deepEqual([(await played(lines.length - 1)).fault, (await played(1000)).fault], ["memory", "memory"]);
+  }
+  assert.deepEqual([module.replay(bytes, { most: lines.length }).fault, module.replay(bytes, { most: lines.length - 1 }).fault], [null, "memory"]);
+});
+
 test("how far what comes is read is said where it takes long", () => {
   assert.deepEqual([null, { isSlow: false }, { what: "Comparing sessions", isSlow: true, done: 3, total: 70 }].map((reading) => readingTold(reading)?.text ?? null), [null, null, "Comparing sessions: 3 of 70."]);
 });
