@@ -185,7 +185,12 @@ export interface OpenSession {
   close(): void;
 }
 
-export interface WorkerOptions extends Options {
+export interface PlayOptions extends Options {
+  /** How many bytes the lines may have; of more the answer is `memory`. As many as there is memory for where it is left out. */
+  most?: number;
+}
+
+export interface WorkerOptions extends PlayOptions {
   /** How many workers play at once, 1 to 64; where it is left out, one fewer than there are processors. */
   workers?: number;
   /** Is told now and then how many sessions of how many were played; in a file that isn't cut, that is one of one. */
@@ -196,7 +201,7 @@ export interface WorkerOptions extends Options {
 
 export interface Engine {
   /** Plays a file in the calling thread. Each call is answered; one that can't be is `memory` or `broken`. */
-  replay(text: string | ArrayBuffer | ArrayBufferView, options?: Options): Answer;
+  replay(text: string | ArrayBuffer | ArrayBufferView, options?: PlayOptions): Answer;
   /**
    * Plays one session from its start, for a player that presses one key after another: its close, and of its frames those that were shown after `from` inputs or
    * more; all, where that is left out. `from` is a whole number from 0 on. The module itself leaves the others out. Where there is a fault, there are neither.

@@ -97,9 +97,10 @@ class Instance {
   #room = { at: 0, size: 0 };
   #held = null;
 
-  constructor(module) {
+  /** With room for so many bytes of lines, where fewer than usual are wanted at most. */
+  constructor(module, most = ROOM) {
     this.#exports = new WebAssembly.Instance(module).exports;
-    for (let size = ROOM; size >= LEAST_ROOM && !this.#room.at; size = size / 2 - 8) this.#room = this.#take(size);
+    for (let size = Math.max(LEAST_ROOM, Math.min(ROOM, most)); size >= LEAST_ROOM && !this.#room.at; size = size / 2 - 8) this.#room = this.#take(size);
   }
 
   isLarge() {
@@ -111,14 +112,15 @@ class Instance {
     return { at: this.#exports.take_room(size) >>> 0, size };
   }
 
-  /** Asks a function of the module about a file or a source, once again where the room was too small for the lines. */
-  ask(file, call) {
+  /** Asks a function of the module about a file or a source, once again where the room was too small for the lines, unless these are more than so many bytes. */
+  ask(file, call, most) {
     const input = this.#take(file.length);
     const outcome = this.#take(OUTCOME_BYTES);
     if (!input.at || !outcome.at || !this.#room.at) return refused('memory');
     new Uint8Array(this.#exports.memory.buffer, input.at, input.size).set(file);
     const asked = () => Number(call(this.#exports, input, this.#room, outcome.at));
     let count = asked();
+    if (count > most) return { ...refused('memory'), size: count };
     if (count > this.#room.size) {
       this.#exports.give_back_room(this.#room.at);
       this.#room = this.#take(count);
@@ -298,10 +300,10 @@ class Engine {
     this.#worker = worker;
   }
 
-  replay(text, { order = 'columns' } = {}) {
+  replay(text, { order = 'columns', most = Infinity } = {}) {
     const number = numberOf(order);
     return this.#ask(text, (exports, input, room, outcome) =>
-      exports.saxtegun_lines(input.at, BigInt(input.size), number, room.at, BigInt(room.size), outcome));
+      exports.saxtegun_lines(input.at, BigInt(input.size), number, room.at, BigInt(room.size), outcome), most);
   }
 
   frames(session, { order = 'columns', from = 0 } = {}) {
@@ -404,7 +406,7 @@ class Engine {
     return { solution: answer?.solution ?? null, fault };
   }
 
-  async replayInWorkers(text, { order = 'columns', workers = idleProcessors(), progress = () => {}, signal } = {}) {
+  async replayInWorkers(text, { order = 'columns', workers = idleProcessors(), progress = () => {}, signal, most = Infinity } = {}) {
     numberOf(order);
     if (!Number.isInteger(workers) || workers < 1 || workers > MOST_WORKERS) throw new TypeError(`there are 1 to ${MOST_WORKERS} workers`);
     const file = bytesOf(text)?.slice() ?? null; // what is handed in may be changed before it is played
@@ -414,7 +416,7 @@ class Engine {
     const end = () => crew.end();
     signal?.addEventListener('abort', end);
     try {
-      const answer = await playWhole(crew, file, order, workers, progress);
+      const answer = await playWhole(crew, file, order, workers, progress, most);
       signal?.throwIfAborted();
       return answer;
     } finally {
@@ -423,14 +425,14 @@ class Engine {
     }
   }
 
-  #ask(text, call) {
+  #ask(text, call, most = Infinity) {
     const file = bytesOf(text);
     if (file === null) return refused('not-json');
     const instance = this.#instance;
     this.#instance = null;
     try {
-      const asked = instance ?? new Instance(this.#module);
-      const answer = asked.ask(file, call);
+      const asked = instance ?? new Instance(this.#module, most);
+      const answer = asked.ask(file, call, most);
       if (answer.fault !== 'memory' && !asked.isLarge()) this.#instance = asked;
       return answer;
     } catch (error) {
@@ -648,11 +650,11 @@ class Thread {
     this.#answer(refused(fault));
   }
 
-  async ask({ file, first }, order) {
+  async ask({ file, first }, order, most) {
     if (this.#isGone) return refused('broken');
     return new Promise(settle => {
       this.#settle = settle;
-      this.#worker.postMessage({ file, first, order });
+      this.#worker.postMessage({ file, first, order, most });
     });
   }
 
@@ -675,17 +677,22 @@ class Crew {
     this.#begin = begin;
   }
 
-  /** Plays parts, each by the first of so many workers that is idle. Once one is refused, no other is begun. */
-  async play(parts, order, count, progress) {
+  /**
+   * Plays parts, each by the first of so many workers that is idle. Once one is refused, no other is begun, also where all lines have more than `most` bytes.
+   */
+  async play(parts, order, count, progress, most) {
     const total = parts.reduce((sum, part) => sum + part.sessions, 0);
     const answers = [];
-    let next = 0, done = 0, isRefused = false;
+    const share = shareOf(most, count);
+    let next = 0, done = 0, size = 0, isRefused = false;
     const work = async () => {
       const worker = await Thread.start(this.#module, this.#begin);
       this.#workers.push(worker);
       while (next < parts.length && !isRefused && !this.#isEnded) {
         const at = next++;
-        answers[at] = await worker.ask(parts[at], order);
+        answers[at] = await worker.ask(parts[at], order, share);
+        size += answers[at].lines.length;
+        if (size > most) answers[at] = { ...refused('memory'), size };
         isRefused ||= answers[at].fault !== null;
         done += parts[at].sessions;
         if (!isRefused) progress(done, total);
@@ -695,27 +702,38 @@ class Crew {
     return answers.filter(Boolean);
   }
 
+  /** Ends the workers that there are, with what they hold. */
+  rest() {
+    for (const worker of this.#workers.splice(0)) worker.end();
+  }
+
   end() {
     this.#isEnded = true;
-    for (const worker of this.#workers) worker.end();
+    this.rest();
   }
 }
 
-/** Plays a file in parts, where it has any. */
-async function playWhole(crew, file, order, workers, progress) {
+/** How many bytes of lines one of so many workers may have, where all have a bound. */
+const shareOf = (most, count) => (most === Infinity ? most : Math.min(ROOM, most / count));
+
+/** The answer of a file whose parts were answered so: that of the first that is refused, where one is. */
+const wholeAnswer = answers => answers.find(answer => answer.fault !== null) ?? joinedAnswer(answers);
+
+/** Plays a file in parts, where it has any: one after the other, where the lines of one are too long to be held beside others. */
+async function playWhole(crew, file, order, workers, progress, most) {
   const whole = [{ file, first: 0, sessions: 1 }];
-  const parts = partsOf(file, workers * PARTS_OF_A_WORKER) ?? whole;
-  const answers = await crew.play(parts, order, workers, progress);
-  const fault = answers.find(answer => answer.fault !== null)?.fault;
-  if (fault === undefined) return joinedAnswer(answers);
-  if (parts.length === 1 || fault === 'memory' || fault === 'broken') return refused(fault);
-  // the first fault of a part need not be that of the file
-  return (await crew.play(whole, order, 1, () => {}))[0];
+  const parts = partsOf(file, workers * PARTS_OF_A_WORKER) ?? whole, count = Math.min(workers, parts.length);
+  const { size, ...answer } = wholeAnswer(await crew.play(parts, order, count, progress, most));
+  const { fault } = answer;
+  if (fault === null || parts.length === 1 || fault === 'broken') return answer;
+  crew.rest();
+  if (fault !== 'memory') return (await crew.play(whole, order, 1, () => {}, most))[0]; // the first fault of a part need not be that of the file
+  return size <= shareOf(most, 1) && count > 1 ? wholeAnswer(await crew.play(parts, order, 1, progress, most)) : answer;
 }
 
 /** What a worker does: it answers each file that it is handed, and numbers the sessions, which may have many lines. */
-function serve(engine, { file, first, order }, post) {
-  const answer = numberedAnswer(engine.replay(file, { order }), first);
+function serve(engine, { file, first, order, most }, post) {
+  const answer = numberedAnswer(engine.replay(file, { order, most }), first);
   post(answer, [answer.lines.buffer]);
 }
 

@@ -1,5 +1,5 @@
 // The cells of a level in words, and those in which two levels differ as a list that is gone through one by one.
-import { at, cut, fill, make, plural } from "./elements.mjs";
+import { at, cut, fill, make, plural, sayable } from "./elements.mjs";
 import { heightOf, isDrawn, numberAt } from "./levels.mjs";
 import { put, putText } from "./saying.mjs";
 
@@ -27,7 +27,7 @@ export function rowsInWords(level, namesOf) {
       if (last?.label === label) last.count += 1;
       else runs.push({ label, count: 1 });
     }
-    return runs.map(({ label, count }) => (count > 1 ? `${count} \u00d7 ${known.get(label)}` : known.get(label))).join(", ");
+    return sayable(runs.map(({ label, count }) => (count > 1 ? `${count} \u00d7 ${known.get(label)}` : known.get(label))).join(", "));
   });
 }
 

@@ -30,7 +30,13 @@ const TURNING = /[\u061c\u200e\u200f\u202a-\u202e\u2066-\u2069]/g;
 // A text of a stranger on a line among others: letters that turn others around stand there by their numbers.
 export const readable = (text) => text.replace(TURNING, (letter) => `\\u{${letter.charCodeAt(0).toString(16)}}`);
 
-export const cut = (text, most) => readable(text.length > most ? `${text.slice(0, most)}\u2026` : text);
+// The beginning of a text of a stranger, with a sign where it is cut; no half of a letter is left.
+export const cut = (text, most) => readable(text.length > most ? `${text.slice(0, most).replace(/[\ud800-\udbff]$/, "")}\u2026` : text);
+
+const MOST_SAID = 4000; // letters that are said in one piece: a browser lays out many more for minutes, where marks stand on marks, or scripts run both ways
+
+// A text of a stranger as far as it is said in one piece.
+export const sayable = (text) => cut(text, MOST_SAID);
 
 export const isMotionReduced = () => matchMedia("(prefers-reduced-motion: reduce)").matches;
 

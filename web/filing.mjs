@@ -7,7 +7,7 @@ import { remembering } from "./past.mjs";
 import { framesOf, isPlayed, sourceOf } from "./replaying.mjs";
 import { MOST_SESSIONS, Refusal, SessionFile } from "./session-file.mjs";
 import { isOther, runWithFrames, runsOfNow, sessionOpened } from "./suite.mjs";
-import { isTooLong } from "./texts.mjs";
+import { whyNoField } from "./texts.mjs";
 import { RECORDED_ORDER } from "./work.mjs";
 
 export const RECORDINGS = "recordings.json";
@@ -81,10 +81,10 @@ export function withRecordings(state, recordings, skipped = [], titles = undefin
   return { ...withFile(state, file, { text, isNew: true, tab: "sessions" }), saved };
 }
 
-// The text that all sessions of a file have as their own, or null. One that is too long to be played comes not to hand: a browser takes minutes to lay it out.
+// The text that all sessions of a file have as their own, or null, also where it isn't put into the field.
 function theOneText({ entries }) {
   const source = entries[0]?.source ?? "";
-  return source !== "" && !isTooLong(source) && entries.every((entry) => entry.source === source) ? source : null;
+  return source !== "" && entries.every((entry) => entry.source === source) && whyNoField(source) === null ? source : null;
 }
 
 // ---- another engine

@@ -4,11 +4,11 @@ import { at } from "./elements.mjs";
 import { allSkippedTold, nothingTold } from "./findings.mjs";
 import { atOnce } from "./pieces.mjs";
 import { MOST_SESSIONS, Refusal, codingOf, textOf } from "./session-file.mjs";
+import { whyNoField } from "./texts.mjs";
 
 const MOST_OF_A_FILE = 64 * 2 ** 20; // of a file that is read, as python/saxtegun/files.py has it
 
 const MOST_LISTS = 16 * MOST_SESSIONS; // of a sessions file, of which each session has three; with millions a browser would stand still for half a minute
-const MOST_TYPED = 2 ** 21; // letters that are pasted into a field: a game's text has half of them at most, and a browser takes minutes to lay out many more
 
 const unreadableTold = (name) => `${name} can't be read`;
 
@@ -58,6 +58,8 @@ export function* handing(name, bytes) {
   if (skipped.length > 0) throw new Refusal(`no recording is left in ${name}: ${allSkippedTold(skipped)}`);
   const why = nothingTold(plain);
   if (why !== null) throw new Refusal(`${name}: ${why}`);
+  const whyNot = whyNoField(plain);
+  if (whyNot !== null) throw new Refusal(`${name} ${whyNot}: play it by the command, or shorten it`);
   return { kind: "game", text: plain };
 }
 
@@ -92,8 +94,8 @@ export async function takeEach(files, take, refuse) {
   }
 }
 
-// Whether a text that is pasted into an element is left to it.
-export const isTyped = (text, element) => text === "" || (text.length <= MOST_TYPED && Boolean(element.matches?.("textarea, input")));
+// Whether a text that is pasted into an element is left to it: not one that a browser would lay out there for minutes.
+export const isTyped = (text, element) => text === "" || (Boolean(element.matches?.("textarea, input")) && whyNoField(text) === null);
 
 // Hands on files that are chosen, dropped or pasted, as above. That some are being read is told by during(promise).
 export function takeFiles(take, refuse, during) {

@@ -3,7 +3,8 @@ import { keyOfValue, withNote } from "./notes.mjs";
 import { packed, takePack, unpacked } from "./packing.mjs";
 import { MOST_PAST, remembering } from "./past.mjs";
 import { SessionFile } from "./session-file.mjs";
-import { beginning } from "./work.mjs";
+import { whyNoField } from "./texts.mjs";
+import { beginning, besideField } from "./work.mjs";
 
 const VERSION = 2;
 const ORDERS_OF_CELLS = ["columns", "rows"];
@@ -31,8 +32,8 @@ function wanted(isSo) {
 const isText = (value) => typeof value === "string";
 const isWhole = (value) => Number.isSafeInteger(value) && value >= 0;
 
-// Whether a value is a list of such things; of one with gaps they are no things.
-const isListOf = (value, isOne) => Array.isArray(value) && [...value].every(isOne);
+// Whether a value is a list of such things. It is gone through no further than its first gap: one of gaps alone may have any length.
+const isListOf = (value, isOne) => Array.isArray(value) && value.findIndex((one) => !isOne(one)) < 0;
 
 const isKeptInput = (input) => ["undo", "restart", "tick"].includes(input) || (isWhole(input) && input <= 4);
 
@@ -74,7 +75,7 @@ export function stateFrom(value, example) {
     const { version, text, order, work, queue = [], file: bytes, isUnsaved, past, tab, isTicked, isBusy } = value.version === undefined ? fromFirst(value) : value;
     wanted(version === VERSION && isText(text) && ORDERS_OF_CELLS.includes(order) && Array.isArray(past));
     const file = fileFrom(bytes);
-    return { ...beginning(example), text, order, work: workFrom(work, file), queue: queueFrom(queue), file, isUnsaved: Boolean(isUnsaved), past: Array.from(past, lostFrom).slice(-MOST_PAST), tab: tab === "sessions" ? tab : "game", isTicked: Boolean(isTicked), isHeld: Boolean(isBusy) };
+    return { ...beginning(example), text, order, work: workFrom(work, file), queue: queueFrom(queue), file, isUnsaved: Boolean(isUnsaved), past: Array.from(past.slice(-MOST_PAST), lostFrom), tab: tab === "sessions" ? tab : "game", isTicked: Boolean(isTicked), isHeld: Boolean(isBusy) };
   } catch {
     return null;
   }
@@ -112,11 +113,18 @@ function takenBeside(others, state) {
   return { taken, waiting };
 }
 
-// The state to begin with, of all entries that were kept: { state, read, unreadable, isCut, waiting }, where `read` are the names of those that it has in
-// it, `isCut` is whether there was no room for all of one, and `waiting` how many stay where they are, since there is no room to put them back.
+// A state with whose text the field may begin, and else why not: the example stands there then.
+function withField(state) {
+  const { text, work, example, past } = state, why = whyNoField(text), beside = why && besideField({ text, work });
+  return { why, state: why === null ? state : { ...state, text: example, work: beside.work, past: [...past, ...beside.past].slice(-MOST_PAST) } };
+}
+
+// The state to begin with, of all entries that were kept: { state, read, unreadable, isCut, waiting, whyNot }, where `read` are the names of those that it
+// has in it, `isCut` is whether there was no room for all of one, `waiting` how many stay where they are, since there is no room to put them back, and
+// `whyNot` why its text isn't put into the field, or null.
 export function stateOfVisit(entries, example) {
   const found = entries.map((entry) => ({ ...entry, state: stateOfEntry(entry, example) })), readable = found.filter(({ state }) => state !== null);
-  const [{ state } = { state: beginning(example) }, ...others] = readable, { taken, waiting } = takenBeside(others, state);
+  const [first = { state: beginning(example) }, ...others] = readable, { state, why: whyNot } = withField(first.state), { taken, waiting } = takenBeside(others, state);
   const read = readable.map(({ name }) => name).filter((name) => !waiting.includes(name)), isCut = readable.some(({ note }) => note?.isCut);
-  return { state: { ...state, past: [...taken, ...state.past] }, read, unreadable: found.length - readable.length, isCut, waiting: waiting.length };
+  return { state: { ...state, past: [...taken, ...state.past] }, read, unreadable: found.length - readable.length, isCut, waiting: waiting.length, whyNot };
 }

@@ -49,7 +49,7 @@ export function readableAnswer(answer) {
 // What the engine makes of a recording: { frames, cause, isSolved }. A fault of the engine is a cause that begins with `engine:`.
 export function playedBy(engine, { source, index, order, inputs, from, isTicked }) {
   const played = inputs.length >= MOST_INPUTS ? inputs : [...inputs, ONE_MORE], text = playedText(source, isTicked);
-  const whole = () => framesTold(engine.replay(JSON.stringify([["", [text, played, "", index]]]), { order }));
+  const whole = () => framesTold(engine.replay(JSON.stringify([["", [text, played, "", index]]]), { order, most: MOST_ROOM_OF_LEVELS }));
   const { frames, close, fault } = from === 0 ? whole() : engine.frames({ source: text, index, inputs: played }, { order, from });
   if (fault !== null) return refusedPlay(fault);
   return { frames: frames.filter((frame) => frame.at <= inputs.length), cause: close.cause ?? null, isSolved: frames.at(-1)?.kind === "over" };
@@ -146,12 +146,12 @@ function hand(answer) {
 // What the worker does: it answers whatever it is asked, also where it can't. Behind what it played it keeps a session open, to which a key is given alone.
 export function servePlayer() {
   let engine = null, open = null, timer = 0;
-  const answerTo = async ({ wanted, staged, covered, sought, bytes, order }) => {
+  const answerTo = async ({ wanted, staged, covered, sought, bytes, order, most }) => {
     const module = await engine;
     if (wanted) return (await open).played(wanted) ?? playedBy(module, wanted);
     if (staged) return stagesBy(module, staged);
     if (sought) return solutionBy(module, sought);
-    return covered ? actedBy(module, covered) : module.replay(bytes, { order });
+    return covered ? actedBy(module, covered) : module.replay(bytes, { order, most });
   };
   const follow = (wanted) => open.then((kept) => kept.follow(wanted)).catch(() => {});
   globalThis.addEventListener("message", async ({ data }) => {
@@ -197,7 +197,7 @@ export async function startEngine() {
   readBy(engine);
   // few sessions are played by a worker that is there already
   const playAll = async (bytes, options) => {
-    const answer = bytes.length > FEW ? null : await soon(few, { bytes, order: options.order }, options.signal);
+    const answer = bytes.length > FEW ? null : await soon(few, { bytes, order: options.order, most: options.most }, options.signal);
     return answer ?? engine.replayInWorkers(bytes, options);
   };
   const asked = (kind) => (question, signal) => player.ask({ [kind]: question }, signal);

@@ -6,7 +6,7 @@ import { countOf } from "./closes.mjs";
 import { isFailure } from "./session-list.mjs";
 import { causeOf, framesOf, gameOf, isPlayed, shownOf, sourceOf } from "./replaying.mjs";
 import { clocksOf, countOfOthers, rowsOf, runWithFrames, runsOfNow, sessionOf } from "./suite.mjs";
-import { shortened } from "./texts.mjs";
+import { noFieldTold, shortened } from "./texts.mjs";
 import { hasClock, isRefusedForClock } from "./ticks.mjs";
 
 const MOST_NOTES = 50; // that are told of a game
@@ -56,8 +56,9 @@ const NO_ROOM = "This browser had no room for all that was changed just before t
 const WAITING = "What closed tabs left waits, since no more can be put back here: open this page in another tab to go on with it.";
 
 // What is said of what was kept of earlier visits, or null.
-export function visitTold({ unreadable, isCut, waiting }) {
-  const told = [...(unreadable > 0 ? [UNREADABLE] : []), ...(isCut ? [NO_ROOM] : []), ...(waiting > 0 ? [WAITING] : [])];
+export function visitTold({ unreadable, isCut, waiting, whyNot }) {
+  const fieldless = whyNot === null ? [] : [noFieldTold("The text that this browser kept", whyNot)];
+  const told = [...fieldless, ...(unreadable > 0 ? [UNREADABLE] : []), ...(isCut ? [NO_ROOM] : []), ...(waiting > 0 ? [WAITING] : [])];
   return told.length === 0 ? null : told.join(" ");
 }
 

@@ -14,16 +14,23 @@ function joinedBytes(pieces) {
 // A fault that names a session of a part.
 const faultOfPart = (fault, first) => fault.replace(/(?<= )[0-9]+$/, (number) => String(first + Number(number)));
 
+export const MOST_OF_LINES = 2 ** 29; // bytes of all sessions that the page holds: twice as they are joined, and as often beside those of what was played before
+
+// An answer of the engine, whose lines were too many where memory was short.
+const answerOf = (answer) => (answer.fault === "memory" ? { ...answer, fault: "long-lines" } : answer);
+
 // What the engine makes of parts of `count` sessions: { fault, lines }.
 export async function playedInParts(engine, parts, count, { order, signal, progress }) {
   const pieces = [];
+  let most = MOST_OF_LINES;
   for (const { first, bytes } of parts) {
     const isWhole = parts.length === 1, told = isWhole ? progress : (done) => progress(first + done, count);
-    const answer = await engine.playAll(bytes, { order, signal, progress: told });
+    const answer = answerOf(await engine.playAll(bytes, { order, signal, progress: told, most }));
     if (isWhole) return answer;
     signal.throwIfAborted();
     if (answer.fault !== null) return { fault: faultOfPart(answer.fault, first), lines: null };
     pieces.push(numbered(answer.lines, first));
+    most -= answer.lines.length;
   }
   return { fault: null, lines: joinedBytes(pieces) };
 }

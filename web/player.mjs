@@ -1,7 +1,7 @@
 // The player of a session: its frames, drawn beside the recorded level or beside those of another run.
 import { Boards } from "./boards.mjs";
 import { shapeOf } from "./closes.mjs";
-import { at, cut, fill, json, make, plural, readable } from "./elements.mjs";
+import { at, cut, fill, json, make, plural, sayable } from "./elements.mjs";
 import { Run, textOf } from "./frames.mjs";
 import { InputStrip } from "./input-strip.mjs";
 import { differing, isDrawn, isTooLarge } from "./levels.mjs";
@@ -66,7 +66,7 @@ export class Player {
     this.sides = this.session.sides.map(([caption, frames]) => ({ caption, run: new Run(frames, this.index.order, this.index.letters) }));
     at("session").hidden = false;
     at("name").textContent = cut(name, NAMED);
-    at("close").replaceChildren(shapeOf(close), make("span", "", readable(`${close}: ${this.session.told}`)));
+    at("close").replaceChildren(shapeOf(close), make("span", "", sayable(`${close}: ${this.session.told}`)));
     at("close").className = close;
     this.showSource();
     at("player").hidden = !this.isOpen;
@@ -159,7 +159,7 @@ export class Player {
 
   sideShown({ caption, run }, level) {
     const changed = at("marks").checked && this.at <= run.last ? run.changesAt(this.at) ?? [] : [];
-    const told = isDrawn(level) ? this.captionOf(caption, run) : readable(`${caption}: ${whyNotDrawn(level)}`);
+    const told = isDrawn(level) ? this.captionOf(caption, run) : sayable(`${caption}: ${whyNotDrawn(level)}`);
     return { level, caption: told, told, changed };
   }
 

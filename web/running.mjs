@@ -11,7 +11,8 @@ const TYPING_PAUSE = 250; // milliseconds without a letter, after which what was
 
 export class Runner {
   // engine.play, engine.stages, engine.acted and engine.solution, each of (request, signal), and engine.playAll(bytes, { order, signal, progress }) are asked;
-  // draw(state, doing, isBusy, isKey) shows what there is, and keep(state, isPlaying, isKey) keeps it, where `isKey` is whether a key led to it.
+  // draw(state, doing, isBusy, isKey) shows what there is, and keep(state, isPlaying, isKey) keeps it, where `isPlaying` is whether something is played that isn't over
+  // in a moment, and `isKey` whether a key led to it.
   constructor(state, { engine, draw, keep, pause = TYPING_PAUSE }) {
     Object.assign(this, { state, engine, draw, keep, pause });
     this.doing = { play: null, suite: null, stages: null, coverage: null, solution: null, reading: null, isTyping: false }; // what is asked now: { wanted, controller, done, total, isSlow }
@@ -73,8 +74,13 @@ export class Runner {
 
   show(isKey = false) {
     this.draw(this.state, this.doing, this.isBusy || this.coming > 0, isKey);
-    this.keep(this.state, this.doing.play?.isSlow ?? false, isKey);
+    this.keep(this.state, this.isSlow, isKey);
     if (!this.isBusy) this.waiting.splice(0).forEach((settle) => settle());
+  }
+
+  // Whether something is played that isn't over in a moment: a browser may end before that, and at the next visit it is held then.
+  get isSlow() {
+    return [this.doing.play, this.doing.suite].some((doing) => doing?.isSlow);
   }
 
   get isBusy() {

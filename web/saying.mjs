@@ -1,17 +1,17 @@
 // Puts words and values into the elements of the page, where they have changed: what is written again as it stands costs a browser as much as a change.
 import { shapeOf } from "./closes.mjs";
-import { at, make, readable } from "./elements.mjs";
+import { at, make, sayable } from "./elements.mjs";
 
 export function putText(element, text) {
   if (element.textContent !== text) element.textContent = text;
 }
 
-export const say = (id, stranger) => putText(at(id), readable(stranger));
+export const say = (id, stranger) => putText(at(id), sayable(stranger));
 
 const SHAPE_BEFORE = new WeakMap(); // for each element the close whose shape stands before its words
 
 export function tell(id, { text, close }) {
-  const element = at(id), words = readable(text);
+  const element = at(id), words = sayable(text);
   if (element.lastChild?.textContent === words && SHAPE_BEFORE.get(element) === close) return;
   SHAPE_BEFORE.set(element, close);
   element.replaceChildren(...(close === null ? [] : [shapeOf(close)]), make("span", "", words));

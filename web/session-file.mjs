@@ -244,6 +244,7 @@ const REFUSALS = {
   "bad-entry": "session {number} is no entry of a name, a source, inputs and a level",
   "bad-level": "the recorded level of session {number} is no level text",
   memory: "there is not enough memory",
+  "long-lines": "its lines have more than 512 MiB, or those of a session 256, or than there is memory for: play it by the command, or part by part",
   broken: "the engine stopped at a fault of its own",
   "long-level": "a level's text has more than 2,097,152 letters, which the page doesn't draw",
   "no-solutions": "the engine of this page is an older one, which solves no levels",

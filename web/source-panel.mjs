@@ -1,6 +1,6 @@
 // The game's text with the numbers of its lines, the fault at its line, and the lines that are marked: those of the rules that acted in the stage that is
 // looked at, and those that never acted.
-import { at, fill, makeButton } from "./elements.mjs";
+import { at, fill, makeButton, sayable } from "./elements.mjs";
 import { linesAsBands, rowsMarked } from "./marked-lines.mjs";
 
 const LEADING = new Set(["ArrowUp", "ArrowDown", "ArrowLeft", "ArrowRight", "Home", "End", "PageUp", "PageDown"]);
@@ -95,7 +95,7 @@ export class SourcePanel {
     this.mark(fault?.line ?? null);
     if (fault === null) return at("fault").replaceChildren();
     const words = document.createElement("span");
-    words.textContent = `Refused: ${fault.sentence}.`;
+    words.textContent = sayable(`Refused: ${fault.sentence}.`);
     const button = fault.line === null ? [] : [makeButton("", `Go to line ${fault.line}`, () => this.goTo(fault.line))];
     return at("fault").replaceChildren(words, ...button);
   }

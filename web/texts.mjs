@@ -3,13 +3,33 @@
 // What Unicode calls white space.
 const SPACE = /[\t-\r \x85\xa0\u1680\u2000-\u200a\u2028\u2029\u202f\u205f\u3000]/;
 const MOST_OF_A_SOURCE = 1_048_576; // bytes of a text that is played
+const PRINTABLE = /[\n\r -~]+/g;
+const MOST_BEYOND_ASCII = 4096; // letters of a line that are no printable ASCII, as marks above marks, scripts that run both ways, or tabs,
+const MOST_BEYOND_IN_ALL = 32_768; // such letters of all lines,
+const MOST_LINES_OF_FIELD = 32_768; // and lines: a browser lays out all of a field at once, for minutes where there are many more of any of them
+const END_OF_LINE = /\r\n?|\n/; // in a field
+const LAID_OUT = "which a browser may take minutes to lay out";
 const MOST_LETTERS = 200; // of a text of a stranger that is read in a line among others
 
 // A name as names are compared: the case of ASCII letters is ignored, and of no others.
 export const fold = (text) => text.replace(/[A-Z]/g, (letter) => letter.toLowerCase());
 
 // Whether a text is longer than one that is played.
-export const isTooLong = (text) => 3 * text.length > MOST_OF_A_SOURCE && new TextEncoder().encode(text).length > MOST_OF_A_SOURCE;
+export const isTooLong = (text) => text.length > MOST_OF_A_SOURCE || (3 * text.length > MOST_OF_A_SOURCE && new TextEncoder().encode(text).length > MOST_OF_A_SOURCE);
+
+const isBeyond = (text, most) => text.length > most && text.replace(PRINTABLE, "").length > most;
+
+// Why a text isn't put into the field where it would be edited, in words that go on behind it; or null.
+export function whyNoField(text) {
+  if (isTooLong(text)) return "is longer than a game's text may be";
+  const lines = text.split(END_OF_LINE), at = lines.findIndex((line) => isBeyond(line, MOST_BEYOND_ASCII));
+  if (lines.length > MOST_LINES_OF_FIELD) return `has more than 32,768 lines, ${LAID_OUT}`;
+  if (at >= 0) return `has more than 4,096 letters beyond printable ASCII on line ${at + 1}, ${LAID_OUT}`;
+  return isBeyond(text, MOST_BEYOND_IN_ALL) ? `has more than 32,768 letters beyond printable ASCII, ${LAID_OUT}` : null;
+}
+
+// What is said where a text comes to hand otherwise than by the field.
+export const noFieldTold = (what, why) => `${what} ${why}. It isn't put into the field, but stays as a recording's own, or to be put back: save that as a session, which the command plays.`;
 
 export const shortened = (text) => {
   const letters = [...text.slice(0, 2 * MOST_LETTERS + 1)];

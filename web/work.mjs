@@ -6,7 +6,7 @@ import { behindAll, remembering } from "./past.mjs";
 import { firstFrom } from "./recording.mjs";
 import { cutToPlayed, framesOf, gameOf, isAtEnd, isPlayed, sourceOf, takenOf } from "./replaying.mjs";
 import { MOST_INPUTS } from "./session-file.mjs";
-import { isTooLong } from "./texts.mjs";
+import { noFieldTold, whyNoField } from "./texts.mjs";
 
 export const RECORDED_ORDER = "columns"; // the one of the published level texts, in which `saxtegun test` plays
 
@@ -133,8 +133,8 @@ export function withGame(state, text) {
 
 // Takes the text of the session that is open to hand.
 export function withOwnText(state) {
-  const { own } = state.work;
-  if (own !== null && isTooLong(own)) return { ...state, told: { text: "Its text is longer than a game's text may be, and stays where it is.", close: null } };
+  const { own } = state.work, why = own === null ? null : whyNoField(own);
+  if (why !== null) return { ...state, told: { text: `Its text ${why}, and stays where it is.`, close: null } };
   return own === null ? state : withWork(state, { ...state.work, own: null }, { ...AFRESH, text: own, tab: "game" });
 }
 
@@ -152,12 +152,19 @@ function stillOpened(work, file, text) {
   return isOne ? work.opened : null;
 }
 
+// What is there of a text and its recording where the text isn't put into the field: the recording has it as its own, unless it has another one as that; then
+// the text alone can be put back. Where there is no recording, it is one that has nothing in it yet.
+export function besideField({ text, work = workOn(text), ...more }) {
+  return work.own === null ? { ...more, work: { ...work, own: text, opened: null }, past: [] } : { ...more, work, past: [{ text }] };
+}
+
 // Puts back what was lost last.
 export function putBack(state) {
   const last = state.past.at(-1);
   if (last === undefined) return state;
-  const { text = state.text, work = state.work, file = state.file, isUnsaved = state.isUnsaved } = last;
-  const open = { ...work, opened: stillOpened(work, file, text) };
-  const next = { ...state, text, work: open, file, isUnsaved, past: state.past.slice(0, -1), looked: null, queue: [], ...AFRESH };
+  const why = last.text === undefined ? null : whyNoField(last.text), { past, ...lost } = why === null ? { ...last, past: [] } : besideField(last);
+  const { text = state.text, work = state.work, file = state.file, isUnsaved = state.isUnsaved } = lost;
+  const open = { ...work, opened: stillOpened(work, file, text) }, told = why && { text: noFieldTold("The text that was put back", why), close: null };
+  const next = { ...state, text, work: open, file, isUnsaved, past: [...state.past.slice(0, -1), ...past], looked: null, queue: [], ...AFRESH, told };
   return behindAll(state, next);
 }

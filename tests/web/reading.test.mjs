@@ -11,6 +11,7 @@ import { readableAnswer } from "../../web/page-engine.mjs";
 import { atOnce, inPieces } from "../../web/pieces.mjs";
 import { MOST_SESSIONS, Refusal, SessionFile, refusalTold } from "../../web/session-file.mjs";
 import { differenceOf, rowsOf, sessionOpened } from "../../web/suite.mjs";
+import { whyNoField } from "../../web/texts.mjs";
 import { beginning, edited, ticked, withOwnText } from "../../web/work.mjs";
 import { Bench, GAME, comparedWithLines, module } from "./bench.mjs";
 
@@ -112,22 +113,54 @@ test("a frame or a line that has more than is read at once is refused, and what 
   assert.throws(() => atOnce(readingRuns(text, 1)), { message: "line 1 has more than 16 MiB, and is not read" });
 });
 
+it("of more lines than are wanted none are held, and where those of one session are more than a worker's share, one plays after the other", async () => {
+  const entries = [["long", new Array(200).fill(1)], ["b", [1]], ["c", [2]], ["d", [3]]].map(([name, inputs]) => [name, [GAME, inputs, "", 0]]), bytes = JSON.stringify(entries), { lines } = module.replay(bytes);
+  for (const workers of [1, 3]) {
+    const told = [], played = async (most) => module.replayInWorkers(bytes, { workers, most, progress: (...words) => told.push(words) });
+    const whole = await played(lines.length);
+    assert.deepEqual([Buffer.from(whole.lines).equals(lines), whole.fault, told.at(-1)], [true, null, [4, 4]]);
+    assert.deepEqual([(await played(lines.length - 1)).fault, (await played(1000)).fault], ["memory", "memory"]);
+  }
+  assert.deepEqual([module.replay(bytes, { most: lines.length }).fault, module.replay(bytes, { most: lines.length - 1 }).fault], [null, "memory"]);
+});
+
 test("how far what comes is read is said where it takes long", () => {
   assert.deepEqual([null, { isSlow: false }, { what: "Comparing sessions", isSlow: true, done: 3, total: 70 }].map((reading) => readingTold(reading)?.text ?? null), [null, null, "Comparing sessions: 3 of 70."]);
 });
 
-it("a text that is too long to be played comes not to hand, in which a browser would lay it out for minutes", () => {
-  for (const [source, isTaken] of [[`${GAME}\n`, true], [`title ${"x".repeat(1_048_576)}`, false], [`title ${"\u20ac".repeat(400_000)}`, false]]) {
+// A text of a game that a browser lays out for minutes: by a line of letters beyond ASCII (the fifth of it), or by the number of its lines.
+const MARKED = `title A game\n\n\n\n(${"a\u0301".repeat(4097)})\n${GAME}`, MANY_LINES = `${GAME}${"\n".repeat(32_768)}`;
+const OF_A_LINE = "has more than 4,096 letters beyond printable ASCII on line 5, which a browser may take minutes to lay out";
+const OF_ALL = "has more than 32,768 letters beyond printable ASCII, which a browser may take minutes to lay out";
+const OF_LINES = "has more than 32,768 lines, which a browser may take minutes to lay out";
+
+it("a text that a browser would lay out for minutes comes not to hand", () => {
+  const TOO_LONG = "is longer than a game's text may be";
+  for (const [source, why] of [[`${GAME}\n`, null], [`title ${"x".repeat(1_048_576)}`, TOO_LONG], [`title ${"\u20ac".repeat(400_000)}`, TOO_LONG], [MARKED, OF_A_LINE], [MANY_LINES, OF_LINES]]) {
+    const isTaken = why === null;
     const found = [{ name: "a", source, inputs: [], level: "", index: 0 }], begun = beginning(GAME), opened = withOtherFile(begun, fileOf(found));
     assert.deepEqual([opened, withRecordings(begun, found)].map(({ text }) => text === source), [isTaken, isTaken]);
     const taken = withOwnText(sessionOpened({ ...opened, text: GAME }, 0));
-    assert.deepEqual([taken.text === source, taken.told?.text ?? null], [isTaken, isTaken ? null : "Its text is longer than a game's text may be, and stays where it is."]);
+    assert.deepEqual([taken.text === source, taken.told?.text ?? null], [isTaken, isTaken ? null : `Its text ${why}, and stays where it is.`]);
   }
 });
 
-test("what is pasted into a field is left to it, but for a text that is far too long for one", () => {
-  const field = { matches: (words) => words === "textarea, input" }, level = { matches: () => false }, long = "x".repeat(2 ** 21 + 1);
-  assert.deepEqual([["x", field], ["", field], [long, field], ["x", level], ["", level], ["x", {}]].map((words) => isTyped(...words)), [true, true, false, false, true, false]);
+test("it is told of a text why it isn't put into the field, at its bounds", () => {
+  const cases = [["", null], [GAME, null], [`${"a\u0301".repeat(4096)}\n`.repeat(8), null], [`${`${"a\u0301".repeat(4096)}\n`.repeat(8)}\u0301`, OF_ALL], ["a\t\n".repeat(32_767), null], ["ab\t".repeat(4097), OF_A_LINE.replace("line 5", "line 1")], [`${"a".repeat(500_000)}${"\u05d0".repeat(4096)}`, null], ["x".repeat(1_048_576), null],
+    ["\n".repeat(32_767), null], ["\r\n".repeat(32_767), null], ["\n".repeat(32_768), OF_LINES], ["\r".repeat(32_768), OF_LINES], [MANY_LINES, OF_LINES], [MARKED, OF_A_LINE],
+    [`\n\r\n\n\r${"a \u05d0 1 ".repeat(4097)}`, OF_A_LINE], ["x".repeat(1_048_577), "is longer than a game's text may be"]];
+  for (const [text, why] of cases) assert.equal(whyNoField(text), why);
+});
+
+test("a game that a browser would lay out for minutes is not opened, and it is said which line it is", () => {
+  for (const [text, why] of [[MARKED, OF_A_LINE], [MANY_LINES, OF_LINES]]) {
+    assert.throws(() => handed("g.txt", new TextEncoder().encode(text)), new Refusal(`g.txt ${why}: play it by the command, or shorten it`));
+  }
+});
+
+test("what is pasted into a field is left to it, but for a text that a browser would lay out there for minutes", () => {
+  const field = { matches: (words) => words === "textarea, input" }, level = { matches: () => false }, long = "x".repeat(2 ** 20 + 1);
+  assert.deepEqual([["x", field], ["", field], [long, field], [MARKED, field], ["x", level], ["", level], ["x", {}]].map((words) => isTyped(...words)), [true, true, false, false, false, true, false]);
 });
 
 test("an answer with a level whose text is very long is handed over as none", () => {

@@ -5,7 +5,7 @@ import { findingsIn } from "../../web/console.mjs";
 import { KeptOpen } from "../../web/kept-open.mjs";
 import { stateFrom, stateOfVisit } from "../../web/kept-work.mjs";
 import { playedBy } from "../../web/page-engine.mjs";
-import { faultOfText, othersTold, ownTold, putBackTold, statusOf, stepTold, tabTold, verdictOf } from "../../web/page-words.mjs";
+import { faultOfText, othersTold, ownTold, putBackTold, statusOf, stepTold, tabTold, verdictOf, visitTold } from "../../web/page-words.mjs";
 import { SessionFile } from "../../web/session-file.mjs";
 import { accepted, filed, followed, namesakeOf, removed, savedAs, savedLater, withOtherFile, withRecordings } from "../../web/filing.mjs";
 import { framesOf, isPlayed, shownOf, sourceOf } from "../../web/replaying.mjs";
@@ -357,6 +357,43 @@ it("what can't be read, or has another version, leaves a page that works", async
   assert.deepEqual(stateOfVisit([{ name: "one", value: {} }], GAME).state, beginning(GAME));
 });
 
+// A text of a game that a browser lays out for minutes.
+const MARKED = `${OTHER}(${"a\u0301".repeat(4097)})\n`;
+const NO_FIELD = /^The text that [a-z ]+ has more than 4,096 letters beyond printable ASCII on line [0-9]+, which a browser may take minutes to lay out\. It isn't put into the field/;
+
+it("a text that was kept, and that a browser would lay out for minutes, is played as the recording's own, and the field begins with the example", async () => {
+  const bench = await played(1, 0);
+  const { kept } = bench, of = (value) => stateOfVisit([{ name: "work", value: structuredClone(value) }], GAME);
+  const { state, whyNot, read: names, unreadable } = of({ ...kept, text: MARKED });
+  assert.deepEqual([state.text, state.work, state.past, names, unreadable], [GAME, { ...kept.work, own: MARKED, opened: null }, [], ["work"], 0]);
+  assert.match(visitTold({ unreadable, isCut: false, waiting: 0, whyNot }), NO_FIELD);
+  bench.begin(state);
+  await bench.runner.idle();
+  assert.deepEqual([isPlayed(bench.state), framesOf(bench.state).length], [true, 3]);
+  const beside = of({ ...kept, text: MARKED, work: { ...kept.work, own: BROKEN } }).state;
+  assert.deepEqual([beside.text, beside.work.own, beside.past], [GAME, BROKEN, [{ text: MARKED }]]);
+  assert.deepEqual([of(kept).whyNot, visitTold({ ...of(kept), isCut: false })], [null, null]);
+});
+
+it("a text that is put back, and that a browser would lay out for minutes, comes back as a recording's own, and nothing is lost", async () => {
+  const bench = await played(1), lost = { text: MARKED, work: { ...bench.state.work, inputs: [2, 1] } };
+  const back = async (past) => {
+    bench.begin({ ...bench.state, past });
+    await bench.act(putBack);
+    const { text, work: { own, inputs }, told, past: others } = bench.state;
+    assert.match(told.text, NO_FIELD);
+    return { text, own, inputs, others: others.map((it) => it.work?.inputs ?? it) };
+  };
+  assert.deepEqual(await back([{ text: MARKED }]), { text: GAME, own: MARKED, inputs: [], others: [[1]] });
+  assert.deepEqual(await back([lost]), { text: GAME, own: MARKED, inputs: [2, 1], others: [] });
+  assert.deepEqual(await back([{ ...lost, work: { ...lost.work, own: BROKEN } }]), { text: GAME, own: BROKEN, inputs: [2, 1], others: [[2, 1], { text: MARKED }] });
+});
+
+it("a list of gaps alone, which takes no room in the store, takes none as it is read", async () => {
+  const { kept } = await withPush(), gaps = Object.assign([], { length: 300_000_000 });
+  for (const strange of [{ work: { ...kept.work, inputs: gaps } }, { queue: gaps }, { past: gaps }]) assert.equal(stateFrom({ ...kept, ...strange }, GAME), null);
+});
+
 it("of thousands of recordings over one text that text is kept once, and the file is there again byte for byte", async () => {
   const bench = new Bench(), entries = Array.from({ length: 3000 }, (_, number) => [`s${number}`, [BROKEN, [number % 4], "background:0,", 0]]), file = fileOf(entries);
   bench.runner.update((state) => ({ ...withOtherFile(state, file), isHeld: true }));
@@ -381,6 +418,20 @@ it("what a closed tab left can be put back in the one that goes on", async () =>
   assert.deepEqual([bench.state.text, bench.state.work.inputs], [BROKEN, [3]]);
   await bench.act(putBack);
   assert.deepEqual([bench.state.text, bench.state.work.inputs], [GAME, [1, 2]]);
+});
+
+it("a visit after one that ended while a file was played is held, unless that took but a moment", async () => {
+  const bench = new Bench(), { playAll } = bench.engine;
+  let end = () => {};
+  const ended = new Promise((settle) => { end = settle; });
+  bench.engine.playAll = (...words) => ended.then(() => playAll(...words));
+  bench.runner.update((state) => withOtherFile(state, fileOf(DAY)));
+  const kept = [bench.kept.isBusy];
+  for (let count = 0; count < 1000 && !bench.kept.isBusy; count += 1) await new Promise((settle) => setTimeout(settle, 10));
+  kept.push(bench.kept.isBusy);
+  end();
+  await bench.runner.idle();
+  assert.deepEqual([...kept, bench.kept.isBusy, closes(bench.state).includes(null)], [false, true, false, false]);
 });
 
 it("a visit after one that ended while something was played begins with the text, and plays nothing until it is asked for", async () => {

@@ -3,11 +3,13 @@ import assert from "node:assert/strict";
 import test from "node:test";
 import { Boards } from "../../web/boards.mjs";
 import { cellTold, rowsInWords } from "../../web/cells.mjs";
+import { sayable } from "../../web/elements.mjs";
 import { Ending, endingTold, obstacleTold, partingOf, partingTold } from "../../web/comparing.mjs";
 import { MOST_OF_A_LEVEL } from "../../web/level-text.mjs";
 import { isDrawn, isOfOneSize, isTooLarge } from "../../web/levels.mjs";
 import { nameShown, notesTold, putBackTold } from "../../web/page-words.mjs";
 import { Player } from "../../web/player.mjs";
+import { say, tell } from "../../web/saying.mjs";
 import { headingsTold, stageTold } from "../../web/stage-words.mjs";
 import { shortened } from "../../web/texts.mjs";
 
@@ -75,6 +77,19 @@ test("a level text that is longer than one that is read is compared letter by le
   const run = (level) => ({ frames: [{ at: 0, kind: "start", level }], close: "differs", cause: null });
   assert.deepEqual([partingOf(run(more), run(more)), partingOf(run("a:0,"), run(most))], [null, { frame: 0, kind: "level" }]);
   for (const levels of [[more, "a:0,"], ["a:0,", more]]) assert.throws(() => partingOf(...levels.map(run)), { message: "the text of a level has more than 2,097,152 letters, and is not read where it is another one here" });
+});
+
+test("of whatever is said no more is said in one piece than a browser lays out in a moment, with a sign that it is cut", () => {
+  const element = () => ({ textContent: "", replaceChildren(...nodes) { this.textContent = nodes.map((it) => it.textContent).join(""); } });
+  const elements = { "message-text": element(), status: element() }, marked = (count) => "a\u0301".repeat(count), letter = "\u{1f468}";
+  globalThis.document = { getElementById: (id) => elements[id], createElement: element };
+  say("message-text", marked(100_000));
+  tell("status", { text: marked(100_000), close: null });
+  assert.deepEqual(Object.values(elements).map(({ textContent }) => textContent), new Array(2).fill(`${marked(2000)}\u2026`));
+  assert.deepEqual([marked(2000), "", `a${letter.repeat(2000)}`].map(sayable), [marked(2000), "", `a${letter.repeat(1999)}\u2026`]);
+  const cells = Array.from({ length: 128 }, (_, label) => label), [row] = rowsInWords(level(cells), (label) => [`${marked(100)}${label}`]);
+  assert.deepEqual([row.length, row.at(-1)], [4001, "\u2026"]);
+  delete globalThis.document;
 });
 
 test("of a long name no more is shown than its field takes, and no half of a letter", () => {

@@ -11,6 +11,7 @@ TICKING = HEAD.replace("OBJECTS", "again_interval 0.4\nOBJECTS", 1) + "[ action 
 MESSAGES = HEAD + WIN + "message begin\np.g\n\nmessage go on\n\np.g\n"
 CLOCKED = HEAD.replace("OBJECTS", "realtime_interval 1\nOBJECTS", 1) + WIN + "p.g\n"
 NAME = "\u202eturned"
+MIXED = "a \u05d0 1 "  # which runs both ways
 
 
 def place_of(name):
@@ -119,6 +120,16 @@ class Showing:
         self.assertEqual(told()[2], "go on")
         self.click("#go-on")
         self.assertEqual([told()[:2], self.browser.value(text("place")), self.browser.value("document.activeElement.id")], [[False, True], "frame 3 of 3", "stage"])
+
+    def test_a_text_that_a_browser_lays_out_for_minutes_comes_not_to_the_field(self):
+        said, unsaid = (f"{HEAD}{WIN}message {MIXED * count}\np.g\n" for count in (3000, 5000))
+        self.open_game(said)
+        self.assertEqual(self.browser.value(f"[{text('message-text')}.length, {text('message-text')}.at(-1)]"), [4001, "\u2026"])
+        self.hand("game.txt", unsaid.encode())
+        line = (HEAD + WIN).count("\n") + 1
+        told = f"Not opened: game.txt has more than 4,096 letters beyond printable ASCII on line {line}, which a browser may take minutes to lay out: play it by the command, or shorten it."
+        self.assertEqual(self.browser.until(text("status"), told), told)
+        self.assertEqual(self.browser.value("document.getElementById('source').value.length"), len(said))
 
     def test_ticks_are_shown_one_after_another_until_a_key_is_pressed(self):
         self.open_game(TICKING)
