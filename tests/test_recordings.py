@@ -112,6 +112,31 @@ class Accept(OnSessions):
         answer = run("accept", sessions, lines, "--order", "rows", "--only", "a")
         self.assert_refused(answer, "in the other order, not by rows: play it in the order that it was recorded in; nothing is accepted")
 
+    def test_a_review_goes_on_behind_a_session_of_the_other_order(self):
+        sessions, lines = case("a-column-text-differs-with-order-rows")
+        answer = run("accept", sessions, lines, "--order", "rows", "--review")
+        self.assertEqual(answer.status, 0)
+        self.assertRegex(answer.errors, "not accepted: the recorded level is the reached one listed in the other order, not by rows: .*\n.*0 of [0-9]+ recorded levels? changed")
+
+    def test_answers_that_can_not_be_written_are_told(self):
+        stale = json.loads(EXAMPLE.read_text(encoding="utf-8"))[-1]
+        sessions = self.write("stale.json", json.dumps([stale]))
+        lines = self.write("stale.lines", lines_of_example(sessions.read_text(encoding="utf-8")))
+        ran = subprocess.Popen([sys.executable, TOP / "saxtegun", "accept", sessions, lines, "--review", "--in-place"], stdin=subprocess.PIPE, stdout=subprocess.PIPE, stderr=subprocess.PIPE)
+        told = b""
+        while b"accept it?" not in told:
+            told += os.read(ran.stderr.fileno(), 1)
+        sessions.write_text("[]", encoding="utf-8")
+        _, errors = ran.communicate(b"y\n")
+        self.assertEqual((ran.returncode, sessions.read_text(encoding="utf-8")), (2, "[]"))
+        self.assertRegex(errors.decode(), "accept: not written: session 0, .*, accepted\n.*was changed since it was read")
+
+    def test_a_file_without_a_name_is_refused(self):
+        for words in (("solve", EXAMPLE, "--save", ""), ("test", EXAMPLE, "--junit="), ("test", EXAMPLE, "--report", ""), ("play", EXAMPLE, "--save", "name", "")):
+            answer = run(*words)
+            self.assertEqual((answer.status, answer.out), (2, ""))
+            self.assertIn("the file has no name", answer.errors)
+
     def test_lines_that_begin_in_the_other_order_are_refused(self):
         for verb in ("accept", "explain", "report", "junit"):
             refused = run(verb, EXAMPLE, self.lines, "--order", "rows")

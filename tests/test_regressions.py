@@ -143,6 +143,9 @@ class Hostile(InAGitFolder):
                 git(self.room, "config", "remote.origin.url", address)
                 git(self.room, "config", "core.sshCommand", program)
                 self.assertIsNone(committed_text(str(self.game)))
+                # a git that knows neither word finds nothing that it might run
+                with mock.patch.dict(regressions.OFFLINE, GIT_ALLOW_PROTOCOL="ext:file:ssh", GIT_NO_LAZY_FETCH="0"):
+                    self.assertIsNone(committed_text(str(self.game)))
                 self.assertFalse(trace.exists())
                 git(self.room, "cat-file", "blob", "HEAD:./game.txt")
                 self.assertTrue(trace.exists(), "the trap isn't set")
@@ -153,7 +156,7 @@ class Hostile(InAGitFolder):
         for name in ("none", ""):
             program, trace = self.hacks("speak")
             program.rename(self.room / f"git-remote-{name}")
-            for environment, is_trapped in ({**regressions.OFFLINE}, False), ({"GIT_ALLOW_PROTOCOL": name}, True):
+            for environment, is_trapped in ({"GIT_ALLOW_PROTOCOL": regressions.OFFLINE["GIT_ALLOW_PROTOCOL"]}, False), ({"GIT_ALLOW_PROTOCOL": name}, True):
                 words = ["git", "-C", self.room, "-c", "remote.origin.url=/x", "-c", f"remote.origin.vcs={name}", "fetch", "origin"]
                 subprocess.run(words, stdout=subprocess.PIPE, stderr=subprocess.PIPE, env={**os.environ, "PATH": f"{self.room}:{os.environ['PATH']}", **environment})
                 self.assertEqual(trace.exists(), is_trapped, name)
@@ -179,7 +182,7 @@ class Hostile(InAGitFolder):
         self.assertIsNone(committed_text(str(self.game)))
 
     def test_the_time_is_that_of_all_answers(self):
-        self.write("git", "#!/bin/sh\nsleep 0.4\necho 5\n").chmod(0o755)
+        self.write("git", f"#!/bin/sh\n{shutil.which('sleep')} 0.4\necho 5\n").chmod(0o755)
         with mock.patch.dict(regressions.os.environ, PATH=f"{self.room}:{os.environ['PATH']}"):
             for seconds, text in ((5, "5\n"), (0.6, None)):
                 with mock.patch.object(regressions, "SECONDS", seconds):

@@ -31,6 +31,8 @@ VERBS = {
 }
 # Stands before a word that would be taken for an option.
 HIDING = "\0"
+# The options that name files which are written.
+OUTPUTS = ("save", "junit", "report", "markdown")
 # Those whose standard output is a file for other tools.
 OF_DATA = ("lines", "report", "junit", "accept", "source", "testdata", "join")
 
@@ -59,8 +61,13 @@ def shown(value: Any) -> Any:
 
 
 def words_read(reader: Words, words: List[str]) -> Namespace:
-    """The words of a verb; argparse loses `--` where options may stand anywhere."""
-    return Namespace(**{name: shown(value) for name, value in vars(reader.parse_intermixed_args(hidden(words))).items()})
+    """The words of a verb; argparse loses `--` where options may stand anywhere. A file without a name, as of a variable that isn't set, is refused."""
+    given = Namespace(**{name: shown(value) for name, value in vars(reader.parse_intermixed_args(hidden(words))).items()})
+    for name in OUTPUTS:
+        value = getattr(given, name, None)
+        if "" in (value, value[-1] if isinstance(value, list) else value):
+            reader.error(f"--{name}: the file has no name")
+    return given
 
 
 def main() -> int:

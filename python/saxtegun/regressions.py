@@ -37,8 +37,8 @@ BOUND = (SHELL, "-c", 'ulimit -v "$0"; exec "$@"', str(MOST_MEMORY // 1024)) if 
 # A pack that is longer than the memory is read in pieces.
 IN_PIECES = ("-c", "core.packedGitWindowSize=16m", "-c", "core.packedGitLimit=128m")
 # What is missing isn't fetched: a repository says itself how, by any command. The one protocol that is allowed has a name that no repository can know: where
-# none is, git takes the empty name for one.
-OFFLINE = {"GIT_ALLOW_PROTOCOL": token_hex(16), "GIT_NO_LAZY_FETCH": "1", "GIT_TERMINAL_PROMPT": "0"}
+# none is, git takes the empty name for one. Git itself is named by its whole path, and finds nothing else that it might run.
+OFFLINE = {"GIT_ALLOW_PROTOCOL": token_hex(16), "GIT_NO_LAZY_FETCH": "1", "GIT_TERMINAL_PROMPT": "0", "GIT_EXEC_PATH": os.devnull, "PATH": os.devnull}
 
 
 def asked(folder: str, words: Sequence[str], end: float) -> Optional[bytes]:

@@ -59,8 +59,8 @@ def add_words(words: ArgumentParser) -> None:
     add_ticks(words)
 
 
-def obstacle(entry: Entry, run: Run, order: str) -> Optional[str]:
-    """Why what a session reached can't be recorded, or None."""
+def obstacle(entry: Entry, run: Run, order: str, is_reviewed: bool) -> Optional[str]:
+    """Why what a session reached can't be recorded, or None. Where all are taken at once, none is of a file that was played in another order."""
     if run.cause is not None:
         return source_told(entry, run.cause)
     ending = Ending(entry, run)
@@ -68,7 +68,9 @@ def obstacle(entry: Entry, run: Run, order: str) -> Optional[str]:
         return UNREADABLE
     if ending.is_turned_in(order):
         why = f"the recorded level is the reached one listed in the other order, not by {order}: play it in the order that it was recorded in"
-        raise Refused(f"{heading(run)}: {why}; nothing is accepted")
+        if not is_reviewed:
+            raise Refused(f"{heading(run)}: {why}; nothing is accepted")
+        return why
     return None
 
 
@@ -104,6 +106,11 @@ def write(sessions: Sessions, changes: Mapping[int, Tuple[str, Union[str, int]]]
         new = changed(sessions, changes)
         guard_size(given.sessions, new, len(sessions.entries), "divide it by saxtegun split, and accept the parts")
         write_again(given.sessions, sessions.text, new)
+
+
+def say_all(before: str, lines: Sequence[str]) -> None:
+    for line in lines:
+        say(f"accept: {before}{printable(line)}")
 
 
 @contextmanager
@@ -162,7 +169,7 @@ def main(given: Namespace) -> int:
         for run in runs:
             if run.number not in wanted or run.close == "passed":
                 continue
-            why = obstacle(sessions.entries[run.number], run, given.order)
+            why = obstacle(sessions.entries[run.number], run, given.order, review is not None)
             failed = failed or why is not None
             late = late or run.close == UNANSWERED
             if why is None and (review is None or review.accepts(sessions.entries[run.number], run)):
@@ -170,8 +177,12 @@ def main(given: Namespace) -> int:
                 said.append(f"{heading(run)}, accepted")
             else:
                 said.append(f"{heading(run)}, not accepted" + (f": {why}" if why else ""))
-    write(sessions, changes, given)
-    for line in said:
-        say(f"accept: {printable(line)}")
+    try:
+        write(sessions, changes, given)
+    except Refused:
+        if review is not None:
+            say_all("not written: ", said)
+        raise
+    say_all("", said)
     say(f"accept: {len(changes)} of {plural(len(sessions.entries), 'recorded level')} changed")
     return 2 if late else 1 if failed and given.only else 0
