@@ -714,7 +714,7 @@ class Crew {
 }
 
 /** How many bytes of lines one of so many workers may have, where all have a bound. */
-const shareOf = (most, count) => (most === Infinity ? most : Math.min(ROOM, most / count));
+const shareOf = (most, count) => (most === Infinity ? most : Math.min(ROOM, Math.floor(most / count)));
 
 /** The answer of a file whose parts were answered so: that of the first that is refused, where one is. */
 const wholeAnswer = answers => answers.find(answer => answer.fault !== null) ?? joinedAnswer(answers);

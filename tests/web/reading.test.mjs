@@ -121,6 +121,7 @@ it("of more lines than are wanted none are held, and where those of one session 
     assert.deepEqual([Buffer.from(whole.lines).equals(lines), whole.fault, told.at(-1)], [true, null, [4, 4]]);
     assert.deepEqual([(await played(lines.length - 1)).fault, (await played(1000)).fault], ["memory", "memory"]);
   }
+  assert.equal((await module.replayInWorkers(bytes, { workers: 3, most: 2 ** 29 })).fault, null); // which three don't share evenly
   assert.deepEqual([module.replay(bytes, { most: lines.length }).fault, module.replay(bytes, { most: lines.length - 1 }).fault], [null, "memory"]);
 });
 
