@@ -7,6 +7,7 @@ import { put } from "./saying.mjs";
 
 export const SIDE = 5; // pixels of a sprite
 const ON_CANVAS = new WeakMap(); // for each canvas what it shows: { level, pictures, scale, marked }
+const MOST_PICTURES = 1024; // of cells that are kept
 const LETTER = 40; // pixels of a cell that is drawn by a letter
 const BRIGHT = "#ffffff";
 const DARK = "#000000"; // of the inner line of a frame
@@ -28,32 +29,55 @@ function paintLetter(context, names) {
   context.fillText(name === "background" ? "." : [...name][0], LETTER / 2, LETTER / 2);
 }
 
-// The pictures of a game's cells, each drawn once. `labels` says for a label which objects stand in the cell, by their names.
+function emptyPicture(side) {
+  const picture = document.createElement("canvas");
+  picture.width = side;
+  picture.height = side;
+  return picture;
+}
+
+// The pictures of a game's objects, and of its cells, each painted once while it is kept: those of so many cells are, since a stranger's level may have
+// thousands that are all unlike. `labels` says for a label which objects stand in the cell, by their names.
 export class Pictures {
   constructor(look, labels) {
     this.ground = look.ground;
-    this.objects = new Map(look.objects.map((object) => [object[0], object]));
+    this.objects = new Map(look.objects.map((object) => [object[0], { object, picture: null }]));
     this.side = look.objects.length === 0 ? LETTER : SIDE;
     this.labels = labels;
     this.pictures = new Map();
   }
 
+  // The picture of a cell, up to the next that is asked for.
   of(label) {
-    if (!this.pictures.has(label)) this.pictures.set(label, this.paint(this.labels[label]));
-    return this.pictures.get(label);
+    const known = this.pictures.get(label);
+    if (known !== undefined) return known;
+    const picture = this.pictures.size < MOST_PICTURES ? emptyPicture(this.side) : this.forgotten();
+    this.paint(picture.getContext("2d"), this.labels[label]);
+    this.pictures.set(label, picture);
+    return picture;
   }
 
-  paint(names) {
-    const picture = document.createElement("canvas");
-    picture.width = this.side;
-    picture.height = this.side;
-    const context = picture.getContext("2d");
+  // The picture that was made first, which is that of no cell any more.
+  forgotten() {
+    const [label, picture] = this.pictures.entries().next().value;
+    this.pictures.delete(label);
+    return picture;
+  }
+
+  paint(context, names) {
     context.fillStyle = this.ground;
     context.fillRect(0, 0, this.side, this.side);
     if (this.side === LETTER) paintLetter(context, names);
-    const objects = names.map((name) => this.objects.get(name)).filter(Boolean);
-    objects.sort((one, other) => one[1] - other[1]).forEach((object) => paintObject(context, object));
-    return picture;
+    const there = names.map((name) => this.objects.get(name)).filter(Boolean);
+    for (const it of there.sort((one, other) => one.object[1] - other.object[1])) context.drawImage(this.ofObject(it), 0, 0);
+  }
+
+  ofObject(it) {
+    if (it.picture === null) {
+      it.picture = emptyPicture(SIDE);
+      paintObject(it.picture.getContext("2d"), it.object);
+    }
+    return it.picture;
   }
 }
 

@@ -98,7 +98,7 @@ test("a level that can't be read back hides the canvas, and what stood there is 
 });
 
 test("the cells of a game that couldn't be read are letters", () => {
-  const drawn = [], context = { fillRect: (...where) => drawn.push(where), fillText: (letter) => drawn.push(letter) };
+  const drawn = [], context = { fillRect: (...where) => drawn.push(where), fillText: (letter) => drawn.push(letter), drawImage: () => {} };
   globalThis.document = { createElement: () => ({ getContext: () => context }) };
   const labels = [["background"], ["background", "crate"], ["\u{1f600}x"], []], unread = new Pictures({ ground: "#000000", objects: [] }, labels);
   const sides = labels.map((_, label) => unread.of(label).width);
@@ -107,5 +107,39 @@ test("the cells of a game that couldn't be read are letters", () => {
   drawn.length = 0;
   assert.equal(new Pictures({ ground: "#000000", objects: [["crate", 0, ["#ffffff"], ""]] }, labels).of(1).width, 5);
   assert.deepEqual(drawn, [[0, 0, 5, 5], [0, 0, 5, 5]]);
+  delete globalThis.document;
+});
+
+// A picture that knows what was painted on it since it was filled whole.
+class Painted {
+  constructor() {
+    this.shown = [];
+  }
+
+  getContext() {
+    return {
+      set fillStyle(colour) {
+        this.colour = colour;
+      },
+      fillRect: (left, top, width, height) => { this.shown = width === 5 && height === 5 ? [] : [...this.shown, [left, top]]; },
+      drawImage: (picture, left, top) => this.shown.push([picture, left, top]),
+    };
+  }
+}
+
+test("of cells that are all unlike few pictures are kept, and each object is painted once", () => {
+  let made = 0;
+  globalThis.document = { createElement: () => { made += 1; return new Painted(); } };
+  const objects = Array.from({ length: 40 }, (_, number) => [`o${number}`, 40 - number, ["#ffffff"], "0".repeat(25)]), pairs = [];
+  for (let one = 0; one < 40; one += 1) for (let other = 0; other < 40; other += 1) pairs.push([`o${one}`, `o${other}`, "nobody"]);
+  const pictures = new Pictures({ ground: "#000000", objects }, pairs), first = pictures.of(0);
+  for (const label of [...pairs.keys(), 3, 1599, 0, 0]) {
+    const [one, other] = pairs[label].map((name) => Number(name.slice(1))), shown = pictures.of(label).shown;
+    assert.deepEqual(shown.map(([picture]) => picture), [Math.max(one, other), Math.min(one, other)].map((number) => pictures.ofObject(pictures.objects.get(`o${number}`))));
+    assert.ok(shown.every(([picture, left, top]) => picture.shown.length === 25 && left === 0 && top === 0));
+  }
+  assert.equal(made, 1024 + 40);
+  assert.equal(pictures.of(0), pictures.of(0));
+  assert.ok(first instanceof Painted);
   delete globalThis.document;
 });
