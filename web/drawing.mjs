@@ -22,6 +22,11 @@ function paintObject(context, [, , colours, sprite]) {
   }
 }
 
+// Whether nothing below an object is seen.
+function isOpaque([, , colours, sprite]) {
+  return sprite === "" ? Boolean(colours[0]) : Array.from(sprite).every((letter) => letter !== "." && Boolean(colours[Number(letter)]));
+}
+
 // Draws a cell by the first letter of a name in it, that of the background only where there is no other.
 function paintLetter(context, names) {
   const name = names.find((it) => it !== "background") ?? names[0] ?? " ";
@@ -41,7 +46,7 @@ function emptyPicture(side) {
 export class Pictures {
   constructor(look, labels) {
     this.ground = look.ground;
-    this.objects = new Map(look.objects.map((object) => [object[0], { object, picture: null }]));
+    this.objects = new Map(look.objects.map((object) => [object[0], { object, isOpaque: isOpaque(object), picture: null }]));
     this.side = look.objects.length === 0 ? LETTER : SIDE;
     this.labels = labels;
     this.pictures = new Map();
@@ -68,8 +73,8 @@ export class Pictures {
     context.fillStyle = this.ground;
     context.fillRect(0, 0, this.side, this.side);
     if (this.side === LETTER) paintLetter(context, names);
-    const there = names.map((name) => this.objects.get(name)).filter(Boolean);
-    for (const it of there.sort((one, other) => one.object[1] - other.object[1])) context.drawImage(this.ofObject(it), 0, 0);
+    const there = names.map((name) => this.objects.get(name)).filter(Boolean).sort((one, other) => one.object[1] - other.object[1]);
+    for (const it of there.slice(Math.max(0, there.map((it) => it.isOpaque).lastIndexOf(true)))) context.drawImage(this.ofObject(it), 0, 0);
   }
 
   ofObject(it) {

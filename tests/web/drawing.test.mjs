@@ -130,16 +130,25 @@ class Painted {
 test("of cells that are all unlike few pictures are kept, and each object is painted once", () => {
   let made = 0;
   globalThis.document = { createElement: () => { made += 1; return new Painted(); } };
-  const objects = Array.from({ length: 40 }, (_, number) => [`o${number}`, 40 - number, ["#ffffff"], "0".repeat(25)]), pairs = [];
+  const objects = Array.from({ length: 40 }, (_, number) => [`o${number}`, 40 - number, ["#ffffff", null], "0".repeat(24) + "1"]), pairs = [];
   for (let one = 0; one < 40; one += 1) for (let other = 0; other < 40; other += 1) pairs.push([`o${one}`, `o${other}`, "nobody"]);
   const pictures = new Pictures({ ground: "#000000", objects }, pairs), first = pictures.of(0);
   for (const label of [...pairs.keys(), 3, 1599, 0, 0]) {
     const [one, other] = pairs[label].map((name) => Number(name.slice(1))), shown = pictures.of(label).shown;
     assert.deepEqual(shown.map(([picture]) => picture), [Math.max(one, other), Math.min(one, other)].map((number) => pictures.ofObject(pictures.objects.get(`o${number}`))));
-    assert.ok(shown.every(([picture, left, top]) => picture.shown.length === 25 && left === 0 && top === 0));
+    assert.ok(shown.every(([picture, left, top]) => picture.shown.length === 24 && left === 0 && top === 0));
   }
   assert.equal(made, 1024 + 40);
   assert.equal(pictures.of(0), pictures.of(0));
   assert.ok(first instanceof Painted);
+  delete globalThis.document;
+});
+
+test("what an object hides isn't painted", () => {
+  globalThis.document = { createElement: () => new Painted() };
+  const objects = [["low", 0, ["#000000"], ""], ["wall", 1, ["#ffffff"], "0".repeat(25)], ["hole", 2, ["#ffffff", null], "0".repeat(24) + "1"], ["high", 3, ["#ffffff"], "0".repeat(24) + "."]];
+  const labels = [["high", "low"], ["wall", "low"], ["low", "hole", "wall"], ["hole", "low", "high"], []], pictures = new Pictures({ ground: "#000000", objects }, labels);
+  const shown = labels.map((_, label) => pictures.of(label).shown.map(([picture]) => objects.findIndex(([name]) => pictures.objects.get(name).picture === picture)));
+  assert.deepEqual(shown, [[0, 3], [1], [1, 2], [0, 2, 3], []]);
   delete globalThis.document;
 });
