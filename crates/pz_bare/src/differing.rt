@@ -1,8 +1,9 @@
-//! The cells in which another level of the same size differs.
+//! The cells in which another level of the same size differs, and cells compared and copied one by one.
 
-ghost use Rattle.std.specs.Prelude.{◌↔◌, IsTrue, length};
-ghost use Rattle.pz_sheet.specs.Changes.{differ_in, TellsOf};
+ghost use Rattle.std.specs.Prelude.{◌≡◌, ◌<◌, ◌↔◌, IsTrue, length};
+ghost use Rattle.pz_sheet.specs.Changes.{differ_in, with_cell, TellsOf};
 ghost use Rattle.pz_sheet.specs.Grid.{IsLawful, SameSize};
+ghost use Rattle.pz_sheet.specs.Presence.{cell_of};
 ghost use Rattle.pz_sets.specs.Next.{IsNext};
 
 use crate::{AnySheet, BareLevel};
@@ -18,6 +19,45 @@ impl BareLevel {
             (AnySheet::Middle(sheet), AnySheet::Middle(other)) => sheet.same_size(other),
             (AnySheet::Large(sheet), AnySheet::Large(other)) => sheet.same_size(other),
             _ => false,
+        }
+    }
+
+    /// Whether the cell of this number is the same as some cell of another level of the same size, in what stands there and where it
+    /// heads. Cells are numbered row by row.
+    pub fn has_cell_of(&self, index: usize, other: &BareLevel, at: usize) -> bool
+        requires size { SameSize self.now.grid other.now.grid }
+        requires within { index < length self.now.grid.cells }
+        requires there { at < length other.now.grid.cells }
+        ensures { IsTrue result ↔ (cell_of self.now.grid index ≡ cell_of other.now.grid at) }
+    {
+        match (&*self.sheet, &*other.sheet) {
+            (AnySheet::Small(sheet), AnySheet::Small(other)) => sheet.has_cell_of(index, other, at),
+            (AnySheet::Middle(sheet), AnySheet::Middle(other)) => sheet.has_cell_of(
+                index, other, at,
+            ),
+            (AnySheet::Large(sheet), AnySheet::Large(other)) => sheet.has_cell_of(index, other, at),
+            _ => unreachable!(),
+        }
+    }
+
+    /// Copies some cell of another level of the same size into the cell of this number.
+    pub fn take_cell_of(&mut self, index: usize, other: &BareLevel, at: usize)
+        requires size { SameSize self.old.grid other.now.grid }
+        requires within { index < length self.old.grid.cells }
+        requires there { at < length other.now.grid.cells }
+        ensures { self.new.grid ≡ with_cell self.old.grid (record { number = index; cell = cell_of other.now.grid at }) }
+    {
+        match (&mut *self.sheet, &*other.sheet) {
+            (AnySheet::Small(sheet), AnySheet::Small(other)) => sheet.take_cell_of(
+                index, other, at,
+            ),
+            (AnySheet::Middle(sheet), AnySheet::Middle(other)) => sheet.take_cell_of(
+                index, other, at,
+            ),
+            (AnySheet::Large(sheet), AnySheet::Large(other)) => sheet.take_cell_of(
+                index, other, at,
+            ),
+            _ => unreachable!(),
         }
     }
 

@@ -1,5 +1,5 @@
 -- Cells in words are the same if their words have the same numbers, and levels if none of their cells differ.
-use Rattle.pz_sheet.proofs.Common.{Layering, ◌≡◌, ℕ, ◌<◌, [], Option, Some, None, Bool, true, false, not, length, ap, sym, refl, arith, IsTrue, ◌↔◌, is_some, ext_get_or, All, flag, each_number, Cell, seen, IsSound, AreAlike, same_cell, cell_alike, objects_alike, heads_alike, same_cell_is, same_cell_self, differ_in, Grid, SameSize, cell_of, IsNext}
+use Rattle.pz_sheet.proofs.Common.{Layering, ◌≡◌, ℕ, ◌<◌, [], Option, Some, None, Bool, true, false, not, length, ap, sym, subst, refl, arith, IsTrue, ◌↔◌, is_some, ext_get_or, All, flag, each_number, Cell, seen, IsSound, AreAlike, same_cell, cell_alike, objects_alike, heads_alike, same_cell_is, same_cell_self, differ_in, Grid, SameSize, cell_of, IsNext}
 
 pub seen_alike : (N : ℕ) (layering : Layering) (cell other : Cell N) → IsSound layering cell → IsSound layering other → AreAlike cell other → seen layering cell ≡ seen layering other
 seen_alike N layering cell other sound sound_other same =
@@ -31,3 +31,10 @@ same_grids grid other size long none =
 pub none_differs : (grid other : Grid) (found : Option ℕ) (r : Bool) → SameSize grid other → length grid.cells ≡ length other.cells → is_some found ≡ not r → IsNext (differ_in grid other) 0 (length grid.cells) found → IsTrue r ↔ (grid ≡ other)
 none_differs grid other None r size long e none = (λ t. same_grids grid other size long (λ number within. none number (omega arith) within), λ same. grind arith)
 none_differs grid other (Some found) r size long e next = (λ t. grind arith, λ same. grind (arith, next.2, ap (λ (g : Grid). same_cell (cell_of grid found) (cell_of g found)) same, same_cell_self (cell_of grid found)))
+
+-- cells of two levels of one size are the same exactly where their words are alike
+pub same_here : (N : ℕ) (layering others : Layering) (cell other : Cell N) → others ≡ layering → All (λ l. l < layering.depth) layering.layers → IsSound layering cell → IsSound others other → (r : Bool) → (IsTrue r ↔ AreAlike cell other) → IsTrue r ↔ (seen layering cell ≡ seen others other)
+same_here N layering others cell other e low sound sound_other r is =
+    let there = subst (λ l. IsSound l other) e sound_other in
+    let same = λ (l : Layering). seen layering cell ≡ seen l other in
+    (λ t. subst same (sym e) (seen_alike N layering cell other sound there (is.0 t)), λ same_seen. is.1 (alike_seen N layering cell other low sound there (subst same e same_seen)))

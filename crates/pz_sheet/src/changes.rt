@@ -1,7 +1,8 @@
 //! The cells in which a level differs from an older one, and the way back to that.
 
-ghost use Rattle.std.specs.Prelude.{◌≡◌, ℕ, Bool, true, ◌<◌, ◌≤◌, ◌+◌, ◌^◌, All, Some, IfOk, OnOk, OnErr, MatchResult, length};
+ghost use Rattle.std.specs.Prelude.{◌≡◌, ℕ, Bool, true, ◌<◌, ◌≤◌, ◌+◌, ◌^◌, ◌↔◌, IsTrue, All, Some, IfOk, OnOk, OnErr, MatchResult, length};
 ghost use Rattle.pz_sheet.specs.Grid.{IsLawful, SameSize};
+ghost use Rattle.pz_sheet.specs.Presence.{cell_of};
 ghost use Rattle.pz_sets.specs.Next.{IsNext};
 
 use crate::Sheet;
@@ -171,6 +172,30 @@ impl<const N: usize> Sheet<N> {
         ensures { result ≡ true → self.now.grid.width ≤ 128 }
     {
         self.width <= bits::ROOM && self.layers.object_count() < self.width as usize / 2
+    }
+
+    /// Whether the cell of this number is the same as some cell of another level of the same size.
+    pub fn has_cell_of(&self, index: usize, other: &Sheet<N>, at: usize) -> bool
+        requires size { SameSize self.now.grid other.now.grid }
+        requires within { index < length self.now.grid.cells }
+        requires there { at < length other.now.grid.cells }
+        ensures { IsTrue result ↔ (cell_of self.now.grid index ≡ cell_of other.now.grid at) }
+    {
+        // (brings the proof the law of both levels)
+        let _ = (self.layers().depth(), other.layers().depth());
+        self.cell(index).same(other.cell(at))
+    }
+
+    /// Copies some cell of another level of the same size into the cell of this number.
+    pub fn take_cell_of(&mut self, index: usize, other: &Sheet<N>, at: usize)
+        requires size { SameSize self.old.grid other.now.grid }
+        requires within { index < length self.old.grid.cells }
+        requires there { at < length other.now.grid.cells }
+        ensures { self.new.grid ≡ with_cell self.old.grid (record { number = index; cell = cell_of other.now.grid at }) }
+    {
+        // (brings the proof the law of both levels)
+        let _ = (self.width(), other.width(), other.layers().depth());
+        self.set_cell(index, *other.cell(at));
     }
 
     /// Copies the cell of this number from another level of the same size.

@@ -1,0 +1,93 @@
+-- Books of cells.
+use Rattle.std.proofs.Common.{◌≡◌, ℕ, ◌*◌, ◌<◌, inl, inr, List, [], ◌∷◌, ◌++◌, length, length-append, map, Option, Some, refl, ap, sym, ◌∙◌, subst, arith, All}
+use Rattle.std.specs.Prelude.{slice_get}
+use Rattle.std.proofs.lemmas.List.{map-append}
+use Rattle.std.proofs.lemmas.List.Elements.{All-append, All-cons, All-head, All-nil, All-tail, All-weaker}
+use Rattle.pz_sheet.specs.Grid.{Grid, BareState, IsLawful, SameSize}
+use Rattle.pz_sheet.specs.Presence.{cell_of}
+use Rattle.pz_store.specs.declared.book.Place.{Place}
+use Rattle.pz_store.specs.Book.{AreDistinctCells, CellSeen, IsBook, IsFramed, IsPlaceIn, IsUnknown, cell_from, cell_in}
+use Rattle.pz_store.specs.Digest.{cell_word}
+use Rattle.pz_store.proofs.Listing.{last_there, still_there, there, there_before}
+
+-- two levels of the size of a third
+pub size_across : (frame a b : Grid) → SameSize frame a → SameSize frame b → SameSize a b
+size_across frame a b left right = record { width = right.width ∙ sym left.width; height = right.height ∙ sym left.height; depth = right.depth ∙ sym left.depth; layers = right.layers ∙ sym left.layers }
+
+-- levels of one size have as many cells
+pub as_many : (a b : Grid) → IsLawful a → IsLawful b → SameSize a b → length b.cells ≡ length a.cells
+as_many a b law other size = other.covers ∙ ap (λ (n : ℕ). n * b.height) size.width ∙ ap (λ (n : ℕ). a.width * n) size.height ∙ sym law.covers
+
+-- a cell stays where it is when a level is added
+pub cell_still : (levels : List BareState) (more : BareState) (place : Place) → place.level < length levels → cell_in (levels ++ more ∷ []) place ≡ cell_in levels place
+cell_still levels more place low =
+    let h = there levels place.level low in
+    ap (λ (o : Option BareState). cell_from o place.index) (still_there levels more place.level h.0 h.1 ∙ sym h.1)
+
+-- the cells stay what they are when a level is added
+pub cells_still : (frame : Grid) (levels : List BareState) (more : BareState) (objects : ℕ) (places : List Place) → All (IsPlaceIn frame levels objects) places → map (cell_in (levels ++ more ∷ [])) places ≡ map (cell_in levels) places
+cells_still frame levels more objects [] all = refl
+cells_still frame levels more objects (place ∷ places) all =
+    let first = All-head (IsPlaceIn frame levels objects) place places all in
+    ap (λ (c : CellSeen). c ∷ map (cell_in (levels ++ more ∷ [])) places) (cell_still levels more place first.level)
+    ∙ ap (λ (cs : List CellSeen). cell_in levels place ∷ cs) (cells_still frame levels more objects places (All-tail (IsPlaceIn frame levels objects) place places all))
+
+placed_still : (frame : Grid) (levels : List BareState) (more : BareState) (objects : ℕ) (place : Place) → IsPlaceIn frame levels objects place → IsPlaceIn frame (levels ++ more ∷ []) objects place
+placed_still frame levels more objects place is = record {
+  level = omega (arith, is.level, length-append levels (more ∷ []));
+  index = is.index;
+  word = is.word ∙ ap (λ (c : CellSeen). cell_word objects c) (sym (cell_still levels more place is.level));
+}
+
+-- a book with one level more
+pub with_level : (frame : Grid) (levels : List BareState) (places : List Place) (objects : ℕ) (more : BareState) → IsBook frame levels places objects → IsFramed frame more → IsBook frame (levels ++ more ∷ []) places objects
+with_level frame levels places objects more book framed = record {
+  framed = All-append (IsFramed frame) levels (more ∷ []) book.framed (All-cons (IsFramed frame) more [] framed (All-nil (IsFramed frame)));
+  placed = All-weaker (IsPlaceIn frame levels objects) (IsPlaceIn frame (levels ++ more ∷ []) objects) (λ place is. placed_still frame levels more objects place is) places book.placed;
+  distinct = subst AreDistinctCells (sym (cells_still frame levels more objects places book.placed)) book.distinct;
+}
+
+distinct_more : (cells : List CellSeen) (new : CellSeen) → AreDistinctCells cells → IsUnknown cells new → AreDistinctCells (cells ++ new ∷ [])
+distinct_more cells new distinct unknown number other cell is is_other = elim (there_before cells new number cell is) [
+  | inl was ↦ elim (there_before cells new other cell is_other) [
+    | inl too ↦ distinct number other cell was too
+    | inr last ↦ absurd (unknown number (was ∙ ap (λ (c : CellSeen). Some c) (sym last.1)))
+  ]
+  | inr last ↦ elim (there_before cells new other cell is_other) [
+    | inl was ↦ absurd (unknown other (was ∙ ap (λ (c : CellSeen). Some c) (sym last.1)))
+    | inr too ↦ last.0 ∙ sym too.0
+  ]
+]
+
+-- where a cell stands in the level that was added last
+in_last : (levels : List BareState) (more : BareState) (place : Place) → place.level ≡ length levels → cell_in (levels ++ more ∷ []) place ≡ cell_of more.grid place.index
+in_last levels more place last =
+    ap (λ (n : ℕ). cell_from (slice_get (levels ++ more ∷ []) n) place.index) last ∙ ap (λ (o : Option BareState). cell_from o place.index) (last_there levels more)
+
+module _ (frame grid : Grid) (levels : List BareState) (places : List Place) (objects : ℕ) (copy : BareState) (place : Place) (book : IsBook frame levels places objects)
+    (copied : copy.grid ≡ grid) (last : place.level ≡ length levels) where
+  there_now : cell_in (levels ++ copy ∷ []) place ≡ cell_of grid place.index
+  there_now = in_last levels copy place last ∙ ap (λ (g : Grid). cell_of g place.index) copied
+
+  -- the cells of a book that got a cell of a level which it got too
+  pub cells_added : map (cell_in (levels ++ copy ∷ [])) (places ++ place ∷ []) ≡ map (cell_in levels) places ++ cell_of grid place.index ∷ []
+  cells_added =
+      map-append (cell_in (levels ++ copy ∷ [])) places (place ∷ [])
+      ∙ ap (λ (cs : List CellSeen). cs ++ cell_in (levels ++ copy ∷ []) place ∷ []) (cells_still frame levels copy objects places book.placed)
+      ∙ ap (λ (c : CellSeen). map (cell_in levels) places ++ c ∷ []) there_now
+
+  -- and what holds of it
+  pub added : IsFramed frame copy → place.index < length frame.cells → place.word ≡ cell_word objects (cell_of grid place.index) → IsUnknown (map (cell_in levels) places) (cell_of grid place.index) →
+      IsBook frame (levels ++ copy ∷ []) (places ++ place ∷ []) objects
+  added framed within word unknown =
+      let with_it = with_level frame levels places objects copy book framed in
+      let placed : IsPlaceIn frame (levels ++ copy ∷ []) objects place = record {
+        level = omega (arith, last, length-append levels (copy ∷ []));
+        index = within;
+        word = word ∙ ap (λ (c : CellSeen). cell_word objects c) (sym there_now);
+      } in
+      record {
+        framed = with_it.framed;
+        placed = All-append (IsPlaceIn frame (levels ++ copy ∷ []) objects) places (place ∷ []) with_it.placed (All-cons (IsPlaceIn frame (levels ++ copy ∷ []) objects) place [] placed (All-nil (IsPlaceIn frame (levels ++ copy ∷ []) objects)));
+        distinct = subst AreDistinctCells (sym cells_added) (distinct_more (map (cell_in levels) places) (cell_of grid place.index) book.distinct unknown);
+      }

@@ -1,0 +1,28 @@
+-- The digest of a level: a number that is the same for equal levels. The objects of each cell are the bits of a word, and these words
+-- are mixed in their order. Which levels have one digest matters for speed alone.
+use Rattle.std.specs.Prelude.{ℕ, zero, suc, ◌+◌, ◌*◌, ◌%◌, ◌^◌, Bool, true, false, List, Option, fold, map}
+use Rattle.pz_cells.specs.declared.piece.Piece.{Piece}
+use Rattle.pz_sheet.specs.Grid.{Grid}
+use Rattle.pz_sheet.specs.Presence.{is_in}
+use Rattle.pz_store.specs.declared.digest.TheConstants.{FACTOR}
+
+abbrev pub bit_of : Bool → ℕ
+bit_of true = 1
+bit_of false = 0
+
+-- a word with one more bit at its end
+unfoldable pub with_bit : ℕ → Bool → ℕ
+with_bit word is_set = (word * 2 + bit_of is_set) % 2 ^ 64
+
+-- a digest, mixed with one word more
+unfoldable pub mixed : ℕ → ℕ → ℕ
+mixed digest word = (((digest + word) % 2 ^ 64) * FACTOR) % 2 ^ 64
+
+-- the first objects of a cell, as bits
+unfoldable pub cell_word : ℕ → List (Option Piece) → ℕ
+cell_word zero cell = 0
+cell_word (suc objects) cell = with_bit (cell_word objects cell) (is_in cell objects)
+
+-- the digest of a level, by the first objects of its game
+abbrev pub digest_of : ℕ → Grid → ℕ
+digest_of objects grid = fold mixed 0 (map (cell_word objects) grid.cells)

@@ -1,0 +1,4 @@
+pub mod Digest
+pub mod Book
+pub mod Rows
+pub mod Levels
