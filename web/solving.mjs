@@ -10,10 +10,9 @@ import { withWork } from "./work.mjs";
 
 const ROOM = 2 ** 28; // bytes of the levels of play that a search keeps, as far as that is known beforehand
 const MOST_SEARCHED = 1_000_000; // of these levels
-const BYTES_OF_CELL = 32; // of a level that is kept,
-const BYTES_OF_LINE = 16; // and of each object in each row and column,
-const TWICE = 2; // and as many by what is beside them
-const OBJECTS_OF_WORD = 128; // objects for which a cell has one word; beyond that it has two, or four
+const BYTES_OF_CELL = 4; // at most, in a level that is kept,
+const BYTES_OF_LEVEL = 64; // of its own,
+const TWICE = 2; // and as many while there is room for more
 const PRESSES = ["up", "left", "down", "right", "action"];
 
 const pressesTold = (count) => (count === 1 ? "1 press" : `${count} presses`);
@@ -22,9 +21,8 @@ const withSolving = (state, solving) => ({ ...state, solving, told: null });
 
 // How many levels of play a search keeps, by the largest level of the game.
 function levelsKept(source) {
-  const { length } = gameOf(source).objects, words = length <= OBJECTS_OF_WORD ? 1 : length <= 2 * OBJECTS_OF_WORD ? 2 : 4;
-  const sizes = levelsOf(source).map(({ width, height }) => TWICE * (BYTES_OF_CELL * words * width * height + BYTES_OF_LINE * length * (width + height)));
-  return sizes.length === 0 ? 1 : Math.max(1, Math.min(MOST_SEARCHED, Math.floor(ROOM / Math.max(...sizes))));
+  const counts = levelsOf(source).map(({ width, height }) => width * height);
+  return Math.min(MOST_SEARCHED, Math.floor(ROOM / (TWICE * (BYTES_OF_CELL * Math.max(0, ...counts) + BYTES_OF_LEVEL))));
 }
 
 // Whether there is a frame from which a solution can be looked for.

@@ -21,10 +21,8 @@ MOST_BYTES = 2**29
 MOST_LEVELS = 1_000_000
 # So many seconds a search has, and all that are asked for together.
 SECONDS, WITHIN = 60.0, 600.0
-# Of each cell a level that is kept has so many bytes, of each object in each row and column so many, and twice as many of all by what is beside them.
-BYTES_OF_CELL, BYTES_OF_LINE, BESIDE = 32, 16, 2
-# A game of so many objects, or of so many layers, has cells of one word, and of two words twice as many.
-OBJECTS_OF_WORD, LAYERS_OF_WORD, MOST_WORDS = 128, 25, 4
+# Of each cell a level that is kept has so many bytes at most, of its own so many, and twice as many of all while there is room for more.
+BYTES_OF_CELL, BYTES_OF_LEVEL, GROWING = 4, 64, 2
 # The presses in words, by their numbers.
 WORDS = ("up", "left", "down", "right", "action")
 MOST_PRESS = len(WORDS) - 1
@@ -78,13 +76,9 @@ class Bounds(NamedTuple):
 
 
 def bytes_of_level(entry: Entry) -> int:
-    """About how many bytes a level takes that is kept: of the largest one of the game from where the session begins."""
-    game = game_of(entry.source)
-    words = 1
-    while words < MOST_WORDS and (len(game.objects) > OBJECTS_OF_WORD * words or len(set(game.layers.values())) > LAYERS_OF_WORD * words):
-        words *= 2
-    sizes = [(len(it.rows[0]), len(it.rows)) for it in entries_of_levels(entry.source)[entry.index :] if it.rows]
-    return max((BESIDE * (BYTES_OF_CELL * words * wide * high + BYTES_OF_LINE * len(game.objects) * (wide + high)) for wide, high in sizes), default=1)
+    """How many bytes a level takes at most that is kept: of the largest one of the game from where the session begins."""
+    counts = [len(it.rows[0]) * len(it.rows) for it in entries_of_levels(entry.source)[entry.index :] if it.rows]
+    return GROWING * (BYTES_OF_CELL * max(counts, default=0) + BYTES_OF_LEVEL)
 
 
 def levels_in(word: str) -> int:

@@ -40,7 +40,7 @@ it("what is looked at is asked about", async () => {
   await moved();
   assert.deepEqual(bench.asked.map(({ source, index, order, inputs }) => [source, index, order, inputs]), [[GAME, 0, "columns", [1, 0]]]);
   // a level of 6 by 7 cells and a game of five objects
-  assert.equal(bench.asked[0].levels, Math.floor(2 ** 28 / (2 * (32 * 42 + 16 * 5 * 13))));
+  assert.equal(bench.asked[0].levels, Math.floor(2 ** 28 / (2 * (4 * 42 + 64))));
 });
 
 it("each answer is told", async () => {

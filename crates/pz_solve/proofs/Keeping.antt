@@ -1,8 +1,6 @@
 -- Levels that are kept, with one more.
-use Rattle.std.proofs.Common.{◌≡◌, ℕ, zero, suc, ◌<◌, ◌≤◌, inl, inr, false, List, [], ◌∷◌, ◌++◌, length, Some, refl, ap, sym, ◌∙◌, subst, arith}
-use Rattle.std.specs.Prelude.{slice_get, slice_index_or, option_map}
-use Rattle.std.proofs.lemmas.Option.{slice_get-map, slice_get_read}
-use Rattle.pz_solve.specs.declared.search.Node.{Node}
+use Rattle.std.proofs.Common.{◌≡◌, ℕ, zero, suc, ◌<◌, ◌≤◌, inl, inr, false, List, [], ◌∷◌, ◌++◌, length, Some, ap, sym, subst, arith}
+use Rattle.std.specs.Prelude.{slice_get}
 use Rattle.std.specs.Cmp.{IsEquivalence}
 use Rattle.std.specs.List.{IsDistinct}
 use Rattle.std.proofs.lemmas.List.{map-append}
@@ -11,7 +9,7 @@ use Rattle.pz_sheet.specs.Grid.{Grid}
 use Rattle.pz_sheet.specs.Sameness.{same_grid}
 use Rattle.pz_grid.proofs.SameLemmas.{same_grid_is, same_grid_self}
 use Rattle.pz_solve.specs.Found.{Found, start_of}
-use Rattle.pz_solve.specs.Noted.{AreDistinct, IsKept, IsPlaced, entry_in, found_in, grids_of, is_found}
+use Rattle.pz_solve.specs.Noted.{AreDistinct, IsKept, IsPlaced, grids_of, is_found}
 use Rattle.pz_solve.proofs.Listing.{there_before}
 
 pub same_grid_equivalence : IsEquivalence same_grid
@@ -44,7 +42,3 @@ kept_more found more kept new low behind = record {
     | inr last ↦ subst (λ (f : Found). IsPlaced index f) last.1 (record { low = omega (arith, low, last.0); behind = λ _. omega (arith, behind, last.0) })
   ];
 }
-
--- a node that is read is what was found
-pub read_node : (nodes : List Node) (index : ℕ) (node : Node) → index < length nodes → node ≡ slice_index_or nodes index node → slice_get (found_in nodes) index ≡ Some (entry_in node)
-read_node nodes index node within is = slice_get-map entry_in nodes index ∙ ap (option_map entry_in) (slice_get_read nodes (length nodes) index node refl within is)

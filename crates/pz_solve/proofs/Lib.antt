@@ -1,12 +1,14 @@
 pub mod Listing
 pub mod Searching
 pub mod Ticking
+pub mod Sizes
 pub mod Keeping
 pub mod Reaching
 pub mod TryingLemmas
 pub mod Expanding
 pub mod Answering
-pub mod Digesting
+pub mod Finding
+pub mod Storing
 pub mod Indexing
 pub mod Knowing
 pub mod WorkedSearches

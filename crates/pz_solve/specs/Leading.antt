@@ -1,6 +1,6 @@
 -- What the program's moves say.
 use Rattle.pz_game.specs.declared.game.GameParts.{GameParts}
-use Rattle.pz_sheet.specs.Grid.{Grid, IsOfGame}
+use Rattle.pz_sheet.specs.Grid.{Grid, IsOfGame, SameSize}
 use Rattle.pz_turn.specs.declared.stepping.StepEnd.{StepEnd}
 use Rattle.pz_turn.specs.Outcome.{Outcome}
 use Rattle.pz_solve.specs.declared.moves.Move.{Move}
@@ -32,3 +32,13 @@ IsMoveIn game move.DeadEnd = Unit {0}
 abbrev pub IsNextIn : GameParts → Next → Type 0
 IsNextIn game (next.Tick level) = IsOfGame game level.grid
 IsNextIn game (next.End end) = IsMoveIn game end
+
+-- a level to which a move leads has the size of another
+abbrev pub MoveKeepsSize : Grid → Move → Type 0
+MoveKeepsSize before (move.Stands level) = SameSize before level.grid
+MoveKeepsSize before move.Wins = Unit {0}
+MoveKeepsSize before move.DeadEnd = Unit {0}
+
+abbrev pub NextKeepsSize : Grid → Next → Type 0
+NextKeepsSize before (next.Tick level) = SameSize before level.grid
+NextKeepsSize before (next.End end) = MoveKeepsSize before end

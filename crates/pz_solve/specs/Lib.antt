@@ -1,7 +1,6 @@
 pub mod Moves
 pub mod Leading
 pub mod Winning
-pub mod Digest
 pub mod Found
 pub mod Noted
 pub mod Trying

@@ -1,13 +1,13 @@
 -- What a search keeps.
 use Rattle.std.specs.Prelude.{◌≡◌, ℕ, ◌≤◌, ◌<◌, Bool, true, false, List, [], ◌∷◌, ◌++◌, length, map, Option, Some, None, if◌then◌else◌, slice_get}
-use Rattle.std.specs.List.{IsDistinct, list_any}
+use Rattle.std.specs.List.{IsDistinct, list_any, zip}
 use Rattle.pz_sheet.specs.Grid.{Grid}
 use Rattle.pz_sheet.specs.Sameness.{same_grid}
+use Rattle.pz_store.specs.Digest.{digest_of}
+use Rattle.pz_store.specs.Levels.{LevelsState}
 use Rattle.pz_solve.specs.declared.search.Link.{Link}
-use Rattle.pz_solve.specs.declared.search.Node.{Node}
 use Rattle.pz_solve.specs.declared.search.Noted.{Noted}
 use Rattle.pz_solve.specs.declared.search.Noted.TheVariants.{Known, Added, NoRoom}
-use Rattle.pz_solve.specs.Digest.{digest_of}
 use Rattle.pz_solve.specs.Found.{Found}
 
 abbrev pub entry_of : Grid → Link → Found
@@ -16,12 +16,9 @@ entry_of grid link = record { grid = grid; depth = link.depth; parent = link.par
 abbrev pub link_of : Found → Link
 link_of found = record { depth = found.depth; parent = found.parent; input = found.input }
 
-abbrev pub entry_in : Node → Found
-entry_in node = entry_of node.level.grid node.link
-
--- the levels that these nodes have
-abbrev pub found_in : List Node → List Found
-found_in nodes = map entry_in nodes
+-- levels, and how each of them was found, side by side
+abbrev pub found_in : List Grid → List Link → List Found
+found_in grids links = map (λ pair. entry_of pair.0 pair.1) (zip grids links)
 
 abbrev pub grids_of : List Found → List Grid
 grids_of found = map (λ here. here.grid) found
@@ -41,20 +38,27 @@ pub record IsKept (found : List Found) : Type 0 where
   pub placed : (index : ℕ) (here : Found) → slice_get found index ≡ Some here → IsPlaced index here
 
 -- the digests of levels, by so many objects
-abbrev pub digests_of : ℕ → List Found → List ℕ
-digests_of objects found = map (λ here. digest_of objects here.grid) found
+abbrev pub digests_of : ℕ → List Grid → List ℕ
+digests_of objects grids = map (digest_of objects) grids
 
--- what holds of what is stored: the levels are kept, and their digests indexed
-pub record IsStored (objects : ℕ) (digests : List ℕ) (found : List Found) : Type 0 where
-  pub kept : IsKept found
-  pub indexed : digests ≡ digests_of objects found
+-- what holds of what is stored: each level has its link, the levels are kept, their digests are indexed, and there is room for the numbers
+-- of one level more
+pub record IsStored (levels : LevelsState) (links : List Link) (digests numbers : List ℕ) : Type 0 where
+  pub linked : length links ≡ length levels.grids
+  pub kept : IsKept (found_in levels.grids links)
+  pub indexed : digests ≡ digests_of levels.objects levels.grids
+  pub long : length numbers ≡ length levels.frame.cells
+
+-- a level is among others
+abbrev pub is_among : List Grid → Grid → Bool
+is_among grids grid = list_any (same_grid grid) grids
 
 abbrev pub is_found : List Found → Grid → Bool
-is_found found grid = list_any (same_grid grid) (grids_of found)
+is_found found grid = is_among (grids_of found) grid
 
--- the digest of a level that was not found
-abbrev pub digest_if_new : ℕ → List Found → Grid → Option ℕ
-digest_if_new objects found grid = if is_found found grid then None else Some (digest_of objects grid)
+-- the digest of a level that is not among others
+abbrev pub digest_if_new : ℕ → List Grid → Grid → Option ℕ
+digest_if_new objects grids grid = if is_among grids grid then None else Some (digest_of objects grid)
 
 -- a level was known, and nothing changed; or it wasn't, and was added, or there was no room for it
 abbrev pub IsNotedAs : List Found → List Found → ℕ → Found → Noted → Type 0

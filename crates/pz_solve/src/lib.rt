@@ -2,7 +2,6 @@
 #![tactic(auto)]
 
 mod answer;
-mod digest;
 mod index;
 pub mod laws;
 pub mod moves;

@@ -2,11 +2,11 @@
 
 ghost use Rattle.std.specs.Prelude.{◌≡◌, None, Some, IfOk};
 ghost use Rattle.pz_program.specs.Instance.{IsProgramOf};
-ghost use Rattle.pz_sheet.specs.Grid.{Grid, IsOfGame};
+ghost use Rattle.pz_sheet.specs.Grid.{Grid, IsOfGame, SameSize};
 ghost use Rattle.pz_session.specs.Turn.{is_idle};
 ghost use Rattle.pz_turn.specs.Step.{step_of};
 ghost use Rattle.pz_solve.specs.Moves.{Reached, effect, move_of, pressed, started, ticked, ticks};
-ghost use Rattle.pz_solve.specs.Leading.{end_of, reached_by, reached_in, IsMoveIn, IsNextIn};
+ghost use Rattle.pz_solve.specs.Leading.{end_of, reached_by, reached_in, IsMoveIn, IsNextIn, MoveKeepsSize, NextKeepsSize};
 
 use bitflags::Flags;
 use pz_game::direction::Dir;
@@ -56,6 +56,7 @@ fn effect(game: &Game, end: StepEnd) -> Next
     requires { IsOfGame game.now end.level.grid }
     ensures next { (tick : Grid → Reached) → reached_in tick result ≡ effect tick game.now (end_of end) }
     ensures game { IsNextIn game.now result }
+    ensures size { (before : Grid) → SameSize before end.level.grid → NextKeepsSize before result }
 {
     let commands = end.commands;
     if commands.contains(Commands::CANCEL) {
@@ -80,6 +81,7 @@ fn tick(alloc: Global, game: &Game, program: &Program, level: Level) -> Result<N
     requires program_of { IsProgramOf game.now.layers program.now }
     ensures next { IfOk result (λ next. (tick : Grid → Reached) → reached_in tick next ≡ ticked tick game.now level.grid (step_of game.now program.now level.grid None)) }
     ensures game { IfOk result (IsNextIn game.now) }
+    ensures size { IfOk result (NextKeepsSize level.grid) }
 {
     match step(alloc, game, program, &level, None) {
         Ok(end) => {
@@ -101,6 +103,7 @@ fn finish(alloc: Global, game: &Game, program: &Program, level: Level) -> Result
     requires program_of { IsProgramOf game.now.layers program.now }
     ensures reached { IfOk result (λ end. reached_by end ≡ ticks game.now program.now MOST_TICKS level.grid) }
     ensures game { IfOk result (IsMoveIn game.now) }
+    ensures size { IfOk result (MoveKeepsSize level.grid) }
 {
     let mut level = level;
     let mut allowed = MOST_TICKS;
@@ -127,6 +130,7 @@ fn press(
     requires program_of { IsProgramOf game.now.layers program.now }
     ensures next { IfOk result (λ next. (tick : Grid → Reached) → reached_in tick next ≡ pressed tick game.now (step_of game.now program.now level.now.grid (Some input))) }
     ensures game { IfOk result (IsNextIn game.now) }
+    ensures size { IfOk result (NextKeepsSize level.now.grid) }
 {
     match step_in(alloc, game, program, level, spare, Some(input)) {
         Ok(end) => Ok(effect(game, end)),
@@ -149,6 +153,7 @@ pub(crate) fn play(
     requires program_of { IsProgramOf game.now.layers program.now }
     ensures reached { IfOk result (λ end. reached_by end ≡ move_of game.now program.now level.now.grid input) }
     ensures game { IfOk result (IsMoveIn game.now) }
+    ensures size { IfOk result (MoveKeepsSize level.now.grid) }
 {
     match press(alloc, game, program, level, spare, input)? {
         Next::Tick(next) => finish(alloc, game, program, next),
@@ -168,6 +173,7 @@ pub fn start(
     requires program_of { IsProgramOf game.now.layers program.now }
     ensures reached { IfOk result (λ end. reached_by end ≡ started game.now program.now level.grid) }
     ensures game { IfOk result (IsMoveIn game.now) }
+    ensures size { IfOk result (MoveKeepsSize level.grid) }
 {
     if game.options().run_rules_on_level_start {
         finish(alloc, game, program, level)

@@ -28,7 +28,7 @@ pub(crate) fn inputs_to(
     'links: while at > 0 {
         let link = search.link(at);
         inputs.push(link.input)?;
-        at = link.parent;
+        at = link.parent as usize;
     }
     inputs.reverse();
     Ok(inputs)

@@ -1,30 +1,26 @@
 //! The levels that a search has found.
 
-ghost use Rattle.std.specs.Prelude.{◌≡◌, ◌+◌, ◌<◌, ◌≤◌, [], ◌∷◌, ◌++◌, ◌↔◌, IsTrue, length, IfOk, OnErr, option_map, Some, slice_get};
+ghost use Rattle.std.specs.Prelude.{◌≡◌, ◌+◌, ◌-◌, ◌<◌, ◌≤◌, [], ◌∷◌, ◌++◌, length, IfOk, OnOk, OnErr, option_map, Some, slice_get};
+ghost use Rattle.pz_sheet.specs.Grid.{Grid, SameSize};
+ghost use Rattle.pz_store.specs.Book.{AreNumbers};
+ghost use Rattle.pz_store.specs.Levels.{IsRow};
 ghost use Rattle.pz_solve.specs.Found.{Found, start_of};
-ghost use Rattle.pz_solve.specs.Noted.{digest_if_new, digests_of, entry_of, found_in, link_of, IsKept, IsNotedAs};
+ghost use Rattle.pz_solve.specs.Noted.{digest_if_new, digests_of, entry_of, link_of, IsKept, IsNotedAs};
 
-use crate::digest::digest;
 use crate::index::Index;
 use pz_bare::BareLevel;
 use pz_game::direction::Dir;
 use pz_grid::Level;
+use pz_store::levels::Levels;
 use std::alloc::{AllocError, Global};
 use std::marker::Model;
 
 /// How a level was found: after so many presses, from which level before it, and by which press.
 #[derive(Clone, Copy)]
 pub struct Link {
-    pub depth: usize,
-    pub parent: usize,
+    pub depth: u32,
+    pub parent: u32,
     pub input: Dir,
-}
-
-/// A level that was found, and how.
-#[derive(Drop)]
-pub struct Node {
-    pub level: BareLevel,
-    pub link: Link,
 }
 
 /// What became of a level.
@@ -38,12 +34,13 @@ pub enum Noted {
     NoRoom,
 }
 
-/// The levels that a search has found, each once, in the order of their depths. `index` has their digests, by that many objects. `spare` is
-/// memory for the next step.
+/// The levels that a search has found, each once, in the order of their depths, and how each was found. `index` has their digests.
+/// `numbers` is room for those of a level's cells, and `spare` for the next step.
 pub struct Search {
-    nodes: Vec<Node>,
+    levels: Levels,
+    links: Vec<Link>,
     index: Index,
-    objects: usize,
+    numbers: Vec<u32>,
     spare: Option<Level>,
 }
 
@@ -51,12 +48,15 @@ pub struct Search {
 impl Drop for Search {
     fn drop(self) {
         let Search {
-            nodes,
+            levels,
+            links,
             index: _index,
-            objects: _,
+            numbers,
             spare,
         } = self;
-        drop(nodes);
+        drop(levels);
+        drop(links);
+        drop(numbers);
         drop(spare);
     }
 }
@@ -68,28 +68,21 @@ impl Model for Search {
 
     ghost Value = { List Found };
 
-    ghost view = { λ s. found_in s.nodes.items };
+    ghost view = { λ s. found_in s.levels.grids s.links.items };
 
-    ghost invariant = { λ s. IsStored s.objects s.index (found_in s.nodes.items) };
+    ghost invariant = { λ s. IsStored s.levels s.links.items s.index s.numbers.items };
 }
 
-/// Whether a level is the one of a node.
-fn is_at(nodes: &[Node], place: usize, level: &Level) -> bool
-    requires { place < length nodes.now }
-    ensures { (here : Found) → slice_get (found_in nodes.now) place ≡ Some here → IsTrue result ↔ (level.now.grid ≡ here.grid) }
+/// The digest of the level whose cells have these numbers, unless it is among the levels.
+fn digest_if_new(levels: &Levels, index: &Index, numbers: &[u32]) -> Option<u64>
+    requires indexed { index.now ≡ digests_of levels.now.objects levels.now.grids }
+    requires row { IsRow levels.now.frame levels.now.cells numbers.now }
+    ensures { (grid : Grid) → SameSize levels.now.frame grid → AreNumbers levels.now.cells numbers.now grid → result ≡ digest_if_new levels.now.objects levels.now.grids grid }
 {
-    level.bare().equals(&nodes[place].level)
-}
-
-/// The digest of a level, unless it is among those of these nodes.
-fn digest_if_new(nodes: &[Node], index: &Index, objects: usize, level: &Level) -> Option<u64>
-    requires { index.now ≡ digests_of objects (found_in nodes.now) }
-    ensures { result ≡ digest_if_new objects (found_in nodes.now) level.now.grid }
-{
-    let digest = digest(level.bare(), objects);
+    let digest = levels.digest(numbers);
     let mut at = index.newest(digest);
     'places: while let Some(place) = at {
-        if is_at(nodes, place, level) {
+        if levels.has_at(place, numbers) {
             return None;
         }
         at = index.older(place, digest);
@@ -102,20 +95,23 @@ impl Search {
     pub(crate) fn new(alloc: Global, level: &Level, objects: usize) -> Result<Search, AllocError>
         ensures { IfOk result (λ search. search ≡ start_of level.now.grid ∷ []) }
     {
-        let mut nodes = Vec::new(alloc);
-        let level = level.bare().copy()?;
-        let link = Link {
+        let level = level.bare();
+        let mut levels = Levels::new(alloc, level, objects)?;
+        let numbers = levels.number_all(alloc, level)?;
+        let mut index = Index::new(alloc);
+        index.push(levels.digest(&numbers))?;
+        levels.push(&numbers)?;
+        let mut links = Vec::new(alloc);
+        links.push(Link {
             depth: 0,
             parent: 0,
             input: Dir::Action,
-        };
-        let mut index = Index::new(alloc);
-        index.push(digest(&level, objects))?;
-        nodes.push(Node { level, link })?;
+        })?;
         Ok(Search {
-            nodes,
+            levels,
+            links,
             index,
-            objects,
+            numbers,
             spare: None,
         })
     }
@@ -125,15 +121,15 @@ impl Search {
         ensures count { result ≡ length self.now }
         ensures kept { IsKept self.now }
     {
-        self.nodes.len()
+        self.links.len()
     }
 
-    /// The level of this number.
-    pub(crate) fn level(&self, index: usize) -> &BareLevel
+    /// A copy of the level of this number. Err: memory was refused.
+    pub(crate) fn level(&self, index: usize) -> Result<BareLevel, AllocError>
         requires { index < length self.now }
-        ensures { option_map (λ found. found.grid) (slice_get self.now index) ≡ Some result.now.grid }
+        ensures { IfOk result (λ level. option_map (λ found. found.grid) (slice_get self.now index) ≡ Some level.grid) }
     {
-        &self.nodes[index].level
+        self.levels.level(index)
     }
 
     /// How the level of this number was found.
@@ -143,24 +139,28 @@ impl Search {
         ensures low { result.depth ≤ index }
         ensures behind { 0 < index → result.parent < index }
     {
-        self.nodes[index].link
+        self.links[index]
     }
 
-    /// How a level is found by a press from the level of this number.
-    pub(crate) fn link_behind(&self, index: usize, input: Dir) -> Link
+    /// How a level is found by a press from the level of this number. Err: there is no number for its depth or for that level.
+    pub(crate) fn link_behind(&self, index: usize, input: Dir) -> Result<Link, AllocError>
         requires { index < length self.now }
-        ensures depth { option_map (λ found. found.depth + 1) (slice_get self.now index) ≡ Some result.depth }
-        ensures parent { result.parent ≡ index }
-        ensures input { result.input ≡ input }
-        ensures low { result.depth ≤ length self.now }
+        ensures depth { IfOk result (λ link. option_map (λ found. found.depth + 1) (slice_get self.now index) ≡ Some link.depth) }
+        ensures parent { IfOk result (λ link. link.parent ≡ index) }
+        ensures input { IfOk result (λ link. link.input ≡ input) }
+        ensures low { IfOk result (λ link. link.depth ≤ length self.now) }
     {
-        // (brings the proof how long the list may be)
-        let _ = self.nodes.len();
-        Link {
-            depth: self.link(index).depth + 1,
-            parent: index,
+        let Ok(parent) = u32::try_from(index) else {
+            return Err(AllocError);
+        };
+        let Some(depth) = self.link(index).depth.checked_add(1) else {
+            return Err(AllocError);
+        };
+        Ok(Link {
+            depth,
+            parent,
             input,
-        }
+        })
     }
 
     /// Memory for a step, if there is some.
@@ -180,28 +180,36 @@ impl Search {
     /// Adds a level that another one led to, unless it was found before, or so many levels were found already. Err: memory was refused.
     pub(crate) fn note(
         &mut self,
-        level: &Level,
+        before: &BareLevel,
+        level: &BareLevel,
         link: Link,
         most: usize,
     ) -> Result<Noted, AllocError>
+        requires before { option_map (λ found. found.grid) (slice_get self.old link.parent) ≡ Some before.now.grid }
+        requires size { SameSize before.now.grid level.now.grid }
         requires low { link.depth ≤ length self.old }
-        requires behind { link.parent < length self.old }
         ensures noted { IfOk result (IsNotedAs self.old self.new most (entry_of level.now.grid link)) }
         ensures err { OnErr result (self.new ≡ self.old) }
     {
-        if is_at(&self.nodes, link.parent, level) {
+        if level.equals(before) {
             return Ok(Noted::Known);
         }
-        let Some(digest) = digest_if_new(&self.nodes, &self.index, self.objects, level) else {
+        self.levels
+            .number(link.parent as usize, before, level, &mut self.numbers)?;
+        let Some(digest) = digest_if_new(&self.levels, &self.index, &self.numbers) else {
             return Ok(Noted::Known);
         };
-        if self.nodes.len() >= most {
+        if self.links.len() >= most {
             return Ok(Noted::NoRoom);
         }
-        let level = level.bare().copy()?;
-        self.nodes.push(Node { level, link })?;
+        self.levels.push(&self.numbers)?;
+        if self.links.push(link).is_err() {
+            self.levels.pop();
+            return Err(AllocError);
+        }
         if self.index.push(digest).is_err() {
-            self.nodes.pop();
+            self.levels.pop();
+            self.links.pop();
             return Err(AllocError);
         }
         Ok(Noted::Added)

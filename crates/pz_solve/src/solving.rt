@@ -85,10 +85,10 @@ fn try_press(
 {
     let spare = search.take_spare();
     match play(alloc, game, program, level, spare, input)? {
-        Move::Stands(level) => {
-            let link = search.link_behind(index, input);
-            let noted = search.note(&level, link, bounds.levels)?;
-            search.put_aside(level);
+        Move::Stands(next) => {
+            let link = search.link_behind(index, input)?;
+            let noted = search.note(level.bare(), next.bare(), link, bounds.levels)?;
+            search.put_aside(next);
             Ok(tried_by(noted))
         }
         Move::Wins => Ok(Tried::Wins(input)),
@@ -115,7 +115,7 @@ fn expand(
         IsSearch (move_of game.now program.now) start search.old index → slice_get search.old index ≡ Some here →
         HasExpanded (move_of game.now program.now) start search.old search.new index here bounds.levels tried) }
 {
-    let level = Level::marked(alloc, search.level(index).copy()?)?;
+    let level = Level::marked(alloc, search.level(index)?)?;
     for number in 0..PRESSES {
         match try_press(
             alloc,
@@ -157,7 +157,7 @@ pub fn solve(
             Tried::NoRoom => {
                 return Ok(Answer::OutOfBounds {
                     levels: search.len(),
-                    inputs: search.link(index).depth,
+                    inputs: search.link(index).depth as usize,
                 });
             }
         }

@@ -6,7 +6,7 @@ use Rattle.std.proofs.lemmas.List.Elements.{All-append, All-cons, All-head, All-
 use Rattle.pz_sheet.specs.Grid.{Grid, BareState, IsLawful, SameSize}
 use Rattle.pz_sheet.specs.Presence.{cell_of}
 use Rattle.pz_store.specs.declared.book.Place.{Place}
-use Rattle.pz_store.specs.Book.{AreDistinctCells, CellSeen, IsBook, IsFramed, IsPlaceIn, IsUnknown, cell_from, cell_in}
+use Rattle.pz_store.specs.Book.{AreDistinctCells, CellSeen, HasMore, IsBook, IsFramed, IsPlaceIn, IsUnknown, cell_from, cell_in}
 use Rattle.pz_store.specs.Digest.{cell_word}
 use Rattle.pz_store.proofs.Listing.{last_there, still_there, there, there_before}
 
@@ -60,34 +60,39 @@ distinct_more cells new distinct unknown number other cell is is_other = elim (t
 ]
 
 -- where a cell stands in the level that was added last
-in_last : (levels : List BareState) (more : BareState) (place : Place) → place.level ≡ length levels → cell_in (levels ++ more ∷ []) place ≡ cell_of more.grid place.index
+pub in_last : (levels : List BareState) (more : BareState) (place : Place) → place.level ≡ length levels → cell_in (levels ++ more ∷ []) place ≡ cell_of more.grid place.index
 in_last levels more place last =
     ap (λ (n : ℕ). cell_from (slice_get (levels ++ more ∷ []) n) place.index) last ∙ ap (λ (o : Option BareState). cell_from o place.index) (last_there levels more)
 
-module _ (frame grid : Grid) (levels : List BareState) (places : List Place) (objects : ℕ) (copy : BareState) (place : Place) (book : IsBook frame levels places objects)
-    (copied : copy.grid ≡ grid) (last : place.level ≡ length levels) where
-  there_now : cell_in (levels ++ copy ∷ []) place ≡ cell_of grid place.index
-  there_now = in_last levels copy place last ∙ ap (λ (g : Grid). cell_of g place.index) copied
-
-  -- the cells of a book that got a cell of a level which it got too
-  pub cells_added : map (cell_in (levels ++ copy ∷ [])) (places ++ place ∷ []) ≡ map (cell_in levels) places ++ cell_of grid place.index ∷ []
-  cells_added =
-      map-append (cell_in (levels ++ copy ∷ [])) places (place ∷ [])
-      ∙ ap (λ (cs : List CellSeen). cs ++ cell_in (levels ++ copy ∷ []) place ∷ []) (cells_still frame levels copy objects places book.placed)
-      ∙ ap (λ (c : CellSeen). map (cell_in levels) places ++ c ∷ []) there_now
+module _ (frame : Grid) (levels : List BareState) (places : List Place) (objects : ℕ) (place : Place) (cell : CellSeen) (book : IsBook frame levels places objects) (there_is : cell_in levels place ≡ cell) where
+  -- the cells of a book that got one more of a level that it keeps
+  pub cells_more : map (cell_in levels) (places ++ place ∷ []) ≡ map (cell_in levels) places ++ cell ∷ []
+  cells_more = map-append (cell_in levels) places (place ∷ []) ∙ ap (λ (c : CellSeen). map (cell_in levels) places ++ c ∷ []) there_is
 
   -- and what holds of it
-  pub added : IsFramed frame copy → place.index < length frame.cells → place.word ≡ cell_word objects (cell_of grid place.index) → IsUnknown (map (cell_in levels) places) (cell_of grid place.index) →
-      IsBook frame (levels ++ copy ∷ []) (places ++ place ∷ []) objects
-  added framed within word unknown =
-      let with_it = with_level frame levels places objects copy book framed in
-      let placed : IsPlaceIn frame (levels ++ copy ∷ []) objects place = record {
-        level = omega (arith, last, length-append levels (copy ∷ []));
+  pub placed_more : place.level < length levels → place.index < length frame.cells → place.word ≡ cell_word objects cell → IsUnknown (map (cell_in levels) places) cell → IsBook frame levels (places ++ place ∷ []) objects
+  placed_more low within word unknown =
+      let placed : IsPlaceIn frame levels objects place = record {
+        level = low;
         index = within;
-        word = word ∙ ap (λ (c : CellSeen). cell_word objects c) (sym there_now);
+        word = word ∙ ap (λ (c : CellSeen). cell_word objects c) (sym there_is);
       } in
       record {
-        framed = with_it.framed;
-        placed = All-append (IsPlaceIn frame (levels ++ copy ∷ []) objects) places (place ∷ []) with_it.placed (All-cons (IsPlaceIn frame (levels ++ copy ∷ []) objects) place [] placed (All-nil (IsPlaceIn frame (levels ++ copy ∷ []) objects)));
-        distinct = subst AreDistinctCells (sym cells_added) (distinct_more (map (cell_in levels) places) (cell_of grid place.index) book.distinct unknown);
+        framed = book.framed;
+        placed = All-append (IsPlaceIn frame levels objects) places (place ∷ []) book.placed (All-cons (IsPlaceIn frame levels objects) place [] placed (All-nil (IsPlaceIn frame levels objects)));
+        distinct = subst AreDistinctCells (sym cells_more) (distinct_more (map (cell_in levels) places) cell book.distinct unknown);
       }
+
+-- what is kept is alike to a level of the frame's size
+pub alike : (frame : Grid) (levels : List BareState) (grid : Grid) → SameSize frame grid → length grid.cells ≡ length frame.cells → All (IsFramed frame) levels → All (IsFramed grid) levels
+alike frame levels grid size long all = All-weaker (IsFramed frame) (IsFramed grid) (λ level is. record { size = size_across frame grid level.grid size is.size; long = is.long ∙ sym long }) levels all
+
+-- a book that may have got a level has the cells that it had
+pub still_book : (frame grid : Grid) (levels news : List BareState) (places : List Place) (objects : ℕ) → IsBook frame levels places objects → SameSize frame grid → length grid.cells ≡ length frame.cells → HasMore levels news grid →
+    IsBook frame news places objects × (map (cell_in news) places ≡ map (cell_in levels) places)
+still_book frame grid levels news places objects book size long (inl same) = (subst (λ (l : List BareState). IsBook frame l places objects) (sym same) book, ap (λ (l : List BareState). map (cell_in l) places) same)
+still_book frame grid levels news places objects book size long (inr (more, is, added)) =
+    let framed : IsFramed frame more = record { size = subst (λ (g : Grid). SameSize frame g) (sym is) size; long = ap (λ (g : Grid). length g.cells) is ∙ long } in (
+      subst (λ (l : List BareState). IsBook frame l places objects) (sym added) (with_level frame levels places objects more book framed),
+      ap (λ (l : List BareState). map (cell_in l) places) added ∙ cells_still frame levels more objects places book.placed,
+    )

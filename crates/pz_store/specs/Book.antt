@@ -1,5 +1,5 @@
 -- A book of cells: distinct ones, each by its number, and levels as the numbers of their cells.
-use Rattle.std.specs.Prelude.{◌≡◌, ℕ, ◌<◌, List, [], Option, Some, None, length, map, slice_get, All}
+use Rattle.std.specs.Prelude.{◌≡◌, ◌⊎◌, ℕ, ◌-◌, ◌<◌, List, [], ◌∷◌, ◌++◌, Option, Some, None, length, map, slice_get, All}
 use Rattle.pz_cells.specs.declared.piece.Piece.{Piece}
 use Rattle.pz_sheet.specs.Grid.{Grid, BareState, SameSize}
 use Rattle.pz_sheet.specs.Presence.{cell_of}
@@ -46,6 +46,14 @@ cell_in levels place = cell_from (slice_get levels place.level) place.index
 pub record IsFramed (frame : Grid) (level : BareState) : Type 0 where
   pub size : SameSize frame level.grid
   pub long : length level.grid.cells ≡ length frame.cells
+
+-- nothing changed, or there is one level more
+abbrev pub HasMore : List BareState → List BareState → Grid → Type 0
+HasMore old new grid = (new ≡ old) ⊎ ((more : BareState) × (more.grid ≡ grid) × (new ≡ old ++ more ∷ []))
+
+-- the last level has this cell
+abbrev pub IsInLast : List BareState → ℕ → CellSeen → Type 0
+IsInLast levels index cell = (0 < length levels) × (cell_from (slice_get levels (length levels - 1)) index ≡ cell)
 
 -- a place is in one of the levels, and has the word of its cell
 pub record IsPlaceIn (frame : Grid) (levels : List BareState) (objects : ℕ) (place : Place) : Type 0 where

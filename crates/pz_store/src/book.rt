@@ -1,10 +1,10 @@
 //! The distinct cells of levels, by their numbers.
 
-ghost use Rattle.std.specs.Prelude.{◌≡◌, ◌<◌, [], length, IfOk, OnOk, Some, MatchOption, option_map, slice_get};
+ghost use Rattle.std.specs.Prelude.{◌≡◌, ◌<◌, [], length, All, IfOk, OnOk, Some, MatchOption, option_map, slice_get};
 ghost use Rattle.pz_sheet.specs.Changes.{with_cell};
 ghost use Rattle.pz_sheet.specs.Grid.{SameSize};
 ghost use Rattle.pz_sheet.specs.Presence.{cell_of};
-ghost use Rattle.pz_store.specs.Book.{AreDistinctCells, Extends, IsUnknown};
+ghost use Rattle.pz_store.specs.Book.{AreDistinctCells, Extends, HasMore, IsFramed, IsInLast, IsUnknown};
 ghost use Rattle.pz_store.specs.Digest.{cell_word};
 
 use crate::digest::cell_word;
@@ -53,6 +53,21 @@ impl Model for Book {
     ghost view = { λ b. record { frame = b.frame.grid; objects = b.objects; cells = map (cell_in b.levels.items) b.places.items } };
 
     ghost invariant = { λ b. IsBook b.frame.grid b.levels.items b.places.items b.objects };
+}
+
+/// Keeps a level, unless the last one that is kept has this cell of it too. Err: memory was refused, and nothing changed.
+fn keep(kept: &mut Vec<BareLevel>, level: &BareLevel, index: usize) -> Result<(), AllocError>
+    requires alike { All (IsFramed level.now.grid) kept.old.items }
+    requires within { index < length level.now.grid.cells }
+    ensures more { HasMore kept.old.items kept.new.items level.now.grid }
+    ensures last { OnOk result (IsInLast kept.new.items index (cell_of level.now.grid index)) }
+{
+    let count = kept.len();
+    if count > 0 && level.has_cell_of(index, &kept[count - 1], index) {
+        return Ok(());
+    }
+    kept.push(level.copy()?)?;
+    Ok(())
 }
 
 impl Book {
@@ -107,13 +122,12 @@ impl Book {
     {
         // (brings the proof the law of both levels)
         let _ = (self.frame.width(), level.width());
-        let place = Place {
-            level: self.levels.len(),
+        keep(&mut self.levels, level, index)?;
+        self.places.push(Place {
+            level: self.levels.len() - 1,
             index,
             word: cell_word(level, index, self.objects),
-        };
-        self.levels.push(level.copy()?)?;
-        self.places.push(place)?;
+        })?;
         Ok(())
     }
 

@@ -87,10 +87,11 @@ impl Levels {
     ) -> Result<(), AllocError>
         requires there { slice_get self.old.grids place ≡ Some before.now.grid }
         requires size { SameSize before.now.grid level.now.grid }
-        requires long { length numbers.old ≡ length before.now.grid.cells }
+        requires long { length numbers.old ≡ length self.old.frame.cells }
         ensures frame { self.new.frame ≡ self.old.frame }
         ensures objects { self.new.objects ≡ self.old.objects }
         ensures grids { self.new.grids ≡ self.old.grids }
+        ensures size { OnOk result (SameSize self.new.frame level.now.grid) }
         ensures numbers { OnOk result (AreNumbers self.new.cells numbers.new level.now.grid) }
         ensures row { OnOk result (IsRow self.new.frame self.new.cells numbers.new) }
         ensures long { length numbers.new ≡ length numbers.old }
@@ -135,6 +136,7 @@ impl Levels {
         requires { IsRow self.old.frame self.old.cells numbers.now }
         ensures frame { self.new.frame ≡ self.old.frame }
         ensures objects { self.new.objects ≡ self.old.objects }
+        ensures cells { self.new.cells ≡ self.old.cells }
         ensures pushed { OnOk result ((grid : Grid) → SameSize self.old.frame grid → AreNumbers self.old.cells numbers.now grid → self.new.grids ≡ self.old.grids ++ grid ∷ []) }
         ensures kept { OnErr result (self.new.grids ≡ self.old.grids) }
     {
@@ -147,6 +149,7 @@ impl Levels {
         requires { 0 < length self.old.grids }
         ensures frame { self.new.frame ≡ self.old.frame }
         ensures objects { self.new.objects ≡ self.old.objects }
+        ensures cells { self.new.cells ≡ self.old.cells }
         ensures popped { self.new.grids ≡ take (length self.old.grids - 1) self.old.grids }
     {
         self.rows.pop();

@@ -1,14 +1,22 @@
-use Rattle.std.proofs.Common.{◌≡◌, List, [], ◌∷◌, subst, sym, ◌∙◌, arith}
-use Rattle.pz_solve.specs.Digest.{digest_of}
-use Rattle.pz_solve.specs.Found.{Found, start_of}
-use Rattle.pz_solve.specs.Noted.{IsStored, found_in}
-use Rattle.pz_solve.proofs.Keeping.{kept_one}
+use Rattle.std.proofs.Common.{◌≡◌, ℕ, List, [], ◌∷◌, ◌++◌, length, refl, ap, sym, ◌∙◌, subst, arith}
+use Rattle.pz_game.specs.declared.direction.Dir.TheVariants.{Action}
+use Rattle.pz_sheet.specs.Grid.{Grid, SameSize}
+use Rattle.pz_store.specs.Book.{AreNumbers}
+use Rattle.pz_store.specs.Digest.{digest_of}
+use Rattle.pz_solve.proofs.Sizes.{same_size}
+use Rattle.pz_solve.proofs.Storing.{stored_one}
 use Rattle.pz_solve.proofs.search.Search.new.Goals as goal
 
 pub invariant_of-result : goal.invariant_of-result
 invariant_of-result c =
-    let grid = c.args.level.now.grid in
-    let same : c.in_ok-level.level.grid ≡ grid = c.in_ok-level.ensures.copied ∙ c.bare.ensures in
-    let found : found_in c.push-2.new.self.items ≡ start_of grid ∷ [] = grind (arith, c.in_ok-push-2.ensures.items, c.new-nodes.ensures.items, same) in
-    let digests : c.push.new.self ≡ digest_of c.args.objects grid ∷ [] = grind (arith, c.in_ok-push.ensures.ok, c.new-index.ensures, c.digest.ensures, same) in
-    subst (λ (all : List Found). IsStored c.args.objects c.push.new.self all) (sym found) (record { kept = kept_one grid; indexed = digests })
+    let grid = c.bare-level.result.now.grid in
+    let levels = c.number_all.new.self in
+    let frame : levels.frame ≡ grid = c.number_all.ensures.frame ∙ c.in_ok-levels.ensures.frame in
+    let size : SameSize levels.frame grid = subst (λ (g : Grid). SameSize g grid) (sym frame) (same_size grid) in
+    let are : AreNumbers levels.cells c.deref-2.result.now grid = subst (λ (l : List ℕ). AreNumbers levels.cells l grid) (sym c.deref-2.ensures.value) c.in_ok-numbers.ensures.numbers in
+    let are_digested : AreNumbers levels.cells c.deref.result.now grid = subst (λ (l : List ℕ). AreNumbers levels.cells l grid) (sym c.deref.ensures.value) c.in_ok-numbers.ensures.numbers in
+    let grids : c.push-2.new.self.grids ≡ grid ∷ [] = c.in_ok-push-2.ensures.pushed grid size are ∙ ap (λ (all : List Grid). all ++ grid ∷ []) (c.number_all.ensures.grids ∙ c.in_ok-levels.ensures.grids) in
+    let links : c.push-3.new.self.items ≡ (record { depth = 0; parent = 0; input = Action }) ∷ [] = grind (arith, c.in_ok-push-3.ensures.items, c.new-links.ensures.items) in
+    let digests : c.push.new.self ≡ digest_of levels.objects grid ∷ [] = c.in_ok-push.ensures.ok ∙ ap (λ (all : List ℕ). all ++ c.digest.result ∷ []) c.new-index.ensures ∙ ap (λ (d : ℕ). d ∷ []) (c.digest.ensures grid are_digested) in
+    stored_one c.push-2.new.self c.push-3.new.self.items c.push.new.self c.in_ok-numbers.numbers.items grid (record { depth = 0; parent = 0; input = Action }) grids links refl
+    (digests ∙ ap (λ (n : ℕ). digest_of n grid ∷ []) (sym c.in_ok-push-2.ensures.objects)) (c.in_ok-numbers.ensures.row.long ∙ ap (λ (g : Grid). length g.cells) (sym c.in_ok-push-2.ensures.frame))

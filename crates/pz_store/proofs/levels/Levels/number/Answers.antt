@@ -10,10 +10,7 @@ use Rattle.pz_store.proofs.levels.Levels.number.Goals as goal
 
 pub copy_to-requires-clause-long : goal.copy_to-requires-clause-long
 copy_to-requires-clause-long c =
-    let book = c.self.inside.book in
-    let there = ap (λ (l : LevelsState). slice_get l.grids c.args.place) c.self.view_is ∙ c.requires.there in
-    let its = level_there book.frame book.cells c.self.inside.rows.rows c.args.place c.args.before.now.grid c.self.invariant.each there in
-    c.requires.long ∙ its.1 ∙ sym c.self.invariant.long
+    c.requires.long ∙ ap (λ (l : LevelsState). length l.frame.cells) (sym c.self.view_is) ∙ sym c.self.invariant.long
 
 pub changes-init : goal.changes-init
 changes-init c =

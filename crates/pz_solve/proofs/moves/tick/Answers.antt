@@ -1,0 +1,4 @@
+use Rattle.pz_solve.proofs.moves.tick.Goals as goal
+
+pub returns-in-Ok-clause-size : goal.returns-in-Ok-clause-size
+returns-in-Ok-clause-size c = c.effect.ensures.size c.args.level.grid c.in-Ok.ensures.size
