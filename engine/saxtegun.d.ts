@@ -144,7 +144,7 @@ export interface FileDescription {
 
 /**
  * What a search, breadth first, tells of the level in which a session stands: presses that win, and no shorter list does; that no list wins; or that none of
- * at most `inputs` presses does, while one press more reaches more than `levels` levels, which is the bound. `over`: its last level was won; `stopped`,
+ * at most `inputs` presses does, while one press more reaches more than `levels` levels, as many as were kept. `over`: its last level was won; `stopped`,
  * `refused`: there is no level in which it stands.
  */
 export type Solution =
@@ -158,6 +158,8 @@ export type Solution =
 export interface SearchOptions {
   /** The most levels that the search may keep; 1,000,000 where it is left out. */
   levels?: number;
+  /** The most bytes that they may take, at four a cell and 64 a level; 134,217,728 where it is left out. */
+  bytes?: number;
 }
 
 /** The items that came with the last input of an open session, as their lines have them. Where there is a fault, there are none. */

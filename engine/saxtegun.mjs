@@ -27,7 +27,7 @@ const WORKER = 'saxtegun-worker';
 const STAGES = 'saxtegun_stages', FIRINGS = 'saxtegun_firings', DESCRIPTION = 'saxtegun_description',
   LEVEL_DESCRIPTION = 'saxtegun_level_description', FILE_DESCRIPTION = 'saxtegun_file_description', OPEN = 'saxtegun_open', SOLUTIONS = 'saxtegun_solutions';
 const MOST_NUMBER = 0xffff_ffff; // that the module is told; no file has so many sessions or inputs, and no memory so many levels
-const MOST_LEVELS = 1_000_000; // that a search keeps where no bound is named
+const MOST_LEVELS = 1_000_000, MOST_KEPT_BYTES = 2 ** 27; // that a search keeps where no bound is named
 
 const isNode = typeof process === 'object' && typeof process.versions?.node === 'string';
 
@@ -74,10 +74,10 @@ function smallNumberOf(number) {
   return Math.min(number, MOST_NUMBER);
 }
 
-/** A bound of levels, as the module is told it. */
-function boundOf(levels) {
-  if (!Number.isSafeInteger(levels) || levels < 0) throw new TypeError('levels are bounded by a whole number from 0 on');
-  return Math.min(levels, MOST_NUMBER);
+/** A bound of a search, as the module is told it. */
+function boundOf(number) {
+  if (!Number.isSafeInteger(number) || number < 0) throw new TypeError('levels and bytes are bounded by a whole number from 0 on');
+  return Math.min(number, MOST_NUMBER);
 }
 
 /** The bytes of inputs, each a number from 0 to 4 or a word. */
@@ -394,11 +394,11 @@ class Engine {
     return this.#has(SOLUTIONS);
   }
 
-  solutionsOf(text, { levels = MOST_LEVELS } = {}) {
-    const bound = boundOf(levels);
+  solutionsOf(text, { levels = MOST_LEVELS, bytes = MOST_KEPT_BYTES } = {}) {
+    const bounds = [levels, bytes].map(boundOf);
     if (!this.#has(SOLUTIONS)) return refused('no-solutions');
     return this.#ask(text, (exports, file, room, outcome) =>
-      exports[SOLUTIONS](file.at, BigInt(file.size), bound, room.at, BigInt(room.size), outcome));
+      exports[SOLUTIONS](file.at, BigInt(file.size), ...bounds, room.at, BigInt(room.size), outcome));
   }
 
   solution(session, options) {

@@ -172,13 +172,13 @@ class TheSolutions(InARoom):
         self.pass_the_glue(SAXTEGUN_MODULE=str(self.room / "none"))
 
     def test_words_that_are_no_command_line(self):
-        for words in ([], ["x"], ["-1"], ["1.0"], [""], ["1", "2"], ["18446744073709551616"]):
+        for words in ([], ["1"], ["1", "2", "3"], ["x", "1"], ["1", "-1"], ["1.0", "1"], ["1", ""], ["1", "18446744073709551616"]):
             with self.subTest(words):
                 self.assertEqual(self.solve(*words), (2, "", "bad command line\n"))
 
     def test_a_module_without_solutions(self):
         (self.room / "empty.wasm").write_bytes(b"\0asm\1\0\0\0")
-        self.assertEqual(self.solve("9", module=self.room / "empty.wasm"), (2, "", "no-solutions\n"))
+        self.assertEqual(self.solve("9", "9", module=self.room / "empty.wasm"), (2, "", "no-solutions\n"))
 
 
 @unittest.skipUnless(NODE and IS_BUILT, "there is no node, or the module is not built")
@@ -190,9 +190,9 @@ class EngineSolutions(TheSolutions):
 
     def test_the_lines_are_those_of_the_program(self):
         program = TOP / "crates/pz_solver"
-        levels, file = (program / "args").read_text().strip(), (program / "stdin").read_bytes()
-        self.assertEqual(self.solve(levels, file=file), (0, (program / "stdout").read_text(), ""))
-        self.assertEqual(self.solve("9", file=b"[0]"), (2, "", "bad-entry 0\n"))
+        words, file = (program / "args").read_text().split(), (program / "stdin").read_bytes()
+        self.assertEqual(self.solve(*words, file=file), (0, (program / "stdout").read_text(), ""))
+        self.assertEqual(self.solve("9", "9", file=b"[0]"), (2, "", "bad-entry 0\n"))
 
 
 @unittest.skipUnless(NODE and IS_BUILT, "there is no node, or the module is not built")

@@ -492,11 +492,8 @@ class AnswersOfASolver(unittest.TestCase):
         self.assertEqual(guarded.call_args[0][1].seconds, solving.SECONDS)
 
     def test_the_levels_that_are_kept_have_room(self):
-        source = (Path(__file__).parent.parent / "examples/day/game.txt").read_text(encoding="utf-8")
-        small = Entry(0, "a", source, [], "", 0, {}, False)
-        self.assertEqual((Bounds(7).levels_for(small), solving.MOST_BYTES // solving.bytes_of_level(small)), (7, Bounds().levels_for(small)))
-        wide = small._replace(source=source + "\n" + "\n".join(["#" * 200] * 80) + "\n")
-        self.assertLess(Bounds().levels_for(wide) * 100, Bounds().levels_for(small))
+        """Where their number is named, no bytes bound them."""
+        self.assertEqual((Bounds().words, Bounds(7).words), (("1000000", "268435456"), ("7", str(2**62))))
 
     def test_a_solver_that_fails_leaves_the_answers_of_what_was_played(self):
         """Of each level it isn't known then."""

@@ -74,9 +74,9 @@ export function actedBy(engine, { source, index, order, inputs, isTicked, from, 
 }
 
 // What wins a recording from where it ends, and the frames that this shows: { solution, frames, fault }.
-export function solutionBy(engine, { source, index, order, inputs, isTicked, levels }) {
+export function solutionBy(engine, { source, index, order, inputs, isTicked }) {
   if (!engine.hasSolutions) return { solution: null, frames: [], fault: "no-solutions" };
-  const played = playedText(source, isTicked), found = engine.solution({ source: played, index, inputs }, { levels }), presses = found.solution?.solved;
+  const played = playedText(source, isTicked), found = engine.solution({ source: played, index, inputs }), presses = found.solution?.solved;
   if (presses === undefined) return { ...found, frames: [] };
   const shown = engine.frames({ source: played, index, inputs: [...inputs, ...presses] }, { order, from: inputs.length + 1 });
   return { solution: shown.fault === null ? found.solution : null, frames: shown.frames, fault: shown.fault };

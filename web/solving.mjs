@@ -1,6 +1,5 @@
 // What wins from the frame that is looked at, in the state of the page: what the engine is asked for, what it found, and its presses as a ghost, which stands
 // in no recording.
-import { levelsOf } from "./game.mjs";
 import { isSameList } from "./past.mjs";
 import { firstFrom } from "./recording.mjs";
 import { framesOf, gameOf, isPlayOf, isPlayed, sourceOf, takenOf } from "./replaying.mjs";
@@ -8,22 +7,11 @@ import { refusalTold } from "./session-file.mjs";
 import { hasClock } from "./ticks.mjs";
 import { withWork } from "./work.mjs";
 
-const ROOM = 2 ** 28; // bytes of the levels of play that a search keeps, as far as that is known beforehand
-const MOST_SEARCHED = 1_000_000; // of these levels
-const BYTES_OF_CELL = 4; // at most, in a level that is kept,
-const BYTES_OF_LEVEL = 64; // of its own,
-const TWICE = 2; // and as many while there is room for more
 const PRESSES = ["up", "left", "down", "right", "action"];
 
 const pressesTold = (count) => (count === 1 ? "1 press" : `${count} presses`);
 
 const withSolving = (state, solving) => ({ ...state, solving, told: null });
-
-// How many levels of play a search keeps, by the largest level of the game.
-function levelsKept(source) {
-  const counts = levelsOf(source).map(({ width, height }) => width * height);
-  return Math.min(MOST_SEARCHED, Math.floor(ROOM / (TWICE * (BYTES_OF_CELL * Math.max(0, ...counts) + BYTES_OF_LEVEL))));
-}
 
 // Whether there is a frame from which a solution can be looked for.
 export const isSolvable = (state) => isPlayed(state) && framesOf(state).length > 0 && state.played.cause === null;
@@ -32,7 +20,7 @@ export const isSolvable = (state) => isPlayed(state) && framesOf(state).length >
 export function solveAsked(state) {
   if (!isSolvable(state)) return state;
   const { work: { index, inputs }, order, isTicked } = state, source = sourceOf(state);
-  return withSolving(state, { asked: { source, index, order, isTicked, inputs: inputs.slice(0, takenOf(state)), levels: levelsKept(source) }, came: null });
+  return withSolving(state, { asked: { source, index, order, isTicked, inputs: inputs.slice(0, takenOf(state)) }, came: null });
 }
 
 export const solveStopped = (state) => withSolving(state, { asked: null, came: null });

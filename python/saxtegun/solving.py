@@ -6,23 +6,20 @@ import tempfile
 from argparse import ArgumentParser, ArgumentTypeError, Namespace
 from math import inf
 from time import monotonic
-from typing import Any, List, NamedTuple, Optional, Sequence, Union
+from typing import Any, List, NamedTuple, Optional, Sequence, Tuple, Union
 
 from saxtegun.commands import Refused, add_ticks, cut, plural, seconds_in
 from saxtegun.games import game_of
-from saxtegun.levelsets import entries_of_levels, places_of_levels
+from saxtegun.levelsets import places_of_levels
 from saxtegun.processes import Unanswered, watched
 from saxtegun.programs import solver_words
 from saxtegun.sessions import Entry, Input, is_number, written_entry
 from saxtegun.ticks import without_ticking
 
-# So many bytes a search takes, as far as that is known beforehand; it keeps as many levels as have room there, but no more than that.
-MOST_BYTES = 2**29
-MOST_LEVELS = 1_000_000
+# So many levels a search keeps, and as many as have room in so many bytes; where their number is named, they have all the room there is.
+MOST_LEVELS, MOST_BYTES, ALL_BYTES = 1_000_000, 2**28, 2**62
 # So many seconds a search has, and all that are asked for together.
 SECONDS, WITHIN = 60.0, 600.0
-# Of each cell a level that is kept has so many bytes at most, of its own so many, and twice as many of all while there is room for more.
-BYTES_OF_CELL, BYTES_OF_LEVEL, GROWING = 4, 64, 2
 # The presses in words, by their numbers.
 WORDS = ("up", "left", "down", "right", "action")
 MOST_PRESS = len(WORDS) - 1
@@ -70,15 +67,10 @@ class Bounds(NamedTuple):
         """How many seconds the next search has."""
         return min(self.seconds, self.end - monotonic())
 
-    def levels_for(self, entry: Entry) -> int:
-        """How many levels are kept of the game, and the size, of the level in which a session stands."""
-        return self.levels if self.levels is not None else max(1, min(MOST_LEVELS, MOST_BYTES // bytes_of_level(entry)))
-
-
-def bytes_of_level(entry: Entry) -> int:
-    """How many bytes a level takes at most that is kept: of the largest one of the game from where the session begins."""
-    counts = [len(it.rows[0]) * len(it.rows) for it in entries_of_levels(entry.source)[entry.index :] if it.rows]
-    return GROWING * (BYTES_OF_CELL * max(counts, default=0) + BYTES_OF_LEVEL)
+    @property
+    def words(self) -> Tuple[str, str]:
+        """The most levels that are kept, and the most bytes that they take, as the solver is told them."""
+        return (str(MOST_LEVELS), str(MOST_BYTES)) if self.levels is None else (str(self.levels), str(ALL_BYTES))
 
 
 def levels_in(word: str) -> int:
@@ -90,7 +82,7 @@ def levels_in(word: str) -> int:
 
 def add_bounds(words: ArgumentParser) -> None:
     """The words of verbs that search."""
-    words.add_argument("--levels", metavar="N", type=levels_in, help="keep so many levels of play at most (as many as have room in 512 MiB)")
+    words.add_argument("--levels", metavar="N", type=levels_in, help="keep so many levels of play at most (1,000,000, as far as they have room in 256 MiB)")
     words.add_argument("--within", metavar="SECONDS", type=seconds_in, default=WITHIN, help=f"search for so many seconds in all ({WITHIN:g}), and nowhere longer than {SECONDS:g}")
     add_ticks(words)
 
@@ -158,12 +150,10 @@ def asked(entry: Entry, bounds: Bounds) -> Answer:
     with tempfile.TemporaryFile() as given, tempfile.TemporaryFile() as told:
         given.write(f"[{written_entry(played._replace(level=''))}]".encode())
         given.seek(0)
-        words = [*solver_words(), str(bounds.levels_for(entry))]
         seconds = bounds.seconds_left
         if seconds <= 0:
-            # finding out how many levels have room may take a while
             return Unasked(LATE)
-        ran = watched(words, told, given, seconds)
+        ran = watched([*solver_words(), *bounds.words], told, given, seconds)
         if ran.status != 0 and ran.said == "memory":
             return Unasked("there is not enough memory: let it keep fewer (--levels)")
         if ran.status != 0:

@@ -33,6 +33,9 @@ it('a search that may keep no more levels tells how far it came', () => {
   for (const levels of [1, 2, 7, 20]) assert.deepEqual(solution(WIDE, [], { levels }), told({ outOfBounds: { inputs: levels - 1, levels } }));
   assert.deepEqual(solution(WIDE, [], { levels: 21 }), told({ unsolvable: true }));
   assert.deepEqual(solution(WIDE, [], { levels: 2 ** 40 }), told({ unsolvable: true }));
+  // a level of 21 cells takes 148 bytes at most
+  for (const levels of [1, 2, 7, 20]) assert.deepEqual(solution(WIDE, [], { bytes: 149 * levels - 1 }), told({ outOfBounds: { inputs: levels - 1, levels } }));
+  assert.deepEqual(solution(WIDE, [], { bytes: 2 ** 40 }), told({ unsolvable: true }));
 });
 
 it('a session that has won its last level, has stopped or is refused has no level to solve', () => {
@@ -44,13 +47,17 @@ it('a session that has won its last level, has stopped or is refused has no leve
 });
 
 it('a bound that is none is refused, and so is a session that is none', () => {
-  for (const levels of [-1, 0.5, NaN, '1']) assert.throws(() => solution(PUSH, [], { levels }), TypeError);
+  for (const bound of [-1, 0.5, NaN, '1']) {
+    assert.throws(() => solution(PUSH, [], { levels: bound }), TypeError);
+    assert.throws(() => solution(PUSH, [], { bytes: bound }), TypeError);
+  }
   assert.deepEqual(solution(PUSH, [7]), { solution: null, fault: 'bad-entry 0' });
 });
 
 it('the sessions of a file are solved, a line each', () => {
   const read = name => readFileSync(new URL(name, PROGRAM));
-  const { lines, ...answer } = engine.solutionsOf(read('stdin'), { levels: Number(read('args')) });
+  const [levels, bytes] = read('args').toString().trim().split('\n').map(Number);
+  const { lines, ...answer } = engine.solutionsOf(read('stdin'), { levels, bytes });
   assert.deepEqual([answer, new TextDecoder().decode(lines)], [{ status: 0, passed: true, fault: null }, read('stdout').toString()]);
   assert.deepEqual(engine.solutionsOf('[3]'), { status: 2, passed: false, lines: new Uint8Array(0), fault: 'bad-entry 0' });
 });

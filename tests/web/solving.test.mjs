@@ -39,8 +39,6 @@ it("what is looked at is asked about", async () => {
   await bench.act(solveAsked);
   await moved();
   assert.deepEqual(bench.asked.map(({ source, index, order, inputs }) => [source, index, order, inputs]), [[GAME, 0, "columns", [1, 0]]]);
-  // a level of 6 by 7 cells and a game of five objects
-  assert.equal(bench.asked[0].levels, Math.floor(2 ** 28 / (2 * (4 * 42 + 64))));
 });
 
 it("each answer is told", async () => {

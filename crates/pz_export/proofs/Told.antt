@@ -11,6 +11,7 @@ use Rattle.std.specs.Str.{IsUtf8}
 use Rattle.pz_export.specs.Description.{IsDescribed, IsDescribedFile, IsDescription, IsFileDescription, IsUndescribed}
 use Rattle.pz_export.specs.Lines.{AreStaged, IsAnswered, IsRefused, IsStaged, IsTold, IsToldWhy}
 use Rattle.pz_export.specs.Outcome.{status_of}
+use Rattle.pz_solve.specs.declared.answer.Bounds.{Bounds}
 use Rattle.pz_export.specs.Solutions.{AreSolved, IsSolvedFile}
 use Rattle.pz_export.specs.declared.outcome.Outcome.{Outcome}
 use Rattle.pz_stages.specs.declared.detail.Detail.{Detail}
@@ -27,11 +28,11 @@ pub staged : (detail : Detail) (order : Order) (file : List ℕ) (session number
 staged detail order file session number room_before room outcome count (Ok played) are told why other = record { answer = played; are_staged = are; told = told }
 staged detail order file session number room_before room outcome count (Err cause) are told why other = absurd (other why.says.status)
 
-pub solved : (levels : ℕ) (file room_before room : List ℕ) (outcome : Outcome) (count : ℕ) (r : Result Played FileFault)
-    → IfOk r (AreSolved levels file) → IfOk r (λ played. IsTold played room_before room outcome count) → IfErr r (λ cause. IsToldWhy cause room_before room outcome count)
-    → outcome.status ≢ 2 → IsSolvedFile levels file room_before room outcome count
-solved levels file room_before room outcome count (Ok played) are told why other = record { answer = played; are_solved = are; told = told }
-solved levels file room_before room outcome count (Err cause) are told why other = absurd (other why.says.status)
+pub solved : (bounds : Bounds) (file room_before room : List ℕ) (outcome : Outcome) (count : ℕ) (r : Result Played FileFault)
+    → IfOk r (AreSolved bounds file) → IfOk r (λ played. IsTold played room_before room outcome count) → IfErr r (λ cause. IsToldWhy cause room_before room outcome count)
+    → outcome.status ≢ 2 → IsSolvedFile bounds file room_before room outcome count
+solved bounds file room_before room outcome count (Ok played) are told why other = record { answer = played; are_solved = are; told = told }
+solved bounds file room_before room outcome count (Err cause) are told why other = absurd (other why.says.status)
 
 pub described : (description room_before room : List ℕ) (outcome : Outcome) (count : ℕ) (r : Result Played FileFault)
     → IfOk r (IsDescription description) → IfOk r (λ played. IsTold played room_before room outcome count) → IfErr r (λ cause. IsToldWhy cause room_before room outcome count)

@@ -6,17 +6,17 @@ use Rattle.pz_solutions.specs.File.{AreSolutionsOf}
 use Rattle.pz_export.specs.Lines.{IsTold}
 use Rattle.pz_export.specs.declared.outcome.Outcome.{Outcome}
 
--- a search may keep so many levels
-abbrev pub bounded_by : ℕ → Bounds
-bounded_by levels = record { levels = levels }
+-- a search may keep so many levels, in so many bytes
+abbrev pub bounded_by : ℕ → ℕ → Bounds
+bounded_by levels bytes = record { levels = levels; bytes = bytes }
 
 -- lines tell what a search tells of the sessions of a file; no session of them has to pass
-pub record AreSolved (levels : ℕ) (file : List ℕ) (answer : Played) : Type 0 where
-  pub are_solutions : AreSolutionsOf (bounded_by levels) file answer.lines.items
+pub record AreSolved (bounds : Bounds) (file : List ℕ) (answer : Played) : Type 0 where
+  pub are_solutions : AreSolutionsOf bounds file answer.lines.items
   pub passed : answer.passed ≡ true
 
 -- these, as a host is told them
-pub record IsSolvedFile (levels : ℕ) (file room_before room : List ℕ) (outcome : Outcome) (count : ℕ) : Type 0 where
+pub record IsSolvedFile (bounds : Bounds) (file room_before room : List ℕ) (outcome : Outcome) (count : ℕ) : Type 0 where
   pub answer : Played
-  pub are_solved : AreSolved levels file answer
+  pub are_solved : AreSolved bounds file answer
   pub told : IsTold answer room_before room outcome count

@@ -13,7 +13,7 @@ use Rattle.pz_solve.specs.Moves.{Stands}
 use Rattle.pz_solve.specs.Winning.{Moves, IsReached, IsShortest, NoneWinsWithin}
 use Rattle.pz_solve.specs.Found.{Found, IsSearch, IsWinOf}
 use Rattle.pz_solve.specs.Noted.{IsKept, grids_of}
-use Rattle.pz_solve.specs.Answers.{AreMore, IsOutOfBounds}
+use Rattle.pz_solve.specs.Answers.{AreMore, IsOutOfBounds, most_kept}
 use Rattle.pz_solve.specs.Trying.{HasNoRoom}
 use Rattle.pz_solve.proofs.Keeping.{same_grid_equivalence}
 use Rattle.pz_solve.proofs.Reaching.{at_depth, stands_more}
@@ -55,10 +55,10 @@ module _ (moves : Moves) (start : Grid) (found : List Found) (index : ℕ) (here
     more = omega (arith, length-append (grids_of found) (none.0 ∷ []), length-map found (λ (f : Found). f.grid));
   }
 
-  pub out_of_bounds : (bounds : Bounds) (levels inputs : ℕ) → IsKept found → (input : Dir) → HasNoRoom found bounds.levels (moves here.grid input) → levels ≡ length found → inputs ≡ here.depth →
+  pub out_of_bounds : (bounds : Bounds) (most : ℕ) → most ≡ most_kept bounds start → (levels inputs : ℕ) → IsKept found → (input : Dir) → HasNoRoom found most (moves here.grid input) → levels ≡ length found → inputs ≡ here.depth →
       IsOutOfBounds moves start bounds levels inputs
-  out_of_bounds bounds levels inputs kept input none count depth = record {
+  out_of_bounds bounds most is_most levels inputs kept input none count depth = record {
     none = subst (λ (n : ℕ). NoneWinsWithin moves start n) (sym depth) (none_within moves start found index here search is_here);
-    allowed = omega (arith, none.3, count);
-    more = subst (λ (n : ℕ). AreMore moves start (n + 1) levels) (sym depth) (subst (λ (n : ℕ). AreMore moves start (here.depth + 1) n) (sym count) (more_than kept input bounds.levels none));
+    allowed = subst (λ (n : ℕ). n ≤ levels) is_most (omega (arith, none.3, count));
+    more = subst (λ (n : ℕ). AreMore moves start (n + 1) levels) (sym depth) (subst (λ (n : ℕ). AreMore moves start (here.depth + 1) n) (sym count) (more_than kept input most none));
   }

@@ -3,11 +3,18 @@
 use pz_game::direction::Dir;
 use std::alloc::AllocError;
 
-/// The most levels that a search may keep. The level that it starts from is one of them, and is kept in any case. All levels of a game and
-/// a size take the same memory each, so this bounds the bytes too.
+/// So many bytes a level takes at most for each of its cells, where it is kept as the numbers of its cells.
+pub const BYTES_OF_CELL: usize = 4;
+
+/// So many bytes it takes at most besides, for its numbers, how it was found and its digest.
+pub const BYTES_OF_LEVEL: usize = 64;
+
+/// The most levels that a search may keep, and the most bytes that they may take. The level that it starts from is kept in any case.
+/// What distinct cells take, and what memory a growing list leaves unused, doesn't count.
 #[derive(Clone, Copy)]
 pub struct Bounds {
     pub levels: usize,
+    pub bytes: usize,
 }
 
 /// The answer of a search.

@@ -4,12 +4,12 @@ ghost use Rattle.std.specs.Prelude.{◌≡◌, ◌+◌, ◌<◌, ◌≤◌, ℕ,
 ghost use Rattle.pz_game.specs.declared.direction.Dir.{Dir};
 ghost use Rattle.pz_program.specs.Instance.{IsProgramOf};
 ghost use Rattle.pz_sheet.specs.Grid.{Grid, IsOfGame};
-ghost use Rattle.pz_solve.specs.Answers.{IsAnswer};
+ghost use Rattle.pz_solve.specs.Answers.{IsAnswer, most_kept};
 ghost use Rattle.pz_solve.specs.Found.{Found, IsSearch};
 ghost use Rattle.pz_solve.specs.Moves.{move_of};
 ghost use Rattle.pz_solve.specs.Trying.{AreOfGame, HasExpanded, HasTried, input_of, tried_by};
 
-use crate::answer::{Answer, Bounds, SolveFault};
+use crate::answer::{Answer, BYTES_OF_CELL, BYTES_OF_LEVEL, Bounds, SolveFault};
 use crate::moves::{Move, play};
 use crate::path::inputs_to;
 use crate::search::{Noted, Search};
@@ -69,7 +69,7 @@ fn try_press(
     index: usize,
     level: &Level,
     input: Dir,
-    bounds: Bounds,
+    most: usize,
 ) -> Result<Tried, AllocError>
     requires within { index < length search.old }
     requires here { option_map (λ found. found.grid) (slice_get search.old index) ≡ Some level.now.grid }
@@ -78,16 +78,16 @@ fn try_press(
     ensures level_of { OnOk result (AreOfGame game.now search.new) }
     ensures here { OnOk result (option_map (λ found. found.grid) (slice_get search.new index) ≡ Some level.now.grid) }
     ensures longer { OnOk result (length search.old ≤ length search.new) }
-    ensures room { OnOk result (length search.new ≤ max (length search.old) bounds.levels) }
+    ensures room { OnOk result (length search.new ≤ max (length search.old) most) }
     ensures tried { IfOk result (λ tried. (start : Grid) (here : Found) →
         IsSearch (move_of game.now program.now) start search.old index → slice_get search.old index ≡ Some here →
-        HasTried (move_of game.now program.now) start search.old search.new index here bounds.levels input tried) }
+        HasTried (move_of game.now program.now) start search.old search.new index here most input tried) }
 {
     let spare = search.take_spare();
     match play(alloc, game, program, level, spare, input)? {
         Move::Stands(next) => {
             let link = search.link_behind(index, input)?;
-            let noted = search.note(level.bare(), next.bare(), link, bounds.levels)?;
+            let noted = search.note(level.bare(), next.bare(), link, most)?;
             search.put_aside(next);
             Ok(tried_by(noted))
         }
@@ -103,17 +103,17 @@ fn expand(
     program: &Program,
     search: &mut Search,
     index: usize,
-    bounds: Bounds,
+    most: usize,
 ) -> Result<Tried, AllocError>
     requires within { index < length search.old }
     requires level_of { AreOfGame game.now search.old }
     requires program_of { IsProgramOf game.now.layers program.now }
     ensures level_of { OnOk result (AreOfGame game.now search.new) }
     ensures longer { OnOk result (length search.old ≤ length search.new) }
-    ensures room { OnOk result (length search.new ≤ max (length search.old) bounds.levels) }
+    ensures room { OnOk result (length search.new ≤ max (length search.old) most) }
     ensures tried { IfOk result (λ tried. (start : Grid) (here : Found) →
         IsSearch (move_of game.now program.now) start search.old index → slice_get search.old index ≡ Some here →
-        HasExpanded (move_of game.now program.now) start search.old search.new index here bounds.levels tried) }
+        HasExpanded (move_of game.now program.now) start search.old search.new index here most tried) }
 {
     let level = Level::marked(alloc, search.level(index)?)?;
     for number in 0..PRESSES {
@@ -125,13 +125,23 @@ fn expand(
             index,
             &level,
             input_of(number),
-            bounds,
+            most,
         )? {
             Tried::Nothing => {}
             tried => return Ok(tried),
         }
     }
     Ok(Tried::Nothing)
+}
+
+/// The most levels that a search from a level keeps.
+fn most_kept(bounds: Bounds, level: &Level) -> usize
+    ensures { result ≡ most_kept bounds level.now.grid }
+{
+    // (brings the proof the law of the level)
+    let _ = level.width();
+    let bytes = level.cell_count() * BYTES_OF_CELL + BYTES_OF_LEVEL;
+    bounds.levels.min(bounds.bytes / bytes)
 }
 
 /// Solves a level: plays presses from it, breadth first, each level once. Err: memory was refused.
@@ -146,10 +156,11 @@ pub fn solve(
     requires program_of { IsProgramOf game.now.layers program.now }
     ensures { IfOk result (IsAnswer (move_of game.now program.now) level.now.grid bounds) }
 {
+    let most = most_kept(bounds, level);
     let mut search = Search::new(alloc, level, game.layers().len())?;
     let mut index = 0;
     'levels: while index < search.len() {
-        match expand(alloc, game, program, &mut search, index, bounds)? {
+        match expand(alloc, game, program, &mut search, index, most)? {
             Tried::Nothing => index += 1,
             Tried::Wins(last) => {
                 return Ok(Answer::Solved(inputs_to(alloc, &search, index, last)?));

@@ -46,10 +46,9 @@ fn said(alloc: Global, answer: Result<Answer, SolveFault>) -> Result<String, All
     }
 }
 
-fn answer(alloc: Global, game: &Game, levels: usize) -> Result<String, Fail> {
+fn answer(alloc: Global, game: &Game, bounds: Bounds) -> Result<String, Fail> {
     let level = loaded(alloc, game)?;
     let program = program_of(alloc, game)?;
-    let bounds = Bounds { levels };
     Ok(said(alloc, solve(alloc, game, &program, &level, bounds))?)
 }
 
@@ -63,7 +62,22 @@ fn expect_answer(
     wanted: &str,
 ) -> Result<(), Fail> {
     let game = game_of(alloc, rules, wins, level)?;
-    let found = answer(alloc, &game, levels)?;
+    let bounds = Bounds {
+        levels,
+        bytes: 1000000,
+    };
+    let found = answer(alloc, &game, bounds)?;
+    expect(found.as_str(), wanted)
+}
+
+/// Fails a test if the level of a crate that can be pushed has another answer within so many bytes.
+fn expect_within(alloc: Global, bytes: usize, wanted: &str) -> Result<(), Fail> {
+    let game = game_of(alloc, PUSHING, FILLED, "p.c.o\n.....\n")?;
+    let bounds = Bounds {
+        levels: 1000,
+        bytes,
+    };
+    let found = answer(alloc, &game, bounds)?;
     expect(found.as_str(), wanted)
 }
 
@@ -99,6 +113,14 @@ fn says_how_far_it_came(rt: HostRuntime) -> Result<(), Fail> {
         2,
         "2 levels, 0 inputs",
     )
+}
+
+#[test]
+fn keeps_what_has_room(rt: HostRuntime) -> Result<(), Fail> {
+    expect_within(rt.alloc(), 0, "1 levels, 0 inputs")?;
+    expect_within(rt.alloc(), 207, "1 levels, 0 inputs")?;
+    expect_within(rt.alloc(), 208, "2 levels, 0 inputs")?;
+    expect_within(rt.alloc(), 10400, "rrr")
 }
 
 #[test]

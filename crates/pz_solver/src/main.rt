@@ -1,5 +1,6 @@
 //! The program of solutions: tells what wins each session of a file from where it stands behind its inputs, a line each, which is written
-//! as soon as it is known. The file of sessions comes on the standard input. The word is the most levels that a search may keep.
+//! as soon as it is known. The file of sessions comes on the standard input. The words are the most levels that a search may keep, and the
+//! most bytes that they may take.
 #![tactic(auto)]
 
 ghost use Rattle.std.specs.Prelude.{◌≡◌, None, false, OnOk};
@@ -18,13 +19,18 @@ use std::env::Env;
 use std::io::{ErrorKind, Read, Write};
 use std::process::ExitCode;
 
+/// The number that a word is.
+fn number_in(word: &str) -> Result<usize, Failure> {
+    word.parse::<usize>().map_err(|_| Failure::BadLine)
+}
+
 /// What the words behind the program's name ask for.
 fn asked_by(words: &[String]) -> Result<Bounds, Failure> {
     match words {
-        [levels] => match levels.as_str().parse::<usize>() {
-            Ok(levels) => Ok(Bounds { levels }),
-            Err(_) => Err(Failure::BadLine),
-        },
+        [levels, bytes] => Ok(Bounds {
+            levels: number_in(levels.as_str())?,
+            bytes: number_in(bytes.as_str())?,
+        }),
         _ => Err(Failure::BadLine),
     }
 }

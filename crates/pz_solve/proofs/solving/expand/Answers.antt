@@ -18,7 +18,7 @@ returns-in_default c =
       room = omega (arith, c.in_ok-tried.ensures.room, c.loop-number.invariant.room);
       tried = λ start here search is_here.
           let before = c.loop-number.invariant.tried start here search is_here in
-          last_tried moves start old middle new c.args.index here c.loop-number.number c.args.bounds.levels before c.in_ok-tried.tried (subst (λ (input : Dir). HasTried moves start middle new c.args.index here c.args.bounds.levels input c.in_ok-tried.tried) c.input_of.ensures
+          last_tried moves start old middle new c.args.index here c.loop-number.number c.args.most before c.in_ok-tried.tried (subst (λ (input : Dir). HasTried moves start middle new c.args.index here c.args.most input c.in_ok-tried.tried) c.input_of.ensures
           (c.in_ok-tried.ensures.tried start here before.search (before.grows c.args.index here is_here))) c.in_default.not-Nothing;
     }
 
@@ -35,9 +35,9 @@ loop-number-preserved c =
       room = omega (arith, c.in_ok-tried.ensures.room, c.loop-number.invariant.room);
       tried = λ start here search is_here.
           let before = c.loop-number.invariant.tried start here search is_here in
-          one_more_tried moves start old middle new c.args.index here c.loop-number.number c.args.bounds.levels before
-          (subst (λ (outcome : Tried). HasTried moves start middle new c.args.index here c.args.bounds.levels (input_of c.loop-number.number) outcome) c.in-Nothing.is
-          (subst (λ (input : Dir). HasTried moves start middle new c.args.index here c.args.bounds.levels input c.in_ok-tried.tried) c.input_of.ensures
+          one_more_tried moves start old middle new c.args.index here c.loop-number.number c.args.most before
+          (subst (λ (outcome : Tried). HasTried moves start middle new c.args.index here c.args.most (input_of c.loop-number.number) outcome) c.in-Nothing.is
+          (subst (λ (input : Dir). HasTried moves start middle new c.args.index here c.args.most input c.in_ok-tried.tried) c.input_of.ensures
           (c.in_ok-tried.ensures.tried start here before.search (before.grows c.args.index here is_here))));
     }
 
@@ -46,4 +46,4 @@ returns-clause-tried c = λ start here search is_here.
     let moves = move_of c.args.game.now c.args.program.now in
     let number : c.loop-number.number ≡ 5 = omega (arith, c.loop-number-test.false, c.loop-number.auto.number-end) in
     let all = subst (λ (n : ℕ). AreTriedBelow moves start c.args.search.now c.loop-number.search c.args.index here n) number (c.loop-number.invariant.tried start here search is_here) in
-    all_tried moves start c.args.search.now c.loop-number.search c.args.index here c.args.bounds.levels all
+    all_tried moves start c.args.search.now c.loop-number.search c.args.index here c.args.most all

@@ -13,7 +13,7 @@ invariant-loop-number l = record {
   here : option_map (λ (found : Found). found.grid) (slice_get l.search l.index) ≡ Some l.level.grid;
   longer : length l.fn.search ≤ length l.search;
   level_of : AreOfGame l.game l.search;
-  room : length l.search ≤ max (length l.fn.search) l.bounds.levels;
+  room : length l.search ≤ max (length l.fn.search) l.most;
   tried : (start : Grid) (here : Found) → IsSearch (move_of l.game l.program) start l.fn.search l.index → slice_get l.fn.search l.index ≡ Some here →
       AreTriedBelow (move_of l.game l.program) start l.fn.search l.search l.index here l.number;
 }

@@ -18,7 +18,7 @@ levels-preserved c =
     let index = c.levels.index in
     let h = there old index (omega (arith, c.levels-test.true, c.len.ensures.count)) in
     let told = c.in_ok-expand.ensures.tried start h.0 c.levels.invariant.search h.1 in
-    let it = subst (λ (outcome : Tried). HasExpanded moves start old new index h.0 c.args.bounds.levels outcome) c.in-Nothing.is told in
+    let it = subst (λ (outcome : Tried). HasExpanded moves start old new index h.0 c.most_kept-most.result outcome) c.in-Nothing.is told in
     record {
       level_of = c.in_ok-expand.ensures.level_of;
       room = omega (arith, c.in_ok-expand.ensures.room, c.levels.invariant.room);
@@ -34,7 +34,7 @@ returns-in-Wins c =
     let index = c.levels.index in
     let h = there old index (omega (arith, c.levels-test.true, c.len.ensures.count)) in
     let told = c.in_ok-expand.ensures.tried start h.0 c.levels.invariant.search h.1 in
-    let it = subst (λ (outcome : Tried). HasExpanded moves start old new index h.0 c.args.bounds.levels outcome) c.in-Wins.is told in
+    let it = subst (λ (outcome : Tried). HasExpanded moves start old new index h.0 c.most_kept-most.result outcome) c.in-Wins.is told in
     let is_here = it.grows index h.0 h.1 in
     let inputs = c.in_ok-inputs_to-in-Wins.field-0.items in
     shortest moves start h.0.depth inputs
@@ -50,10 +50,10 @@ returns-in-NoRoom c =
     let index = c.levels.index in
     let h = there old index (omega (arith, c.levels-test.true, c.len.ensures.count)) in
     let told = c.in_ok-expand.ensures.tried start h.0 c.levels.invariant.search h.1 in
-    let it = subst (λ (outcome : Tried). HasExpanded moves start old new index h.0 c.args.bounds.levels outcome) c.in-NoRoom.is told in
+    let it = subst (λ (outcome : Tried). HasExpanded moves start old new index h.0 c.most_kept-most.result outcome) c.in-NoRoom.is told in
     let is_here = it.grows index h.0 h.1 in
     let link : link_of h.0 ≡ c.link.result = same_Some (link_of h.0) c.link.result (sym (ap (option_map link_of) is_here) ∙ c.link.ensures.link) in
-    out_of_bounds moves start new index h.0 it.search is_here c.args.bounds c.len-in-NoRoom.result c.link.result.depth c.len-in-NoRoom.ensures.kept it.comes_to.0 it.comes_to.1 c.len-in-NoRoom.ensures.count
+    out_of_bounds moves start new index h.0 it.search is_here c.args.bounds c.most_kept-most.result c.most_kept-most.ensures c.len-in-NoRoom.result c.link.result.depth c.len-in-NoRoom.ensures.kept it.comes_to.0 it.comes_to.1 c.len-in-NoRoom.ensures.count
     (ap (λ l. l.depth) (sym link))
 
 pub returns : goal.returns

@@ -8,9 +8,9 @@ use Rattle.pz_solve.proofs.solving.solve.Given as goal
 abbrev pub invariant-levels : goal.invariant-levels
 invariant-levels l = record {
   level_of : AreOfGame l.game l.search;
-  room : length l.search ≤ max 1 l.bounds.levels;
+  room : length l.search ≤ max 1 l.most;
   search : IsSearch (move_of l.game l.program) l.level.grid l.search l.index;
 }
 
 abbrev pub decreases-levels : goal.decreases-levels
-decreases-levels l = max 1 l.bounds.levels - l.index
+decreases-levels l = max 1 l.most - l.index

@@ -15,7 +15,7 @@ pub returns-in_ok-noted-in-Stands-clause-here : goal.returns-in_ok-noted-in-Stan
 returns-in_ok-noted-in-Stands-clause-here c =
     let grid = c.args.level.now.grid in
     let index = c.args.index in
-    let told = here_still c.take_spare-spare.new.self c.note.new.self c.args.bounds.levels _ c.in_ok-noted-in-Stands.noted c.in_ok-noted-in-Stands.ensures.noted index grid
+    let told = here_still c.take_spare-spare.new.self c.note.new.self c.args.most _ c.in_ok-noted-in-Stands.noted c.in_ok-noted-in-Stands.ensures.noted index grid
     (ap (λ (all : List Found). option_map (λ (f : Found). f.grid) (slice_get all index)) c.take_spare-spare.ensures ∙ c.requires.here) in
     ap (λ (all : List Found). option_map (λ (f : Found). f.grid) (slice_get all index)) c.put_aside.ensures ∙ told
 
@@ -24,7 +24,7 @@ returns-in_ok-noted-in-Stands-clause-tried c = λ start here search is_here.
     let moves = move_of c.args.game.now c.args.program.now in
     let old = c.args.search.now in
     let index = c.args.index in
-    let levels = c.args.bounds.levels in
+    let levels = c.args.most in
     let from : here.grid ≡ c.args.level.now.grid = same_Some here.grid c.args.level.now.grid (sym (ap (option_map (λ (f : Found). f.grid)) is_here) ∙ c.requires.here) in
     let leads : moves here.grid c.args.input ≡ Stands c.in-Stands.next.grid =
     ap (λ (g : Grid). moves g c.args.input) from ∙ sym c.in_ok-next.ensures.reached ∙ ap reached_by c.in-Stands.is in
