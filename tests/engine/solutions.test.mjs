@@ -12,7 +12,7 @@ const engine = existsSync(MODULE) ? await load(readFileSync(MODULE)) : null;
 const isRefusing = engine?.hasSolutions && existsSync(REFUSING) && WebAssembly.Module.exports(new WebAssembly.Module(readFileSync(REFUSING))).some(({ name }) => name === 'saxtegun_solutions');
 const it = (name, act) => test(name, { skip: !engine?.hasSolutions && 'the module is not there, or solves nothing' }, act);
 
-const ROOM = 4096, OUTCOME = 24, LAST = 2n ** 64n - 1n, MEMORY = [2, 1, 0, ''];
+const ROOM = 4096, OUTCOME = 24, KEPT = 1000, LAST = 2n ** 64n - 1n, MEMORY = [2, 1, 0, ''];
 const RIGHT = 3;
 const HEAD = 'OBJECTS\nBackground .\nblack\nTarget o\nblue\nWall #\ngrey\nPlayer p\nwhite\nCrate *\nbrown\nLEGEND\nCOLLISIONLAYERS\nBackground\nTarget\nPlayer, Wall, Crate\n';
 const game = (...levels) => `${HEAD}RULES\n[ > Player | Crate ] -> [ > Player | > Crate ]\nWINCONDITIONS\nAll Target on Crate\nLEVELS\n${levels.join('\n')}`;
@@ -79,7 +79,7 @@ class Host {
     const bytes = new TextEncoder().encode(text), memory = () => this.exports.memory.buffer;
     new Uint8Array(memory(), this.file, bytes.length).set(bytes);
     new Uint8Array(memory(), this.room, ROOM).fill(0x2e);
-    const count = this.exports.saxtegun_solutions(this.file, BigInt(bytes.length), levels, this.room, BigInt(size), this.outcome);
+    const count = this.exports.saxtegun_solutions(this.file, BigInt(bytes.length), levels, KEPT, this.room, BigInt(size), this.outcome);
     const words = new BigUint64Array(new Uint8Array(memory(), this.outcome, OUTCOME).slice().buffer);
     return [...[...words].map(Number), new TextDecoder().decode(new Uint8Array(memory(), this.room, Number(count)))];
   }

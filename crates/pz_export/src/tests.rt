@@ -425,6 +425,7 @@ fn solves_the_sessions_of_a_file(rt: HostRuntime) -> Result<(), Fail> {
         rt.alloc(),
         PUSHED_ONCE.as_bytes(),
         9,
+        1000,
         room,
         &mut host.outcome,
     );
