@@ -30,6 +30,8 @@ from saxtegun.verbs import solve as solve_verb
 WORDS = ("up", "left", "down", "right", "action")
 # The example's levels are the first two of a published set, whose shortest solutions are known.
 SHORTEST = (33, 16)
+# In how few moves the first ten levels of Microban are known to be won. The seventh leads to nearly eight million levels of play, and is left out here.
+MICROBAN, KNOWN, LARGE = TOP / "tests/microban.txt", (33, 16, 41, 23, 25, 107, 26, 97, 30, 89), 7
 DEAD = "#####\n#*..#\n#P.O#\n#####\n"
 
 
@@ -110,6 +112,18 @@ class DayOfSolving(OfLevels):
             inputs = numbers_of(lines[2 * place + 1])
             self.assertEqual((len(inputs), shortest(read(drawing))), (count, count))
             self.assertTrue(wins_last(read(drawing), inputs))
+
+    def test_published_levels_are_won_in_as_few_moves_as_is_known(self):
+        letters = str.maketrans({" ": ".", ".": "O", "$": "*", "*": "@", "@": "P"})
+        drawings = [it.rstrip("\n").partition("\n")[2].split("\n") for it in MICROBAN.read_text(encoding="utf-8").split("; ")[2:]]
+        self.assertEqual(len(drawings), len(KNOWN))
+        for number, (rows, count) in enumerate(zip(drawings, KNOWN), 1):
+            if number != LARGE:
+                wide = max(map(len, rows))
+                drawing = "\n".join(row.ljust(wide).translate(letters) for row in rows)
+                answer = run("solve", self.with_level(0, drawing), "--level", "1")
+                self.assertEqual(answer.out.splitlines()[0], f"level 1: solved in {count} presses, and in no fewer")
+                self.assertTrue(wins_last(read(drawing), numbers_of(answer.out.splitlines()[1])), number)
 
     def test_solutions_are_saved_as_recordings_that_pass(self):
         saved = self.room / "solved.json"
