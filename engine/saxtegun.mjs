@@ -317,7 +317,8 @@ class Engine {
   }
 
   open(session, { order = 'columns' } = {}) {
-    const number = numberOf(order), file = bytesOf(fileOfOne({ ...session, inputs: [] })), inputs = [...session.inputs];
+    const { source, level, index } = session, inputs = [...session.inputs];
+    const number = numberOf(order), file = bytesOf(fileOfOne({ source, inputs: [], level, index }));
     bytesOfInputs(inputs); // a wrong one is told before anything is open
     if (!this.#has(OPEN)) return notOpened('no-open-sessions');
     if (file === null) return notOpened('not-json');

@@ -33,6 +33,13 @@ function random(seed) {
   };
 }
 
+it('of a session nothing is read but its elements', () => {
+  const beside = { source: WALK, inputs: [], get more() { throw new Error('it is read'); } };
+  const { session, ...opened } = engine.open(beside, { order: 'rows' });
+  assert.deepEqual([opened.fault, opened.frames], [null, START.frames]);
+  session.close();
+});
+
 it('an input is answered by what it shows', () => {
   const { session, ...opened } = walk();
   assert.deepEqual(opened, START);
