@@ -18,6 +18,7 @@ const MOST_COLOURS = 10; // a pixel is a digit, so no further colour is drawn
 const SWITCHES = new Map(Object.entries({ noaction: 4, noundo: "undo", norestart: "restart" })); // words of the prelude that switch a key off
 const MOST_LEVELS = 1024; // to choose from: no game that is played has more entries of LEVELS
 const UNTITLED = "a game";
+const LIKE_A_CELL = /^[0-9]+,/; // what a name begins with that reads in a level text as a cell, and what stands behind it
 
 // A map in which the first of two with one key stays.
 function firsts(pairs) {
@@ -40,6 +41,7 @@ export class Game {
     this.switches = new Map(settings.filter(({ keyword }) => SWITCHES.has(keyword)).map(({ keyword }) => [SWITCHES.get(keyword), keyword]));
     settings.forEach((setting) => this.readColours(setting));
     this.objects = told.objects.map((it) => ({ name: fold(it.names[0]), colours: this.coloursOf(it), sprite: this.spriteOf(it), layer: it.layer ?? null }));
+    this.isReadBack = !this.objects.some(({ name }) => LIKE_A_CELL.test(name));
     this.layers = new Map(this.objects.map(({ name, layer }) => [name, layer]));
     this.firstNames = firsts(told.objects.flatMap(({ names }) => names.map((name) => [fold(name), fold(names[0])])));
     this.definitions = firsts(told.legend.map((it) => [fold(it.left[0]), it]));
@@ -76,6 +78,11 @@ export class Game {
   members(name) {
     if (this.firstNames.has(name)) return [this.firstNames.get(name)];
     return (this.definitions.get(name)?.members ?? []).map((place) => this.objects[place].name);
+  }
+
+  // The text of a level that was played, or null where it may read back as another one.
+  levelText(text) {
+    return this.isReadBack ? text : null;
   }
 
   isProperty(name) {

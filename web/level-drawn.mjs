@@ -33,9 +33,9 @@ export class LevelDrawn {
     at("boards").classList.remove("stale");
     if (chosenStage(state) !== null) return this.drawStage(state);
     if (frame === undefined) return this.drawRefused(state);
-    const labels = this.use(state), other = this.comparedWith(state);
-    const ending = other && new Ending(frame.level, other.text, state.order, labels);
-    const level = ending ? ending.reached : readLevel(frame.level, labels, state.order);
+    const labels = this.use(state), other = this.comparedWith(state), text = gameOf(sourceOf(state)).levelText(frame.level);
+    const ending = other && new Ending(text, other.text, state.order, labels);
+    const level = ending ? ending.reached : readLevel(text, labels, state.order);
     const unread = level === null ? "This level can't be drawn: a name of an object in it holds a comma." : "";
     const sides = [{ level, caption: other && level ? "reached" : unread, told: readable(toldOfLevel(state)) }];
     if (isDrawn(ending?.recorded)) sides.push({ level: ending.recorded, caption: other.caption, told: other.caption });
@@ -56,8 +56,8 @@ export class LevelDrawn {
 
   // The level behind the stage that is chosen, beside nothing.
   drawStage(state) {
-    const labels = this.use(state), { text, before, headings, told } = stageShown(state);
-    const level = readLevel(text, labels, state.order), changed = before === null ? [] : differing(readLevel(before, labels, state.order), level) ?? [];
+    const labels = this.use(state), game = gameOf(sourceOf(state)), { text, before, headings, told } = stageShown(state);
+    const level = readLevel(game.levelText(text), labels, state.order), changed = before === null ? [] : differing(readLevel(game.levelText(before), labels, state.order), level) ?? [];
     this.boards.show([{ level, changed, headings, caption: readable(told), told: readable(`${toldOfLevel(state)}, ${told}`) }], []);
     return say("difference", "");
   }

@@ -60,8 +60,8 @@ export function widthOf(text, count) {
   return width > 0 && count % width === 0 ? width : Math.max(1, count);
 }
 
-// A level text as a level, or null. Where `width` is named, the level is so wide.
+// A level text as a level, or null, also where there is none. Where `width` is named, the level is so wide.
 export function readLevel(text, labels, order, width = null) {
-  const cells = readCells(text, labels);
+  const cells = text === null ? null : readCells(text, labels);
   return cells === null ? null : { width: width ?? widthOf(text, cells.length), cells, order };
 }

@@ -2,7 +2,7 @@
 import { Ending, obstacleTold, partingOf } from "./comparing.mjs";
 import { MOST_READ, framesIn, runsOf } from "./lines.mjs";
 import { isSameList } from "./past.mjs";
-import { framesOf, isAtEnd, isPlayed, sourceOf } from "./replaying.mjs";
+import { framesOf, gameOf, isAtEnd, isPlayed, sourceOf } from "./replaying.mjs";
 import { Refusal, refusalTold } from "./session-file.mjs";
 import { isFailure } from "./session-list.mjs";
 import { Clocks, hasClock, isRefusedForClock, playedText } from "./ticks.mjs";
@@ -153,9 +153,9 @@ export function sessionOpened(state, number) {
 
 let lastObstacle = {}; // what stood against the end that was looked at last: a recorded level may take long to read, and each draw asks for it
 
-function obstacleOf(run, reached, recorded, order) {
+function obstacleOf(game, run, reached, recorded, order) {
   const { of = {} } = lastObstacle, isSame = of.run === run && of.reached === reached && of.recorded === recorded && of.order === order;
-  if (!isSame) lastObstacle = { of: { run, reached, recorded, order }, why: obstacleTold(run, new Ending(reached, recorded, order)) };
+  if (!isSame) lastObstacle = { of: { run, reached, recorded, order }, why: obstacleTold(run, new Ending(game.levelText(reached), recorded, order)) };
   return lastObstacle.why;
 }
 
@@ -166,7 +166,7 @@ export function differenceOf(state) {
   if (run === null || run.close !== "differs" || !isPlayed(state) || !isAtEnd(state) || (state.comparison?.partings[state.work.opened] ?? null) !== null) return null;
   const reached = framesOf(state).at(-1)?.level;
   if (reached === undefined) return null;
-  return { reached, recorded: entry.level, why: obstacleOf(run, reached, entry.level, state.order) };
+  return { reached, recorded: entry.level, why: obstacleOf(gameOf(sourceOf(state)), run, reached, entry.level, state.order) };
 }
 
 // The state where what is on the screen counts as seen.

@@ -15,7 +15,7 @@ import { beginning, edited, fromLevel, lookedAt, pressed, ticked, withGame } fro
 import { clockTold, notesTold, statusOf, verdictOf } from "../../web/page-words.mjs";
 import { SessionFile } from "../../web/session-file.mjs";
 import { withOtherFile } from "../../web/filing.mjs";
-import { rowsOf, sessionOpened } from "../../web/suite.mjs";
+import { differenceOf, rowsOf, sessionOpened } from "../../web/suite.mjs";
 import { hasClock, withoutClock } from "../../web/ticks.mjs";
 import { lineNow, linePointedAt, opened } from "../../web/staging.mjs";
 import { Bench, module } from "./bench.mjs";
@@ -53,6 +53,15 @@ message the end
 `;
 // The same with two cells more, where an action and then each tick take the player one step on.
 const TICKING = FALLING.replace("RULES\n", "RULES\n[ action Player ] -> [ right Player ] again\n[ stationary Player ] -> [ right Player ] again\n").replaceAll("p.g", "p...g");
+
+it("a level that would read back as another one is neither drawn nor accepted", async () => {
+  const named = (name) => `OBJECTS\nBackground .\nblack\nPlayer p\nwhite\n${name} x\nred\nLEGEND\nCOLLISIONLAYERS\nBackground\nx\nPlayer\nRULES\nLEVELS\n..xp\n....\n`;
+  assert.deepEqual(["0,x", "17,", "a,0", "0x"].map((name) => new Game(named(name)).levelText("background:0,")), [null, null, "background:0,", "background:0,"]);
+  const bench = new Bench(withGame(beginning(""), named("0,x")));
+  await bench.act(withOtherFile, new SessionFile("one.json", new TextEncoder().encode(JSON.stringify([["one", ["", [1], "background:0,", 0]]]))));
+  const { reached, why } = differenceOf(bench.state);
+  assert.deepEqual([reached.includes("0,x background player:1,"), why], [true, "the level that was reached can't be read back, since a name of an object in it holds a comma"]);
+});
 
 it("of levels and notes no more are shown than a page bears", () => {
   assert.equal(levelsOf(`LEVELS\n${"p\n\n".repeat(1024)}`).length, 1024);
