@@ -8,7 +8,8 @@ import { put, putAttribute, putText } from "./saying.mjs";
 const DIFFERS = "#ff85ad";
 const CHANGED = "#35c3ff";
 const MOST_SCALE = 64; // pixels for one of a sprite, at most
-const MOST_PIXELS = 12_000; // of a side of a level
+const MOST_PIXELS = 12_000; // of a side of a level,
+const MOST_IN_ALL = 2 ** 26; // and of all of it: a browser takes four bytes for each, and draws nothing of many more
 const BLINK = 500; // milliseconds for which each level is shown
 
 export class Boards {
@@ -61,7 +62,7 @@ export class Boards {
   draw() {
     if (this.sides.length === 0) return;
     const seen = this.blinking === null ? this.sides : [this.sides[this.blinking]], levels = seen.map(({ level }) => level), room = this.page.roomFor(levels), { most } = this.page;
-    this.scale = this.zoom || Math.min(most, ...this.levels.map((level) => scaleFor(level, room.width, room.height, most)));
+    this.scale = this.zoom > 0 ? Math.min(this.zoom, this.largest) : Math.min(most, ...this.levels.map((level) => scaleFor(level, room.width, room.height, most)));
     this.places.forEach(([canvas, caption], place) => {
       put(at(canvas).closest("figure"), { hidden: seen[place] === undefined });
       if (seen[place]) this.drawSide(at(canvas), at(caption), seen[place]);
@@ -102,9 +103,14 @@ export class Boards {
 
   // ---- how large it is, and which part of it is seen
 
+  // The most pixels for one of a sprite with which these levels are drawn: what was zoomed before may have been smaller ones.
+  get largest() {
+    const fitting = this.levels.map((level) => Math.min(MOST_PIXELS / Math.max(level.width, heightOf(level)), Math.sqrt(MOST_IN_ALL / level.cells.length)) / SIDE);
+    return Math.max(1, Math.floor(Math.min(MOST_SCALE, ...fitting)));
+  }
+
   zoomBy(step) {
-    const sides = this.levels.flatMap((level) => [level.width, heightOf(level)]), largest = Math.min(MOST_SCALE, Math.floor(MOST_PIXELS / (SIDE * Math.max(1, ...sides))));
-    this.zoom = Math.max(1, Math.min(largest, this.scale + step));
+    this.zoom = Math.max(1, Math.min(this.largest, this.scale + step));
     this.draw();
   }
 

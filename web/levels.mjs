@@ -4,9 +4,10 @@
 export const heightOf = (level) => level.cells.length / level.width;
 
 const MOST_CELLS = 16_384; // of a level that is played, as docs/language.md has it
+const MOST_OF_A_SIDE = 6_553; // of a recorded text, which need not have line breaks: of more, each with five pixels, a browser draws nothing
 
-// Whether a level has more cells than any that is played, as one that a stranger recorded may: a browser would draw it for minutes.
-export const isTooLarge = (level) => level?.cells?.length > MOST_CELLS;
+// Whether a level is larger than any that is played, as one that a stranger recorded may be: a browser would draw it for minutes, or leave it empty.
+export const isTooLarge = (level) => level?.cells?.length > MOST_CELLS || (level?.cells?.length > 0 && Math.max(level.width, heightOf(level)) > MOST_OF_A_SIDE);
 
 // Whether there is a level with cells that is drawn: a text that can't be read back has none.
 export const isDrawn = (level) => Boolean(level && level.cells && level.cells.length > 0) && !isTooLarge(level);

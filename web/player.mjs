@@ -1,10 +1,10 @@
 // The player of a session: its frames, drawn beside the recorded level or beside those of another run.
 import { Boards } from "./boards.mjs";
 import { shapeOf } from "./closes.mjs";
-import { at, cut, fill, json, make, plural, sayable } from "./elements.mjs";
+import { at, cut, fill, json, make, sayable } from "./elements.mjs";
 import { Run, textOf } from "./frames.mjs";
 import { InputStrip } from "./input-strip.mjs";
-import { differing, isDrawn, isTooLarge } from "./levels.mjs";
+import { differing, heightOf, isDrawn, isTooLarge } from "./levels.mjs";
 import { differenceTold, frameTold } from "./telling.mjs";
 
 const PAUSE = 160;      // milliseconds between two frames at the speed 1
@@ -17,7 +17,7 @@ const POINT = "Point at a cell, or tap it, to see what stands in it.";
 
 // Why a level isn't drawn.
 function whyNotDrawn(level) {
-  if (isTooLarge(level)) return `a level of ${plural(level.cells.length, "cell")}, more than any has that is played`;
+  if (isTooLarge(level)) return `a level ${level.width} wide and ${heightOf(level)} high, larger than any that is played`;
   return level.text === undefined ? "an empty level text" : `a level text that can't be read back: ${cut(level.text, QUOTED)}`;
 }
 

@@ -29,16 +29,30 @@ test("cells with long names are told apart where their beginnings are the same",
 });
 
 test("a level of more cells than one that is played has is not drawn, and compared with none", () => {
-  const [most, more] = [16_384, 16_385].map((count) => level(new Array(count).fill(0)));
+  const [most, more] = [16_384, 16_385].map((count) => ({ ...level(new Array(count).fill(0)), width: 128 }));
   assert.deepEqual([most, more, level([]), null, undefined, { text: "x" }].map((it) => [isDrawn(it), Boolean(isTooLarge(it))]), [[true, false], [false, true], ...new Array(4).fill([false, false])]);
   assert.deepEqual([isOfOneSize(most, most), isOfOneSize(more, more)], [true, false]);
+  const rows = [6_553, 6_554].map((count) => level(new Array(count).fill(0))), columns = rows.map((it) => ({ ...it, width: 1 }));
+  assert.deepEqual([...rows, ...columns].map(isDrawn), [true, false, true, false]);
+});
+
+test("what was zoomed before is drawn no larger than a browser draws it", () => {
+  globalThis.document = { getElementById: () => ({ getAttribute: () => "false" }) };
+  const page = { roomFor: () => ({ width: 600, height: 600 }), most: 64 }, boards = Object.assign(Object.create(Boards.prototype), { page, places: [], blinking: null, zoom: 64 });
+  const scaleOf = ([width, height]) => {
+    boards.sides = [{ level: { ...level(new Array(width * height).fill(0)), width } }];
+    boards.draw();
+    return boards.scale;
+  };
+  assert.deepEqual([[3, 1], [38, 38], [100, 100], [128, 128], [255, 64], [6_553, 1]].map(scaleOf), [64, 43, 16, 12, 9, 1]);
+  delete globalThis.document;
 });
 
 test("a report tells why a level isn't drawn, and no long text of it", () => {
   globalThis.document = { getElementById: () => ({ checked: false }) };
   const told = (it) => Player.prototype.sideShown.call({ at: 0, captionOf: () => "a caption" }, { caption: "played", run: { last: 0 } }, it).caption;
   assert.deepEqual([level([0]), level([]), level(new Array(20_000).fill(0)), { text: `a,b:0,${LONG}` }].map(told), [
-    "a caption", "played: an empty level text", "played: a level of 20000 cells, more than any has that is played",
+    "a caption", "played: an empty level text", "played: a level 20000 wide and 1 high, larger than any that is played",
     `played: a level text that can't be read back: a,b:0,${"x".repeat(494)}\u2026`,
   ]);
   delete globalThis.document;
