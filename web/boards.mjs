@@ -9,7 +9,7 @@ const DIFFERS = "#ff85ad";
 const CHANGED = "#35c3ff";
 const MOST_SCALE = 64; // pixels for one of a sprite, at most
 const MOST_PIXELS = 12_000; // of a side of a level,
-const MOST_IN_ALL = 2 ** 26; // and of all of it: a browser takes four bytes for each, and draws nothing of many more
+const MOST_IN_ALL = 2 ** 24; // and of all of it: a browser draws many more for many seconds, each by four bytes, or leaves them empty
 const BLINK = 500; // milliseconds for which each level is shown
 
 export class Boards {

@@ -44,7 +44,7 @@ test("what was zoomed before is drawn no larger than a browser draws it", () => 
     boards.draw();
     return boards.scale;
   };
-  assert.deepEqual([[3, 1], [38, 38], [100, 100], [128, 128], [255, 64], [6_553, 1]].map(scaleOf), [64, 43, 16, 12, 9, 1]);
+  assert.deepEqual([[3, 1], [38, 38], [100, 100], [128, 128], [255, 64], [6_553, 1]].map(scaleOf), [64, 21, 8, 6, 6, 1]);
   delete globalThis.document;
 });
 
