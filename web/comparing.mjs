@@ -9,7 +9,8 @@ import { Refusal } from "./session-file.mjs";
 
 const MOST_OF_A_CAUSE = 200; // letters that are told
 
-const commasOf = (text) => text.split("\n", 1)[0].split(",").length - 1;
+// The commas of a level text with the line feeds between them: by these it tells how many cells each line has.
+const feedsOf = (text) => text.slice(0, text.lastIndexOf(",") + 1).replace(/[^,\n]+/g, "");
 
 const isLong = (text) => text.length > MOST_OF_A_LEVEL;
 
@@ -18,7 +19,7 @@ function isSameLevel(one, other) {
   if (one === other) return true;
   if (isLong(one) || isLong(other)) throw new Refusal("the text of a level has more than 2,097,152 letters, and is not read where it is another one here");
   const labels = new Labels(), cells = readCells(one, labels), others = readCells(other, labels);
-  return cells !== null && others !== null && cells.length === others.length && cells.every((label, at) => label === others[at]) && commasOf(one) === commasOf(other);
+  return cells !== null && others !== null && cells.length === others.length && cells.every((label, at) => label === others[at]) && feedsOf(one) === feedsOf(other);
 }
 
 function isSameFrame(one, other) {

@@ -151,7 +151,8 @@ export function othersTold(state) {
 
 // What a level differs in from the one beside it.
 export function unlikenessTold(state, ending, isOfEngines) {
-  const { cells } = ending;
+  const { cells } = ending, { kind, frame } = state.comparison?.partings[state.work.opened] ?? {};
+  if (isOfEngines && cells?.length === 0 && kind === "level" && frame === shownOf(state)) return "The cells are the same, and the line feeds between them are not.";
   if (isOfEngines) return cells === null ? "The two levels can't be compared cell by cell." : `${plural(cells.length, "cell")} of this frame ${cells.length === 1 ? "differs" : "differ"} (framed).`;
   if (sessionOf(state).level === "") return "No level was recorded.";
   return cells?.length === 0 ? "This is the recorded level." : upper(`${endingTold(ending)}${cells ? " (framed)" : ""}`);

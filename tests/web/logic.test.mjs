@@ -170,6 +170,14 @@ test("two runs part at the first frame that differs", () => {
   assert.deepEqual(partingOf(one, run([START, [1, "move", "a:0,b:1,"]], "differs")), { frame: 2, kind: "close" });
 });
 
+test("a level whose cells stand in other lines is another one, in each line and not in the first alone", () => {
+  const rows = "a:0,0,\n0,b:1,\n0,0,\n", partingFrom = (level) => partingOf(run([[0, "start", rows]]), run([[0, "start", level]]));
+  for (const other of ["a:0,0,\n0,b:1,0,0,\n", "a:0,0,\n\n0,b:1,\n0,0,\n", "a:0,0,\n0,\nb:1,0,0,\n"]) assert.deepEqual(partingFrom(other), { frame: 0, kind: "level" });
+  // the last line feed may be missing, and a carriage return be there
+  for (const same of [rows.slice(0, -1), rows.replaceAll("\n", "\r\n"), `${rows}\n`]) assert.equal(partingFrom(same), null);
+  assert.equal(partingOf(run([[0, "start", ""]]), run([[0, "start", "\n\n"]])), null);
+});
+
 test("a parting is told with its input", () => {
   const one = run([START, [1, "move", "a:0,b:1,"]]), other = run([START], "stopped", "loop-limit");
   assert.equal(partingTold(partingOf(one, other), one, other, [3]), "frame 1, after input 0 (right): no more frames there, which is stopped (loop-limit)");

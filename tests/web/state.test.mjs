@@ -1,11 +1,12 @@
 // What an author does on the page, without a browser: the state is played by the module in Node. What is expected is written by hand.
 import assert from "node:assert/strict";
 import test from "node:test";
+import { Ending } from "../../web/comparing.mjs";
 import { findingsIn } from "../../web/console.mjs";
 import { KeptOpen } from "../../web/kept-open.mjs";
 import { stateFrom, stateOfVisit } from "../../web/kept-work.mjs";
 import { playedBy } from "../../web/page-engine.mjs";
-import { faultOfText, othersTold, ownTold, putBackTold, statusOf, stepTold, tabTold, verdictOf, visitTold } from "../../web/page-words.mjs";
+import { faultOfText, othersTold, ownTold, putBackTold, statusOf, stepTold, tabTold, unlikenessTold, verdictOf, visitTold } from "../../web/page-words.mjs";
 import { SessionFile } from "../../web/session-file.mjs";
 import { accepted, filed, followed, namesakeOf, removed, savedAs, savedLater, withOtherFile, withRecordings } from "../../web/filing.mjs";
 import { framesOf, isPlayed, shownOf, sourceOf } from "../../web/replaying.mjs";
@@ -461,6 +462,16 @@ it("lines of another engine are compared, and an edit ends that", async () => {
   assert.match(statusOf(bench.state).text, /^Diverges at frame 7, after input 6 \(/);
   await bench.act(edited, BROKEN);
   assert.equal(bench.state.comparison, null);
+});
+
+it("where the cells of another engine's level stand in other lines, that is said", async () => {
+  const bench = new Bench();
+  await bench.act(withOtherFile, new SessionFile("a.json", new Uint8Array(read("examples/block-pushing.json"))));
+  const lines = new TextDecoder().decode(bench.state.suite.lines), level = JSON.parse(lines.slice(0, lines.indexOf("\n"))).level, [first, second, ...rest] = level.split("\n");
+  await bench.act(comparedWithLines, "theirs", lines.replace(JSON.stringify(level), JSON.stringify([first, second + rest[0], ...rest.slice(1)].join("\n"))));
+  assert.equal(verdictOf(bench.state, null).text, "Compared with theirs: 4 the same, 1 diverges.");
+  const told = () => unlikenessTold(bench.state, new Ending(level, bench.state.comparison.others[0].frames[shownOf(bench.state)].level, "columns"), true);
+  assert.deepEqual([shownOf(bench.state), told()], [0, "The cells are the same, and the line feeds between them are not."]);
 });
 
 // ---- what an editor's console prints
