@@ -9,7 +9,7 @@ const GAP = new RegExp(`[${WHITE_SPACE}\\ufeff]+|<br[${WHITE_SPACE}]*/?>|&nbsp;`
 const QUOTED_LINE = /[ \t]*>+/y;
 const NAME_OR_NUMBER = /-?(?:0|[1-9][0-9]*)(?:\.[0-9]+)?(?:[eE][-+]?[0-9]+)?(?![\p{L}\p{N}_.])|[A-Za-z_][\p{L}\p{N}_]*/uy;
 const NAMED_VALUES = new Map([["null", null], ["undefined", null], ["true", true], ["false", false]]);
-const ESCAPE = /\\(?:u\{([0-9a-fA-F]+)\}|u([0-9a-fA-F]{4})|x([0-9a-fA-F]{2})|(\r\n|[^]))/gu;
+const ESCAPE = /\\(?:u\{[0-9a-fA-F]+\}|u[0-9a-fA-F]{4}|x[0-9a-fA-F]{2}|\r\n|[^])/gu; // without groups, with which a browser takes thrice as long
 const ESCAPES = new Map(Object.entries({ n: "\n", r: "\r", t: "\t", b: "\b", f: "\f", v: "\v", 0: "\0", "\n": "", "\r\n": "" }));
 const WHOLE = /^-?(?:0|[1-9][0-9]*)$/;
 const MOST_WHOLE = 2n ** 64n; // numbers from here on are no index
@@ -32,15 +32,22 @@ function foundAt(pattern, text, at) {
   return pattern.exec(text)?.[0] ?? null;
 }
 
+// What an escape stands for, or null where it names no letter.
+function letterOf(escape) {
+  const letter = escape.slice(1);
+  if (escape.length === 2 || !"ux".includes(escape[1])) return ESCAPES.get(letter) ?? letter;
+  const digits = letter.replace(/^[ux]\{?0*|\}$/g, ""), number = Number(`0x${digits || "0"}`);
+  return digits.length > 6 || number > LAST_LETTER ? null : String.fromCodePoint(number);
+}
+
 // A text without its escapes, or null where one names no letter.
 export function unescaped(text) {
   if (!text.includes("\\")) return text;
   let isBad = false;
-  const read = text.replace(ESCAPE, (_, code, four, two, letter) => {
-    if (letter !== undefined) return ESCAPES.get(letter) ?? letter;
-    const digits = (code ?? four ?? two).replace(/^0+/, ""), number = Number(`0x${digits || "0"}`);
-    isBad ||= digits.length > 6 || number > LAST_LETTER;
-    return isBad ? "" : String.fromCodePoint(number);
+  const read = text.replace(ESCAPE, (escape) => {
+    const letter = letterOf(escape);
+    isBad ||= letter === null;
+    return letter;
   });
   return isBad ? null : read;
 }

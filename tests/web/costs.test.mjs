@@ -10,6 +10,7 @@ import { findingsIn } from '../../web/console.mjs';
 import { likelyTold } from '../../web/differences.mjs';
 import { rowsInWords } from '../../web/cells.mjs';
 import { descriptionOf, readBy } from '../../web/descriptions.mjs';
+import { unescaped } from '../../web/javascript.mjs';
 import { Game } from '../../web/game.mjs';
 import { SessionFile } from '../../web/session-file.mjs';
 import { Clocks } from '../../web/ticks.mjs';
@@ -138,6 +139,17 @@ test('26 MB of text are searched in no time', () => {
     const count = Math.floor((10 * LONG) / piece.length);
     assert.ok(searchOf(piece.repeat(count), each * count) < MOST_MS, piece);
   }
+});
+
+test('a text of escapes alone takes little more than replacing each', () => {
+  const text = '\\"'.repeat(LONG), acts = [() => unescaped(text), () => text.replace(/\\["x]/gu, it => it.slice(1))];
+  const [taken, least] = acts.map(act => Math.min(...[1, 2, 3, 4].map(() => {
+    collect();
+    const begin = process.cpuUsage();
+    assert.equal(act().length, LONG);
+    return process.cpuUsage(begin).user;
+  })));
+  assert.ok(taken < 3 * least, `${taken} ${least}`);
 });
 
 // Texts of one piece again and again, with what stands before and behind it, and how many recordings are in it.
