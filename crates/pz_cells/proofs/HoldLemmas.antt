@@ -1,6 +1,6 @@
 -- What holds in a cell, by sets.
 use Rattle.pz_cells.proofs.Common.{cases_Bool, ◌≡◌, inl, inr, ℕ, suc, ◌<◌, ◌≤◌, List, [], ◌∷◌, Option, Some, None, Bool, true, false, not, cond, length, get_or, arith, ap, sym, ◌∙◌, refl, subst, ◌*◌, ◌/◌, ◌%◌, ◌&&◌, nat_eq, All, IsTrue, ◌↔◌, cases_lt, eqb-true, get_or_past, get_or-map-range_with_len, length-map-range_with_len, member, IsWithin, AreApart, Piece, Dir, Word, Item, AreOf, standing, names, placed_on, is_toward, flag, heads, heading_in, IsProper, place_of, cell_of, AreLawful, each_number, flag_of, dir_bit-low, Masks, toward, is_still, asks_toward, asks_still, IsLow, AreMasksOf, begins, list_any, Layering, IsLayering, Up, Down, Left, Right, Action}
-use Rattle.pz_game.specs.declared.limits.TheConstants.{MAX_LAYERS, MAX_OBJECTS}
+use Rattle.pz_game.specs.declared.limits.TheConstants.{MOST_LAYERS, MOST_OBJECTS}
 use Rattle.pz_game.specs.declared.pattern.Word.TheVariants.{Present, Still, Toward, Absent}
 use Rattle.std.proofs.lemmas.List.Folds.{list_any_at}
 use Rattle.std.proofs.lemmas.List.Sums.{AllPass-from_list_all, list_all-from_AllPass}
@@ -107,7 +107,7 @@ module _ (depth : ℕ) (layers objects movement : List ℕ) (items : List Item) 
   )
 
 -- a cell of a rule of the game is within the limits of games
-pub low_of_game : (depth : ℕ) (layers : List ℕ) (items : List Item) → All (λ layer. layer < depth) layers → length layers ≤ MAX_OBJECTS → depth ≤ MAX_LAYERS → AreOf layers items → All IsLow items
+pub low_of_game : (depth : ℕ) (layers : List ℕ) (items : List Item) → All (λ layer. layer < depth) layers → length layers ≤ MOST_OBJECTS → depth ≤ MOST_LAYERS → AreOf layers items → All IsLow items
 low_of_game depth layers items low few shallow are k d within =
     let is = are k d within in
     (omega (arith, is.object, few), omega (arith, low (get_or items k d).object 0 is.object, is.layer, shallow))

@@ -1,6 +1,6 @@
 -- The collision layers of a game, as the cells of its levels need them: how many there are, and the layer of each object.
 use Rattle.std.specs.Prelude.{◌≡◌, ℕ, ◌*◌, ◌<◌, ◌≤◌, List, length, slice_index_or, All}
-use Rattle.pz_game.specs.declared.limits.TheConstants.{MAX_OBJECTS, MAX_LAYERS}
+use Rattle.pz_game.specs.declared.limits.TheConstants.{MOST_OBJECTS, MOST_LAYERS}
 use Rattle.pz_game.specs.declared.game.GameParts.{GameParts}
 use Rattle.pz_cells.specs.Shown.{IsSetOf}
 
@@ -15,8 +15,8 @@ layering_of game = record { depth = game.depth; layers = game.layers }
 -- what holds of layers whose cells fit in N words
 pub record IsLayering (N : ℕ) (layering : Layering) : Type 0 where
   pub short : N ≤ 4
-  pub few : length layering.layers ≤ MAX_OBJECTS
-  pub shallow : layering.depth ≤ MAX_LAYERS
+  pub few : length layering.layers ≤ MOST_OBJECTS
+  pub shallow : layering.depth ≤ MOST_LAYERS
   pub room : length layering.layers ≤ 128 * N
   pub movement_room : layering.depth ≤ 25 * N
   pub layered : All (λ layer. layer < layering.depth) layering.layers

@@ -1,7 +1,7 @@
 //! The collision layers of a game, as the cells of its levels need them.
 
 ghost use Rattle.std.specs.Prelude.{◌≡◌, ◌↔◌, IsTrue, ◌≤◌, ◌<◌, ◌*◌, ◌&&◌, ◌||◌, ℕ, List, IfOk, length, nat_eq, slice_index, slice_index_or};
-ghost use Rattle.pz_game.specs.declared.limits.TheConstants.{MAX_OBJECTS};
+ghost use Rattle.pz_game.specs.declared.limits.TheConstants.{MOST_OBJECTS};
 ghost use Rattle.pz_game.specs.Pattern.{AreOf};
 ghost use Rattle.pz_sets.specs.Sets.{member};
 ghost use Rattle.pz_cells.specs.Rewrites.{is_displaced};
@@ -128,7 +128,7 @@ impl<const N: usize> Layers<N> {
 }
 
 fn insert_if(set: &mut NumberSet, number: usize, test: bool)
-    requires { number < MAX_OBJECTS }
+    requires { number < MOST_OBJECTS }
     ensures { (other : ℕ) → member set.new other ≡ ((test && nat_eq other number) || member set.old other) }
 {
     if test {
@@ -138,7 +138,7 @@ fn insert_if(set: &mut NumberSet, number: usize, test: bool)
 
 /// The objects of a layer.
 fn layer_set(layers: &[usize], layer: usize) -> NumberSet
-    requires { length layers.now ≤ MAX_OBJECTS }
+    requires { length layers.now ≤ MOST_OBJECTS }
     ensures { IsSetOf layers.now result layer }
 {
     let mut set = NumberSet::empty();
@@ -150,7 +150,7 @@ fn layer_set(layers: &[usize], layer: usize) -> NumberSet
 
 /// The objects of each layer. Err: memory was refused.
 fn layer_sets(alloc: Global, depth: usize, layers: &[usize]) -> Result<Vec<NumberSet>, AllocError>
-    requires { length layers.now ≤ MAX_OBJECTS }
+    requires { length layers.now ≤ MOST_OBJECTS }
     ensures deep { IfOk result (λ sets. length sets.items ≡ depth) }
     ensures table { IfOk result (λ sets. (layer : ℕ) (other : List ℕ) → layer < length sets.items → IsSetOf layers.now (slice_index_or sets.items layer other) layer) }
 {

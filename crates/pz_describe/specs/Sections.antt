@@ -10,7 +10,7 @@ use Rattle.pz_game.specs.declared.denotation.Denotation.{Denotation}
 use Rattle.pz_game.specs.declared.denotation.Kind.{Kind}
 use Rattle.pz_game.specs.declared.denotation.Kind.TheVariants.{Object, Property, Aggregate}
 use Rattle.pz_game.specs.declared.game.GameParts.{GameParts}
-use Rattle.pz_game.specs.declared.limits.TheConstants.{MAX_OBJECTS}
+use Rattle.pz_game.specs.declared.limits.TheConstants.{MOST_OBJECTS}
 use Rattle.pz_names.specs.Legend.{definition_of, sides}
 use Rattle.pz_names.specs.Objects.{is_blank, paragraph_at, paragraphs_of, sprite_rows}
 use Rattle.pz_names.specs.declared.legend.Definition.{Definition}
@@ -101,7 +101,7 @@ paragraph_tokens read lines entry = object_tokens read entry.0 (lines_from (para
 
 -- the objects, at most as many as a game may have
 abbrev pub objects_array : Reading → List Line → List Token
-objects_array read lines = array (flat_map (paragraph_tokens read lines) (enumerate_from 0 (take MAX_OBJECTS (paragraphs_of lines))))
+objects_array read lines = array (flat_map (paragraph_tokens read lines) (enumerate_from 0 (take MOST_OBJECTS (paragraphs_of lines))))
 
 abbrev pub kind_name : Kind → List ℕ
 kind_name Object = codes "object"

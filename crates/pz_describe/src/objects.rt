@@ -9,7 +9,7 @@ ghost use Rattle.pz_describe.specs.Values.{text, texts_array};
 
 use crate::page::Page;
 use crate::reading::Reading;
-use pz_game::limits::MAX_OBJECTS;
+use pz_game::limits::MOST_OBJECTS;
 use pz_names::objects::{Paragraph, is_blank, paragraphs_of, sprite_rows};
 use pz_text::line::Line;
 use pz_text::words::words;
@@ -207,7 +207,7 @@ pub(crate) fn put_objects(
         page,
         reading,
         lines,
-        first_of(&paragraphs, MAX_OBJECTS),
+        first_of(&paragraphs, MOST_OBJECTS),
     )?;
     page.end_array()
 }

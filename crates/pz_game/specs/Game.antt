@@ -6,7 +6,7 @@ use Rattle.pz_game.specs.Word.{IsWord}
 use Rattle.pz_game.specs.Denotation.{IsDenoted}
 use Rattle.pz_game.specs.declared.denotation.Denotation.{Denotation}
 use Rattle.pz_game.specs.declared.game.GameParts.{GameParts}
-use Rattle.pz_game.specs.declared.limits.TheConstants.{MAX_OBJECTS, MAX_LAYERS}
+use Rattle.pz_game.specs.declared.limits.TheConstants.{MOST_OBJECTS, MOST_LAYERS}
 use Rattle.pz_game.specs.declared.level.LevelEntry.{LevelEntry}
 use Rattle.pz_game.specs.declared.level.LevelEntry.TheVariants.{Message, Level}
 
@@ -37,8 +37,8 @@ IsDrawnBy names (Level drawing) = All (λ number. number < names) drawing.cells
 
 -- what holds of every game
 pub record IsGame (game : GameParts) : Type 0 where
-  pub few : length game.objects ≤ MAX_OBJECTS
-  pub shallow : game.depth ≤ MAX_LAYERS
+  pub few : length game.objects ≤ MOST_OBJECTS
+  pub shallow : game.depth ≤ MOST_LAYERS
   pub laid : length game.layers ≡ length game.objects
   pub layered : All (λ layer. layer < game.depth) game.layers
   pub denoted : length game.values ≡ length game.names

@@ -2,7 +2,7 @@
 -- and on which layers, whose movement ends, and what begins to move.
 use Rattle.std.specs.Prelude.{◌≡◌, ◌<◌, ℕ, List, Bool, true, false, not, ◌&&◌, ◌||◌, Option, Some, None, nat_eq, is_some, if◌then◌else◌}
 use Rattle.std.specs.List.{list_any}
-use Rattle.pz_game.specs.declared.limits.TheConstants.{MAX_LAYERS}
+use Rattle.pz_game.specs.declared.limits.TheConstants.{MOST_LAYERS}
 use Rattle.pz_sets.specs.Sets.{member}
 use Rattle.pz_sets.specs.declared.set.TheConstants.{CAPACITY}
 use Rattle.pz_game.specs.declared.direction.Dir.{Dir}
@@ -46,7 +46,7 @@ is_first item masks = names item.word && not (member masks.layers item.layer)
 
 -- an item's object and layer are within the limits of games
 abbrev pub IsLow : Item → Type 0
-IsLow item = (item.object < CAPACITY) × (item.layer < MAX_LAYERS)
+IsLow item = (item.object < CAPACITY) × (item.layer < MOST_LAYERS)
 
 -- what one more item adds to the masks
 pub record IsAdded (item : Item) (old new : Masks) : Type 0 where

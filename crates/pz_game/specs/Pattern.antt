@@ -7,7 +7,7 @@ use Rattle.pz_game.specs.Headings.{heads, IsProper}
 use Rattle.pz_game.specs.Items.{names_object}
 use Rattle.pz_game.specs.Masks.{asks_toward}
 use Rattle.pz_game.specs.declared.pattern.Item.{Item}
-use Rattle.pz_game.specs.declared.limits.TheConstants.{MAX_ROW_CELLS}
+use Rattle.pz_game.specs.declared.limits.TheConstants.{MOST_ROW_CELLS}
 
 -- a row of a rule: its cells as items, and the number of the cell before which a gap stands
 pub record RuleRow : Type 0 where
@@ -17,7 +17,7 @@ pub record RuleRow : Type 0 where
 -- the law of a row: it has at least one cell and no more than a row may have, and its gap stands between two cells
 pub record HasShape (count : ℕ) (gap_at : Option ℕ) : Type 0 where
   pub some : 0 < count
-  pub short : count ≤ MAX_ROW_CELLS
+  pub short : count ≤ MOST_ROW_CELLS
   pub between : IfSome gap_at (λ at. (0 < at) × (at < count))
 
 abbrev pub IsRow : RuleRow → Type 0

@@ -1,7 +1,7 @@
 //! Where the objects of layers head, as sets of numbers: five for each layer, those of 25 layers in a word.
 
 ghost use Rattle.std.specs.Prelude.{◌≡◌, ℕ, ◌+◌, ◌/◌, ◌%◌, ◌<◌, not, ◌&&◌, ◌||◌, nat_eq, length};
-ghost use Rattle.pz_game.specs.declared.limits.TheConstants.{MAX_LAYERS};
+ghost use Rattle.pz_game.specs.declared.limits.TheConstants.{MOST_LAYERS};
 ghost use Rattle.pz_sets.specs.declared.set.TheConstants.{CAPACITY};
 ghost use Rattle.pz_game.specs.declared.direction.Dir.{Dir};
 ghost use Rattle.pz_game.specs.Direction.{same_dir};
@@ -25,7 +25,7 @@ fn bit(dir: Dir) -> usize
 
 /// The number of a layer's direction in the words.
 pub fn flag(layer: usize, dir: Dir) -> usize
-    requires { layer < MAX_LAYERS }
+    requires { layer < MOST_LAYERS }
     ensures number { result ≡ flag layer dir }
     ensures word { result / 128 ≡ layer / 25 }
     ensures field { result % 128 < 125 }
@@ -36,7 +36,7 @@ pub fn flag(layer: usize, dir: Dir) -> usize
 
 /// Whether the layer heads in the direction.
 pub fn heads(set: &[u128], layer: usize, dir: Dir) -> bool
-    requires { layer < MAX_LAYERS }
+    requires { layer < MOST_LAYERS }
     ensures { result ≡ heads set.now layer dir }
 {
     words::contains(set, flag(layer, dir))
@@ -44,7 +44,7 @@ pub fn heads(set: &[u128], layer: usize, dir: Dir) -> bool
 
 /// Where the layer heads: the first of its directions.
 pub fn heading(set: &[u128], layer: usize) -> Option<Dir>
-    requires { layer < MAX_LAYERS }
+    requires { layer < MOST_LAYERS }
     ensures { result ≡ heading_in set.now layer }
 {
     if heads(set, layer, Dir::Up) {
@@ -64,7 +64,7 @@ pub fn heading(set: &[u128], layer: usize) -> Option<Dir>
 
 /// Lets a layer head in a direction.
 pub fn set(set: &mut [u128], layer: usize, dir: Dir)
-    requires low { layer < MAX_LAYERS }
+    requires low { layer < MOST_LAYERS }
     requires within { layer / 25 < length set.old }
     ensures heads { (other : ℕ) (way : Dir) → heads set.new other way ≡ ((nat_eq other layer && same_dir dir way) || heads set.old other way) }
     ensures proper { IsProper set.old → IsProper set.new }
@@ -74,7 +74,7 @@ pub fn set(set: &mut [u128], layer: usize, dir: Dir)
 
 /// Takes a direction from a layer.
 fn unset(set: &mut [u128], layer: usize, dir: Dir)
-    requires { layer < MAX_LAYERS }
+    requires { layer < MOST_LAYERS }
     ensures heads { (other : ℕ) (way : Dir) → heads set.new other way ≡ (not (nat_eq other layer && same_dir dir way) && heads set.old other way) }
     ensures proper { IsProper set.old → IsProper set.new }
 {
@@ -83,7 +83,7 @@ fn unset(set: &mut [u128], layer: usize, dir: Dir)
 
 /// Ends the movement of a layer.
 pub fn clear(set: &mut [u128], layer: usize)
-    requires { layer < MAX_LAYERS }
+    requires { layer < MOST_LAYERS }
     ensures heads { (other : ℕ) (way : Dir) → heads set.new other way ≡ (not (nat_eq other layer) && heads set.old other way) }
     ensures proper { IsProper set.old → IsProper set.new }
 {

@@ -11,7 +11,7 @@ ghost use Rattle.pz_game.specs.Masks.{is_still, toward, IsLow, IsAdded, AreMasks
 
 use crate::direction::Dir;
 use crate::headings::flag;
-use crate::limits::MAX_LAYERS;
+use crate::limits::MOST_LAYERS;
 use crate::pattern::{Item, Word};
 use pz_sets::set::{CAPACITY, NumberSet};
 
@@ -84,7 +84,7 @@ fn insert_if(set: &mut NumberSet, test: bool, number: usize)
 
 /// Adds a direction of a layer.
 fn add(set: &mut NumberSet, layer: usize, dir: Dir)
-    requires { layer < MAX_LAYERS }
+    requires { layer < MOST_LAYERS }
     ensures heads { (other : ℕ) (way : Dir) → heads set.new other way ≡ ((nat_eq other layer && same_dir dir way) || heads set.old other way) }
     ensures proper { IsProper set.old → IsProper set.new }
 {
@@ -93,7 +93,7 @@ fn add(set: &mut NumberSet, layer: usize, dir: Dir)
 
 /// Adds all directions of a layer.
 fn fill(set: &mut NumberSet, layer: usize)
-    requires { layer < MAX_LAYERS }
+    requires { layer < MOST_LAYERS }
     ensures heads { (other : ℕ) (way : Dir) → heads set.new other way ≡ (nat_eq other layer || heads set.old other way) }
     ensures proper { IsProper set.old → IsProper set.new }
 {
@@ -106,7 +106,7 @@ fn fill(set: &mut NumberSet, layer: usize)
 
 /// Adds all directions of a layer, if a test holds.
 fn fill_if(set: &mut NumberSet, test: bool, layer: usize)
-    requires { layer < MAX_LAYERS }
+    requires { layer < MOST_LAYERS }
     ensures heads { (other : ℕ) (way : Dir) → heads set.new other way ≡ ((test && nat_eq other layer) || heads set.old other way) }
     ensures proper { IsProper set.old → IsProper set.new }
 {
@@ -117,7 +117,7 @@ fn fill_if(set: &mut NumberSet, test: bool, layer: usize)
 
 /// Adds a direction of a layer, if there is one.
 fn add_if(set: &mut NumberSet, layer: usize, heading: Option<Dir>)
-    requires { layer < MAX_LAYERS }
+    requires { layer < MOST_LAYERS }
     ensures heads { (other : ℕ) (way : Dir) → heads set.new other way ≡ ((nat_eq other layer && is_toward heading way) || heads set.old other way) }
     ensures proper { IsProper set.old → IsProper set.new }
 {
@@ -156,7 +156,7 @@ impl Masks {
     /// Adds what one more item says.
     fn add(&mut self, item: Item)
         requires object { item.object < CAPACITY }
-        requires layer { item.layer < MAX_LAYERS }
+        requires layer { item.layer < MOST_LAYERS }
         ensures { IsAdded item self.old self.new }
     {
         let named = names(item.word);
@@ -178,7 +178,7 @@ impl Masks {
     fn add_low(&mut self, item: Item)
         ensures { IsLow item → IsAdded item self.old self.new }
     {
-        if item.object < CAPACITY && item.layer < MAX_LAYERS {
+        if item.object < CAPACITY && item.layer < MOST_LAYERS {
             self.add(item);
         }
     }

@@ -7,7 +7,7 @@ pub use Rattle.pz_game.specs.Items.{names, names_object, placed_on}
 pub use Rattle.pz_game.specs.Pattern.{AreNamed, IsRow, RuleRow}
 pub use Rattle.pz_game.specs.declared.direction.Dir.{Dir}
 pub use Rattle.pz_game.specs.declared.direction.Dir.TheVariants.{Action, Down, Left, Right, Up}
-pub use Rattle.pz_game.specs.declared.limits.TheConstants.{MAX_SIDE}
+pub use Rattle.pz_game.specs.declared.limits.TheConstants.{MOST_SIDE}
 pub use Rattle.pz_game.specs.declared.pattern.Item.{Item}
 pub use Rattle.pz_grid.proofs.GatherLemmas.{fold_gather_more, fold_map_more, gather, gather_few, gather_none, gather_skip, gather_step, gather_too_long, steps_stay}
 pub use Rattle.pz_grid.proofs.MovementLemmas.{moves_on, same_size_on, widened_on}

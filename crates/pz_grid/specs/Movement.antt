@@ -3,7 +3,7 @@
 -- moves nothing; then all is still. The action moves nothing.
 use Rattle.std.specs.Prelude.{◌≡◌, ◌<◌, ◌≤◌, ℕ, zero, suc, ◌+◌, ◌-◌, List, map, fold, Bool, true, false, Option, Some, None, nat_lt, if◌then◌else◌}
 use Rattle.std.specs.List.{flat_map, range_with_len, sum_by}
-use Rattle.pz_game.specs.declared.limits.TheConstants.{MAX_LAYERS}
+use Rattle.pz_game.specs.declared.limits.TheConstants.{MOST_LAYERS}
 use Rattle.pz_game.specs.declared.direction.Dir.{Dir}
 use Rattle.pz_game.specs.declared.direction.Dir.TheVariants.{Up, Down, Left, Right, Action}
 use Rattle.pz_cells.specs.declared.piece.Piece.{Piece}
@@ -80,7 +80,7 @@ pub record Leaves (grid : Grid) (x y : ℕ) (mover : Mover) (goal : ℕ × ℕ) 
   pub goes : heading_goal grid (spot x y mover.layer) (Some mover.dir) ≡ Some goal
   pub on_map : IsOnMap grid goal.0 goal.1
   pub layer_in : mover.layer < grid.depth
-  pub shallow : mover.layer < MAX_LAYERS
+  pub shallow : mover.layer < MOST_LAYERS
   pub low : mover.object < CAPACITY
 
 -- the first piece that leaves a position, on a layer from one on, and where it goes, if there is one

@@ -2,7 +2,7 @@
 
 ghost use Rattle.std.specs.List.{list_all, enumerate_from};
 ghost use Rattle.std.specs.Prelude.{◌≡◌, ◌≢◌, take, true, ◌+◌, ◌*◌, ◌<◌, ◌≤◌, cond, [], ◌∷◌, ◌++◌, ◌^◌, filter, length, OnOk, IfOk, IfErr, IfSome, MatchOption, Ok, Err};
-ghost use Rattle.pz_game.specs.declared.limits.TheConstants.{MAX_SIDE};
+ghost use Rattle.pz_game.specs.declared.limits.TheConstants.{MOST_SIDE};
 ghost use Rattle.pz_game.specs.Pattern.{AreOf, IsRowOf, AreRowsOf};
 ghost use Rattle.pz_grid.specs.Admitted.{admitted, searches_line, starts_in, start_count};
 ghost use Rattle.pz_grid.specs.Places.{on_map, along, position_of, distance, cell_holds, row_holds, line_count, line_length, place_in, holds_behind, pairs_at, head_of, pairs_in, places, searched, starts_with, still_holds, still_matches};
@@ -167,7 +167,7 @@ fn holds_in<const N: usize>(sheet: &Sheet<N>, row: &Row, dir: Dir, place: Place)
 
 fn line_length<const N: usize>(sheet: &Sheet<N>, dir: Dir) -> u32
     ensures value { result ≡ line_length sheet.now.grid dir }
-    ensures small { result ≤ MAX_SIDE }
+    ensures small { result ≤ MOST_SIDE }
 {
     match dir {
         Dir::Up | Dir::Down => sheet.height(),
@@ -287,7 +287,7 @@ fn next_gap<const N: usize>(
     requires on_map { IsOnMap sheet.now.grid from.x from.y }
     requires of_game { AreOf sheet.now.grid.layers behind.now }
     ensures next { IsNext (holds_behind sheet.now.grid dir from.x from.y behind.now at) from.gap (line_length sheet.now.grid dir) result }
-    ensures short { IfSome result (λ gap. gap < MAX_SIDE) }
+    ensures short { IfSome result (λ gap. gap < MOST_SIDE) }
 {
     let steps = at as usize + from.gap as usize;
     if steps >= line_length(sheet, dir) as usize {

@@ -8,7 +8,7 @@ use Rattle.pz_text.specs.declared.line.Line.{Line}
 use Rattle.pz_base.specs.declared.fault.Code.{Code}
 use Rattle.pz_base.specs.declared.fault.Code.TheVariants as code
 use Rattle.pz_names.specs.Objects.{is_blank}
-use Rattle.pz_names.specs.declared.objects.TheConstants.{MAX_NAMES}
+use Rattle.pz_names.specs.declared.objects.TheConstants.{MOST_NAMES}
 use Rattle.pz_names.specs.declared.legend.Said.{Said}
 use Rattle.pz_names.specs.declared.legend.Said.TheVariants.{Same, AllOf, AnyOf}
 use Rattle.pz_names.specs.declared.legend.Definition.{Definition}
@@ -64,7 +64,7 @@ names_in (AnyOf parts) = parts
 
 -- there are 1,024 names already, and no more are allowed
 abbrev pub is_full : List (List ℕ) → Bool
-is_full names = nat_le MAX_NAMES (length names)
+is_full names = nat_le MOST_NAMES (length names)
 
 -- the fault of a line that is no definition, defines a name that is there already, or defines one name too many
 abbrev pub misnames_by : List (List ℕ) → Option Definition → Option Code

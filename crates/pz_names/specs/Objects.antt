@@ -12,8 +12,8 @@ use Rattle.pz_base.specs.declared.fault.SourceFault.{SourceFault}
 use Rattle.pz_game.specs.Word.{IsWord}
 use Rattle.pz_names.specs.declared.name_line.NameLine.{NameLine}
 use Rattle.pz_names.specs.declared.objects.Paragraph.{Paragraph}
-use Rattle.pz_game.specs.declared.limits.TheConstants.{MAX_OBJECTS}
-use Rattle.pz_names.specs.declared.objects.TheConstants.{MAX_NAMES}
+use Rattle.pz_game.specs.declared.limits.TheConstants.{MOST_OBJECTS}
+use Rattle.pz_names.specs.declared.objects.TheConstants.{MOST_NAMES}
 
 -- the names that OBJECTS gives, in the order of first mention
 abbrev pub object_names : List NameLine → List (List ℕ)
@@ -86,7 +86,7 @@ abbrev pub misnamed : List (List ℕ) → ℕ → Paragraph → Option Code
 misnamed above count paragraph =
     if not paragraph.is_whole then Some code.BadObject
     else (if has_repeat above paragraph.line.names then Some code.Duplicate
-    else (if nat_le MAX_OBJECTS count || nat_lt MAX_NAMES (length (above ++ paragraph.line.names)) then Some code.TooLarge
+    else (if nat_le MOST_OBJECTS count || nat_lt MOST_NAMES (length (above ++ paragraph.line.names)) then Some code.TooLarge
     else None))
 
 abbrev pub misnames : List Paragraph → Paragraph → Option Code

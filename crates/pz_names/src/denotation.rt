@@ -8,7 +8,7 @@ ghost use Rattle.pz_names.specs.Denotation.{AreMarked, with_mention, with_mentio
 use crate::meaning::Meaning;
 use pz_base::listed::Listed;
 use pz_game::denotation::{Denotation, Kind};
-use pz_game::limits::MAX_OBJECTS;
+use pz_game::limits::MOST_OBJECTS;
 use std::alloc::{AllocError, Global};
 
 /// Whether a number is mentioned. Numbers below the count of the marks are looked up there.
@@ -103,7 +103,7 @@ fn gathered(
 ) -> Result<Option<Listed<usize>>, AllocError>
     ensures { IfOk result (λ r. r ≡ gathered (known_at known.now) [] parts.now) }
 {
-    let mut marks = no_marks(alloc, MAX_OBJECTS)?;
+    let mut marks = no_marks(alloc, MOST_OBJECTS)?;
     let mut mentions = Vec::new(alloc);
     if gather(&mut mentions, marks.as_mut_slice(), parts, known)? {
         Ok(Some(Listed::new(mentions)))

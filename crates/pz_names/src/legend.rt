@@ -8,7 +8,7 @@ ghost use Rattle.pz_base.specs.declared.fault.Code.TheVariants as code;
 ghost use Rattle.pz_names.specs.Objects.{is_blank};
 ghost use Rattle.pz_names.specs.Legend.{sides, joined, said_by, defined_by, definition_of, definitions_of, line_number, line_at, misnames, misnames_by, speaks_of_unknown, names_in};
 
-use crate::objects::{MAX_NAMES, is_blank};
+use crate::objects::{MOST_NAMES, is_blank};
 use pz_base::fault::{Code, SourceFault};
 use pz_base::listed::Listed;
 use pz_base::name::Name;
@@ -158,7 +158,7 @@ fn note_name(
             line: number,
         });
     }
-    if names.len() >= MAX_NAMES {
+    if names.len() >= MOST_NAMES {
         return Err(SourceFault {
             code: Code::TooLarge,
             line: number,

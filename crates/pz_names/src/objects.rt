@@ -11,17 +11,17 @@ use pz_base::fault::{Code, SourceFault};
 use pz_base::listed::Listed;
 use pz_base::name::Name;
 use pz_base::name_set::NameSet;
-use pz_game::limits::MAX_OBJECTS;
+use pz_game::limits::MOST_OBJECTS;
 use pz_text::line::Line;
 use pz_text::words::names_of;
 use std::alloc::{AllocError, Global};
 
 /// The most names that a source may have, all names of OBJECTS and LEGEND together. Rule `limits.names`.
-pub const MAX_NAMES: usize = 1024;
+pub const MOST_NAMES: usize = 1024;
 
 /// Promises the limit as a number, so that changing the constant alone breaks a proof.
 pub fn names_are_limited()
-    ensures { MAX_NAMES ≡ 1024 }
+    ensures { MOST_NAMES ≡ 1024 }
 {}
 
 /// The lines of an object: its name line, and whether its colours and its sprite have the right form.
@@ -177,7 +177,7 @@ fn misnamed(
     if note_names(alloc, above, paragraph.line.names.items())? {
         return Ok(Some(Code::Duplicate));
     }
-    if count >= MAX_OBJECTS || above.len() > MAX_NAMES {
+    if count >= MOST_OBJECTS || above.len() > MOST_NAMES {
         return Ok(Some(Code::TooLarge));
     }
     Ok(None)
@@ -254,7 +254,7 @@ fn name_lines(alloc: Global, paragraphs: Vec<Paragraph>) -> Result<Vec<NameLine>
 pub fn read_objects(alloc: Global, lines: &[Line]) -> Result<(Vec<NameLine>, NameSet), SourceFault>
     ensures read { IfOk result (λ r. objects_of lines.now ≡ Ok r.0.items) }
     ensures names { IfOk result (λ r. r.1 ≡ object_names r.0.items) }
-    ensures few { IfOk result (λ r. length r.0.items ≤ MAX_OBJECTS) }
+    ensures few { IfOk result (λ r. length r.0.items ≤ MOST_OBJECTS) }
     ensures named { IfOk result (λ r. All IsNamed r.0.items) }
     ensures refused { IfErr result (λ fault. fault.code ≢ code.Memory → objects_of lines.now ≡ Err fault) }
     ensures whole { IfErr result (λ fault. fault.code ≡ code.Memory → fault.line ≡ 0) }

@@ -4,7 +4,7 @@ use Rattle.std.specs.List.{list_any, list_all, flat_map, position_or_len, count_
 use Rattle.std.proofs.lemmas.Bool.{and_parts, or_parts, ltb-true, ltb-false, false≢true}
 use Rattle.std.proofs.lemmas.List.Elements.{All-nil, All-cons, All-head, All-tail}
 use Rattle.std.proofs.lemmas.List.Sums.{length-filter}
-use Rattle.pz_game.specs.declared.limits.TheConstants.{MAX_ROW_CELLS}
+use Rattle.pz_game.specs.declared.limits.TheConstants.{MOST_ROW_CELLS}
 use Rattle.pz_game.specs.Pattern.{HasShape}
 use Rattle.pz_game.specs.declared.denotation.Denotation.{Denotation}
 use Rattle.pz_plan.specs.declared.fault.RuleFault.{RuleFault}
@@ -67,7 +67,7 @@ shaped-row s t (cell.Items ps ∷ row) some few short loose =
     let p = position_or_len is_gap all in
     let last : has_gap_at all (length row) ≡ false = subst (λ k. has_gap_at all k ≡ false) (omega arith) (or_parts (has_gap_at all 0) (has_gap_at all (length all - 1)) loose).1 in
     let one : gaps all ≤ 1 = omega (arith, ltb-false 1 (count_by is_gap all) few, length-filter is_gap all) in
-    let small : n ≤ MAX_ROW_CELLS = omega (arith, ltb-false MAX_ROW_CELLS (length all) short, cells-few s t all) in
+    let small : n ≤ MOST_ROW_CELLS = omega (arith, ltb-false MOST_ROW_CELLS (length all) short, cells-few s t all) in
     let by : (b : Bool) → nat_lt p (length all) ≡ b → HasShape n (cond b (Some p) None) = λ b. elim b as (λ b. nat_lt p (length all) ≡ b → HasShape n (cond b (Some p) None)) [
       | true ↦ λ e.
           let before : p < n = gap-before_end s t all (length row) (omega arith) one last (ltb-true p (length all) e) in
@@ -164,10 +164,10 @@ well-written t late rule e =
 
 short-rows : (rows : List (List Cell)) → list_any is_long rows ≡ false → AreShort rows
 unfolding is_long
-short-rows [] h = All-nil (λ row. length row ≤ MAX_ROW_CELLS)
+short-rows [] h = All-nil (λ row. length row ≤ MOST_ROW_CELLS)
 short-rows (row ∷ rows) h =
     let p = or_parts (is_long row) (list_any is_long rows) h in
-    All-cons (λ row. length row ≤ MAX_ROW_CELLS) row rows (ltb-false MAX_ROW_CELLS (length row) p.0) (short-rows rows p.1)
+    All-cons (λ row. length row ≤ MOST_ROW_CELLS) row rows (ltb-false MOST_ROW_CELLS (length row) p.0) (short-rows rows p.1)
 
 -- the rows of a rule without a fault are short
 pub short-sides : (t : List Denotation) (late : Bool) (rule : Rule) → fault_of t late rule ≡ None → AreShort rule.left × AreShort rule.right

@@ -5,7 +5,7 @@ use Rattle.std.specs.Option.{option_map_or}
 use Rattle.pz_game.specs.declared.denotation.Denotation.{Denotation}
 use Rattle.pz_game.specs.declared.denotation.Kind.{Kind}
 use Rattle.pz_game.specs.declared.denotation.Kind.TheVariants as kind
-use Rattle.pz_game.specs.declared.limits.TheConstants.{MAX_ROW_CELLS, MAX_ROWS}
+use Rattle.pz_game.specs.declared.limits.TheConstants.{MOST_ROW_CELLS, MOST_ROWS}
 use Rattle.pz_grammar.specs.declared.rule.Phrase.{Phrase}
 use Rattle.pz_grammar.specs.declared.rule.Cell.{Cell}
 use Rattle.pz_grammar.specs.declared.rule.Cell.TheVariants as cell
@@ -22,11 +22,11 @@ has_more_gaps row = nat_lt 1 (count_by is_gap row)
 
 -- a row of more cells than a row may have
 unfoldable pub is_long : List Cell → Bool
-is_long row = nat_lt MAX_ROW_CELLS (length row)
+is_long row = nat_lt MOST_ROW_CELLS (length row)
 
 -- checks.too-large: a side of more rows, or longer ones, than a side may have
 unfoldable pub is_large : List (List Cell) → Bool
-is_large rows = nat_lt MAX_ROWS (length rows) || list_any is_long rows
+is_large rows = nat_lt MOST_ROWS (length rows) || list_any is_long rows
 
 -- a name that nothing has
 unfoldable pub is_unknown : List Denotation → Phrase → Bool

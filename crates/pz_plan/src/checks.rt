@@ -9,7 +9,7 @@ use crate::fault::RuleFault;
 use crate::spelling::{denoted, gap_of, is_gap};
 use pz_base::listed::Listed;
 use pz_game::denotation::{Denotation, Kind};
-use pz_game::limits::{MAX_ROW_CELLS, MAX_ROWS};
+use pz_game::limits::{MOST_ROW_CELLS, MOST_ROWS};
 use pz_grammar::rule::{Cell, Phrase, Rule};
 use pz_grammar::token::Lead;
 
@@ -22,7 +22,7 @@ fn has_more_gaps(row: &[Cell]) -> bool
 fn is_long(row: &[Cell]) -> bool
     ensures { result ≡ is_long row.now }
 {
-    row.len() > MAX_ROW_CELLS
+    row.len() > MOST_ROW_CELLS
 }
 
 fn has_long(rows: &[Listed<Cell>]) -> bool
@@ -35,7 +35,7 @@ fn has_long(rows: &[Listed<Cell>]) -> bool
 fn is_large(rows: &[Listed<Cell>]) -> bool
     ensures { result ≡ is_large rows.now }
 {
-    rows.len() > MAX_ROWS || has_long(rows)
+    rows.len() > MOST_ROWS || has_long(rows)
 }
 
 fn has_many_gaps(rows: &[Listed<Cell>]) -> bool

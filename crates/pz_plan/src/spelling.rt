@@ -11,7 +11,7 @@ ghost use Rattle.pz_plan.specs.Spelling.{is_chosen, mentions_of, mentions_at, de
 use crate::plan::{Mention, PlanRow, Subject};
 use pz_base::listed::Listed;
 use pz_game::denotation::{Denotation, Kind};
-use pz_game::limits::MAX_ROW_CELLS;
+use pz_game::limits::MOST_ROW_CELLS;
 use pz_grammar::rule::{Cell, Phrase};
 use pz_grammar::token::{Class, Lead};
 use std::alloc::{AllocError, Global};
@@ -233,7 +233,7 @@ pub fn gap_of(row: &[Cell]) -> Option<usize>
 
 /// The same for a row that isn't too long.
 fn gap_at(row: &[Cell]) -> Option<u32>
-    requires { length row.now ≤ MAX_ROW_CELLS }
+    requires { length row.now ≤ MOST_ROW_CELLS }
     ensures { result ≡ gap_of row.now }
 {
     match gap_of(row) {
@@ -248,7 +248,7 @@ fn row_spelled_out(
     table: &[Denotation],
     row: &[Cell],
 ) -> Result<PlanRow<Mention>, AllocError>
-    requires { length row.now ≤ MAX_ROW_CELLS }
+    requires { length row.now ≤ MOST_ROW_CELLS }
     ensures { IfOk result (λ out. out ≡ row_spelled_out side table.now row.now) }
 {
     Ok(PlanRow {

@@ -2,7 +2,7 @@
 -- and no others.
 use Rattle.std.specs.Prelude.{◌≡◌, ◌≢◌, ◌↔◌, ℕ, ◌+◌, ◌*◌, ◌/◌, ◌%◌, ◌<◌, ◌≤◌, List, Bool, true, false, not, Option, Some, None, length, slice_index_or, All}
 use Rattle.pz_sets.specs.Sets.{in_word, member}
-use Rattle.pz_game.specs.declared.limits.TheConstants.{MAX_OBJECTS, MAX_SIDE}
+use Rattle.pz_game.specs.declared.limits.TheConstants.{MOST_OBJECTS, MOST_SIDE}
 use Rattle.pz_game.specs.declared.pattern.Item.{Item}
 use Rattle.pz_game.specs.Items.{names}
 use Rattle.pz_planes.specs.declared.line.Axis.{Axis}
@@ -29,8 +29,8 @@ lines_of planes Vertical = planes.columns
 
 -- there is a word for each object and each line
 pub record HasLines (objects count : ℕ) (words : List ℕ) : Type 0 where
-  pub few : objects ≤ MAX_OBJECTS
-  pub short : count ≤ MAX_SIDE
+  pub few : objects ≤ MOST_OBJECTS
+  pub short : count ≤ MOST_SIDE
   pub covers : length words ≡ objects * count
 
 -- an object is noted at a position of a line

@@ -2,7 +2,7 @@
 //! rows are counted from 0. A position of a row is a column, and a position of a column is a row.
 
 ghost use Rattle.std.specs.Prelude.{◌≡◌, ℕ, ◌+◌, ◌*◌, ◌/◌, ◌%◌, ◌<◌, ◌≤◌, ◌↔◌, ◌&&◌, ◌||◌, [], true, false, not, nat_eq, All, length, slice_index, slice_index_or, IfOk};
-ghost use Rattle.pz_game.specs.declared.limits.TheConstants.{MAX_OBJECTS, MAX_SIDE};
+ghost use Rattle.pz_game.specs.declared.limits.TheConstants.{MOST_OBJECTS, MOST_SIDE};
 ghost use Rattle.pz_game.specs.Items.{names};
 ghost use Rattle.pz_sets.specs.Sets.{in_word, member};
 ghost use Rattle.pz_sets.specs.declared.set.TheConstants.{CAPACITY};
@@ -70,8 +70,8 @@ impl Model for Planes {
 impl LinePlanes {
     /// Planes of this many objects and lines, with nothing noted. Err: memory was refused.
     fn empty(alloc: Global, objects: usize, count: usize) -> Result<LinePlanes, AllocError>
-        requires few { objects ≤ MAX_OBJECTS }
-        requires short { count ≤ MAX_SIDE }
+        requires few { objects ≤ MOST_OBJECTS }
+        requires short { count ≤ MOST_SIDE }
         ensures objects { IfOk result (λ planes. planes.objects ≡ objects) }
         ensures count { IfOk result (λ planes. planes.count ≡ count) }
         ensures none { IfOk result IsEmpty }
@@ -299,9 +299,9 @@ impl Planes {
         width: usize,
         height: usize,
     ) -> Result<Planes, AllocError>
-        requires few { objects ≤ MAX_OBJECTS }
-        requires narrow { width ≤ MAX_SIDE }
-        requires low { height ≤ MAX_SIDE }
+        requires few { objects ≤ MOST_OBJECTS }
+        requires narrow { width ≤ MOST_SIDE }
+        requires low { height ≤ MOST_SIDE }
         ensures size { IfOk result (λ planes. IsFor objects width height planes) }
         ensures rows { IfOk result (λ planes. IsEmpty planes.rows) }
         ensures columns { IfOk result (λ planes. IsEmpty planes.columns) }

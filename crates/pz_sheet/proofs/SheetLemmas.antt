@@ -1,7 +1,7 @@
 -- A cell of a level in words, and what is seen of it.
 use Rattle.pz_sheet.proofs.Common.{IsLayering, Layering, ◌≡◌, ℕ, ◌+◌, ◌*◌, ◌<◌, ◌≤◌, List, [], Option, Some, None, Bool, true, false, not, set, length, get_or, ap, sym, ◌∙◌, refl, subst, arith, get_or-set_same, get_or-set_other, IfSome, MatchOption, lt-ltb, mul-add-lt, cases_eq, length-map, length-set, get_or-map, get_or_default, set-get_or, length-map-range_with_len, Dir, Cell, Piece, same_cell, same_cell_is, Item, IsCell, IsOnLayer, standing, place_of, on_its_layer, standing_by, Grid, BareState, IsLawful, cell_at, place_at, with_place, HeadingSets, IsWider, seen, IsSound, grid_of, IsNoted, IsStored}
 use Rattle.std.proofs.lemmas.List.Elements.{All-map, All-set}
-use Rattle.pz_game.specs.declared.limits.TheConstants.{MAX_LAYERS, MAX_OBJECTS}
+use Rattle.pz_game.specs.declared.limits.TheConstants.{MOST_LAYERS, MOST_OBJECTS}
 use Rattle.pz_cells.specs.declared.piece.Mover.{Mover}
 use Rattle.pz_cells.specs.Cell.{IsNextMover}
 use Rattle.pz_cells.specs.Rewriting.{rewritten_cell}
@@ -49,10 +49,10 @@ lawful_seen N width height layering cells headings s = record {
 pub lawful_here : (N width height : ℕ) (layering : Layering) (cells : List (Cell N)) (notes : HeadingSets) (level : BareState) → IsStored N width height layering cells notes → record { grid = grid_of width height layering cells } ≡ level → IsLawful level.grid
 lawful_here N width height layering cells notes level s is = subst IsLawful (ap (λ (l : BareState). l.grid) is) (lawful_seen N width height layering cells notes s)
 
-pub low_place : (layers : List ℕ) (layer : ℕ) (place : Option Piece) → length layers ≤ MAX_OBJECTS → IsOnLayer layers layer place → IfSome place (λ piece. piece.object < MAX_OBJECTS)
+pub low_place : (layers : List ℕ) (layer : ℕ) (place : Option Piece) → length layers ≤ MOST_OBJECTS → IsOnLayer layers layer place → IfSome place (λ piece. piece.object < MOST_OBJECTS)
 low_place layers layer place few on = grind arith
 
-pub low_mover : (N : ℕ) (layering : Layering) (cell : List (Option Piece)) (from : ℕ) (mover : Option Mover) → IsLayering N layering → IsCell layering.depth layering.layers cell → IsNextMover cell from mover → IfSome mover (λ m. (m.layer < layering.depth) × (m.layer < MAX_LAYERS) × (m.object < MAX_OBJECTS))
+pub low_mover : (N : ℕ) (layering : Layering) (cell : List (Option Piece)) (from : ℕ) (mover : Option Mover) → IsLayering N layering → IsCell layering.depth layering.layers cell → IsNextMover cell from mover → IfSome mover (λ m. (m.layer < layering.depth) × (m.layer < MOST_LAYERS) × (m.object < MOST_OBJECTS))
 low_mover N layering cell from mover law is next = grind (arith, is.on_layers, law.layered)
 
 -- a position on the map

@@ -1,6 +1,6 @@
 -- A level: a grid of cells over a game's collision layers.
 use Rattle.std.specs.Prelude.{◌≡◌, ℕ, ◌+◌, ◌*◌, ◌<◌, ◌≤◌, List, [], Option, None, length, slice_index_or, slice_set, All}
-use Rattle.pz_game.specs.declared.limits.TheConstants.{MAX_OBJECTS, MAX_LAYERS}
+use Rattle.pz_game.specs.declared.limits.TheConstants.{MOST_OBJECTS, MOST_LAYERS}
 use Rattle.pz_game.specs.declared.game.GameParts.{GameParts}
 use Rattle.pz_game.specs.Size.{IsSize}
 use Rattle.pz_cells.specs.declared.piece.Piece.{Piece}
@@ -52,8 +52,8 @@ with_place grid x y layer place =
 pub record IsLawful (grid : Grid) : Type 0 where
   pub covers : length grid.cells ≡ grid.width * grid.height
   pub size : IsSize grid.width grid.height
-  pub shallow : grid.depth ≤ MAX_LAYERS
-  pub few : length grid.layers ≤ MAX_OBJECTS
+  pub shallow : grid.depth ≤ MOST_LAYERS
+  pub few : length grid.layers ≤ MOST_OBJECTS
   pub layered : All (λ layer. layer < grid.depth) grid.layers
   pub stacked : All (IsCell grid.depth grid.layers) grid.cells
 

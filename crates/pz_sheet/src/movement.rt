@@ -2,7 +2,7 @@
 
 ghost use Rattle.std.specs.Prelude.{◌≡◌, ◌<◌, ◌≤◌, length, map, true, IfSome, MatchOption};
 ghost use Rattle.pz_sets.specs.declared.set.TheConstants.{CAPACITY};
-ghost use Rattle.pz_game.specs.declared.limits.TheConstants.{MAX_LAYERS};
+ghost use Rattle.pz_game.specs.declared.limits.TheConstants.{MOST_LAYERS};
 ghost use Rattle.pz_cells.specs.Cell.{IsNextMover, still_place};
 ghost use Rattle.pz_cells.specs.Lists.{AreMapped, HeadNowhere, HaveSameObjects};
 ghost use Rattle.pz_sheet.specs.Seen.{IsStored};
@@ -31,7 +31,7 @@ impl<const N: usize> Sheet<N> {
     pub fn next_mover(&self, x: u32, y: u32, from: usize) -> Option<Mover>
         requires { IsOnMap self.now.grid x y }
         ensures next { IsNextMover (cell_at self.now.grid x y) from result }
-        ensures low { IfSome result (λ mover. (mover.layer < self.now.grid.depth) × (mover.layer < MAX_LAYERS) × (mover.object < CAPACITY)) }
+        ensures low { IfSome result (λ mover. (mover.layer < self.now.grid.depth) × (mover.layer < MOST_LAYERS) × (mover.object < CAPACITY)) }
     {
         let layers = self.layers();
         self.cell(self.index(x, y)).next_mover(layers, from)

@@ -16,7 +16,7 @@ use Rattle.pz_game.specs.Level.{is_playable}
 use Rattle.pz_source.specs.Levels.{draws, glyph_of, glyphs_of, filled, row_of, rows_of, is_message, is_too_large, entry_of, entries_of, read_entries, levels_of}
 use Rattle.pz_game.specs.Game.{IsDrawnBy}
 use Rattle.pz_game.specs.declared.denotation.Denotation.{Denotation}
-use Rattle.pz_source.specs.declared.levels.TheConstants.{MAX_ENTRIES}
+use Rattle.pz_source.specs.declared.levels.TheConstants.{MOST_ENTRIES}
 use Rattle.pz_game.specs.declared.level.LevelEntry.{LevelEntry}
 use Rattle.pz_game.specs.declared.level.LevelEntry.TheVariants.{Message, Level}
 use Rattle.pz_base.proofs.EachLemmas.{each-ok, each-some}
@@ -74,7 +74,7 @@ module _ (glyph : ℕ → Option ℕ) (count : ℕ) (some : 0 < count) (below : 
 
   entry-below : (above : ℕ) (lines : List Line) → IfOk (entry_of glyph above lines) (IsDrawnBy count)
   entry-below above [] = tt
-  entry-below above (first ∷ rest) = by (nat_le MAX_ENTRIES above) (is_message first) (is_too_large (length first.text) (length (first ∷ rest)))
+  entry-below above (first ∷ rest) = by (nat_le MOST_ENTRIES above) (is_message first) (is_too_large (length first.text) (length (first ∷ rest)))
     where
       drawn : List ℕ → Result LevelEntry SourceFault
       drawn cells = Ok (Level (record { width = length first.text; height = length (first ∷ rest); cells = cells }))

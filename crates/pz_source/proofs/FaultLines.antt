@@ -37,7 +37,7 @@ use Rattle.pz_source.specs.Wins.{at_line, win_of, win_at, wins_of}
 use Rattle.pz_game.specs.declared.denotation.Denotation.{Denotation}
 use Rattle.pz_names.specs.declared.legend.Definition.{Definition}
 use Rattle.pz_names.specs.declared.legend.Said.{Said}
-use Rattle.pz_source.specs.declared.levels.TheConstants.{MAX_ENTRIES}
+use Rattle.pz_source.specs.declared.levels.TheConstants.{MOST_ENTRIES}
 use Rattle.pz_game.specs.declared.level.LevelEntry.{LevelEntry}
 use Rattle.pz_game.specs.declared.level.LevelEntry.TheVariants.{Message, Level}
 use Rattle.pz_names.specs.declared.name_line.NameLine.{NameLine}
@@ -193,7 +193,7 @@ module _ (n : ℕ) where
 
   entry-fault : (glyph : ℕ → Option ℕ) (above : ℕ) (lines : List Line) → All (IsWithin n) lines → IfErr (entry_of glyph above lines) (Names n)
   entry-fault glyph above [] all = tt
-  entry-fault glyph above (first ∷ rest) all = by (nat_le MAX_ENTRIES above) (is_message first) (is_too_large width height)
+  entry-fault glyph above (first ∷ rest) all = by (nat_le MOST_ENTRIES above) (is_message first) (is_too_large width height)
     where
       width : ℕ
       width = length first.text

@@ -16,7 +16,7 @@ use Rattle.pz_game.specs.declared.denotation.Denotation.{Denotation}
 use Rattle.pz_game.specs.declared.denotation.Kind.TheVariants.{Aggregate}
 use Rattle.pz_names.proofs.ValueLemmas.{table_length}
 use Rattle.std.proofs.lemmas.Bool.{leb-false}
-use Rattle.pz_game.specs.declared.limits.TheConstants.{MAX_LAYERS}
+use Rattle.pz_game.specs.declared.limits.TheConstants.{MOST_LAYERS}
 use Rattle.pz_source.specs.Layers.{name_line_at, lies_nowhere}
 use Rattle.pz_names.specs.declared.name_line.NameLine.{NameLine}
 use Rattle.pz_base.specs.declared.fault.Code.TheVariants as code
@@ -64,10 +64,10 @@ few : (names : List (List ℕ)) (values : List Denotation) (before rest : List N
     → length before + length rest ≤ 100
 few names values before [] low none = omega arith
 few names values before (x ∷ rest) low none =
-    by (list_any (λ name. not (is_name_of names name)) x.names) (list_any (λ name. is_of_kind Aggregate (kind_in names values name)) x.names) (nat_le MAX_LAYERS (length before)) refl none
+    by (list_any (λ name. not (is_name_of names name)) x.names) (list_any (λ name. is_of_kind Aggregate (kind_in names values name)) x.names) (nat_le MOST_LAYERS (length before)) refl none
     (λ room n. few names values (before ++ x ∷ []) rest room n)
   where
-    by : (a b d : Bool) → nat_le MAX_LAYERS (length before) ≡ d
+    by : (a b d : Bool) → nat_le MOST_LAYERS (length before) ≡ d
         → option_map_or (λ c. Some (record { code = c; line = name_line_at x })) (if a then Some code.Unknown else (if b then Some code.Mixed else (if d then Some code.TooLarge else None)))
         (first_fault name_line_at (misplaces names values) (before ++ x ∷ []) rest) ≡ None
         → (length (before ++ x ∷ []) ≤ 100 → first_fault name_line_at (misplaces names values) (before ++ x ∷ []) rest ≡ None → length (before ++ x ∷ []) + length rest ≤ 100)

@@ -15,7 +15,7 @@ use Rattle.pz_names.specs.Kinds.{kind_in, is_of_kind}
 use Rattle.pz_names.specs.declared.name_line.NameLine.{NameLine}
 use Rattle.pz_game.specs.declared.denotation.Denotation.{Denotation}
 use Rattle.pz_game.specs.declared.denotation.Kind.TheVariants.{Aggregate}
-use Rattle.pz_game.specs.declared.limits.TheConstants.{MAX_LAYERS}
+use Rattle.pz_game.specs.declared.limits.TheConstants.{MOST_LAYERS}
 
 -- the words of a line, separated by commas or white space
 abbrev pub layer_words : List ℕ → List (List ℕ)
@@ -39,7 +39,7 @@ abbrev pub misplaced : List (List ℕ) → List Denotation → ℕ → List (Lis
 misplaced names values above layer =
     if list_any (λ name. not (is_name_of names name)) layer then Some code.Unknown
     else (if list_any (λ name. is_of_kind Aggregate (kind_in names values name)) layer then Some code.Mixed
-    else (if nat_le MAX_LAYERS above then Some code.TooLarge else None))
+    else (if nat_le MOST_LAYERS above then Some code.TooLarge else None))
 
 abbrev pub misplaces : List (List ℕ) → List Denotation → List NameLine → NameLine → Option Code
 misplaces names values before layer = misplaced names values (length before) layer.names

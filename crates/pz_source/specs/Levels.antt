@@ -15,8 +15,8 @@ use Rattle.pz_game.specs.Level.{is_playable}
 use Rattle.pz_game.specs.declared.denotation.Denotation.{Denotation}
 use Rattle.pz_game.specs.declared.denotation.Kind.{Kind}
 use Rattle.pz_game.specs.declared.denotation.Kind.TheVariants.{Object, Property, Aggregate}
-use Rattle.pz_game.specs.declared.limits.TheConstants.{MAX_SIDE, MAX_CELLS}
-use Rattle.pz_source.specs.declared.levels.TheConstants.{MAX_ENTRIES}
+use Rattle.pz_game.specs.declared.limits.TheConstants.{MOST_SIDE, MOST_CELLS}
+use Rattle.pz_source.specs.declared.levels.TheConstants.{MOST_ENTRIES}
 use Rattle.pz_game.specs.declared.level.LevelEntry.{LevelEntry}
 use Rattle.pz_game.specs.declared.level.LevelEntry.TheVariants.{Message, Level}
 
@@ -73,13 +73,13 @@ unfoldable pub rows_of : (ℕ → Option ℕ) → ℕ → List Line → Result (
 rows_of glyph width lines = and_then (λ rows. Ok (flat_map (λ row. row) rows)) (each_ok (map (row_of glyph width) lines))
 
 abbrev pub is_too_large : ℕ → ℕ → Bool
-is_too_large width height = nat_lt MAX_SIDE width || nat_lt MAX_SIDE height || nat_lt MAX_CELLS (width * height)
+is_too_large width height = nat_lt MOST_SIDE width || nat_lt MOST_SIDE height || nat_lt MOST_CELLS (width * height)
 
 -- an entry with `above` entries above it: the 1,025th and one that is too large are faults at its first line
 abbrev pub entry_of : (ℕ → Option ℕ) → ℕ → List Line → Result LevelEntry SourceFault
 entry_of glyph above [] = Ok Message
 entry_of glyph above (first ∷ rest) =
-    if nat_le MAX_ENTRIES above then Err (record { code = code.TooLarge; line = first.number })
+    if nat_le MOST_ENTRIES above then Err (record { code = code.TooLarge; line = first.number })
     else (if is_message first then Ok Message
     else (if is_too_large (length first.text) (length (first ∷ rest)) then Err (record { code = code.TooLarge; line = first.number })
     else and_then (λ cells. Ok (Level (record { width = length first.text; height = length (first ∷ rest); cells = cells })))

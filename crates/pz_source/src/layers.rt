@@ -12,7 +12,7 @@ use pz_base::listed::Listed;
 use pz_base::name::Name;
 use pz_base::name_set::NameSet;
 use pz_game::denotation::{Denotation, Kind};
-use pz_game::limits::MAX_LAYERS;
+use pz_game::limits::MOST_LAYERS;
 use pz_names::kinds::has_kind;
 use pz_names::legend::has_unknown;
 use pz_names::meaning::number_or_end;
@@ -75,7 +75,7 @@ fn misplaced(names: &NameSet, values: &[Denotation], above: usize, layer: &[Name
         Some(Code::Unknown)
     } else if has_kind(names, values, Kind::Aggregate, layer) {
         Some(Code::Mixed)
-    } else if above >= MAX_LAYERS {
+    } else if above >= MOST_LAYERS {
         Some(Code::TooLarge)
     } else {
         None

@@ -12,18 +12,18 @@ use pz_base::listed::Listed;
 use pz_base::name_set::NameSet;
 use pz_game::denotation::Denotation;
 use pz_game::level::{DrawnLevel, LevelEntry};
-use pz_game::limits::{MAX_CELLS, MAX_SIDE};
+use pz_game::limits::{MOST_CELLS, MOST_SIDE};
 use pz_names::objects::is_blank;
 use pz_text::heading::begins_with_word;
 use pz_text::line::Line;
 use std::alloc::{AllocError, Global};
 
 /// The most entries that a source may have. Rule `limits.entries`.
-pub const MAX_ENTRIES: usize = 1_024;
+pub const MOST_ENTRIES: usize = 1_024;
 
 /// Promises the limit as a number, so that changing the constant alone breaks a proof.
 pub fn entries_are_limited()
-    ensures { MAX_ENTRIES ≡ 1_024 }
+    ensures { MOST_ENTRIES ≡ 1_024 }
 {}
 
 /// Whether a line of LEVELS is a message.
@@ -177,7 +177,7 @@ fn cut_to(text: &[char], width: usize) -> &[char]
 fn is_too_large(width: usize, height: usize) -> bool
     ensures { result ≡ is_too_large width height }
 {
-    width > MAX_SIDE || height > MAX_SIDE || width * height > MAX_CELLS
+    width > MOST_SIDE || height > MOST_SIDE || width * height > MOST_CELLS
 }
 
 /// The entry with these lines, or its first fault. `above` is the number of entries above it.
@@ -196,7 +196,7 @@ fn read_entry(
     let Some((first, _)) = lines.split_first() else {
         return Ok(LevelEntry::Message);
     };
-    if above >= MAX_ENTRIES {
+    if above >= MOST_ENTRIES {
         return Err(SourceFault {
             code: Code::TooLarge,
             line: first.number,

@@ -25,7 +25,7 @@ use pz_base::name_set::NameSet;
 use pz_game::denotation::Denotation;
 use pz_game::game::{Game, GameParts};
 use pz_game::level::LevelEntry;
-use pz_game::limits::MAX_OBJECTS;
+use pz_game::limits::MOST_OBJECTS;
 use pz_game::options::Options;
 use pz_game::rule_line::RuleLine;
 use pz_game::win_line::WinLine;
@@ -97,7 +97,7 @@ fn read_sections(
     values: &[Denotation],
     rules: Vec<RuleLine>,
 ) -> Result<Sections, SourceFault>
-    requires few { length objects.now ≤ MAX_OBJECTS }
+    requires few { length objects.now ≤ MOST_OBJECTS }
     requires named { All IsNamed objects.now }
     requires all { length values.now ≡ length names.now }
     requires denoted { All (IsDenoted (length objects.now)) values.now }
@@ -164,7 +164,7 @@ fn read_over(
     values: Vec<Denotation>,
     rules: Vec<RuleLine>,
 ) -> Result<Game, SourceFault>
-    requires few { length objects.now ≤ MAX_OBJECTS }
+    requires few { length objects.now ≤ MOST_OBJECTS }
     requires named { All IsNamed objects.now }
     requires all { length values.items ≡ length names }
     requires denoted { All (IsDenoted (length objects.now)) values.items }
@@ -185,7 +185,7 @@ fn read_over_objects(
     mut names: NameSet,
     rules: Vec<RuleLine>,
 ) -> Result<Game, SourceFault>
-    requires few { length objects.now ≤ MAX_OBJECTS }
+    requires few { length objects.now ≤ MOST_OBJECTS }
     requires named { All IsNamed objects.now }
     requires names { names ≡ object_names objects.now }
     requires rules { rules.items ≡ rule_lines (lines_in section.Rules lines.now) }

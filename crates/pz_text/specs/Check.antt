@@ -5,7 +5,7 @@ use Rattle.std.specs.Str.{chars}
 use Rattle.pz_base.specs.Fault.{first_fault, unless}
 use Rattle.pz_text.specs.Section.{place_of, is_heading_of}
 use Rattle.pz_text.specs.Cutting.{cut}
-use Rattle.pz_text.specs.declared.check.TheConstants.{MAX_BYTES}
+use Rattle.pz_text.specs.declared.check.TheConstants.{MOST_BYTES}
 use Rattle.pz_text.specs.declared.line.Section.{Section}
 use Rattle.pz_text.specs.declared.line.Section.TheVariants.{Objects, Legend, Layers, Levels}
 use Rattle.pz_text.specs.declared.line.Line.{Line}
@@ -15,7 +15,7 @@ use Rattle.pz_base.specs.declared.fault.SourceFault.{SourceFault}
 
 -- checks.length: the fault of a text with more bytes than a source may have
 abbrev pub too_long : List ℕ → Option SourceFault
-too_long bytes = if nat_lt MAX_BYTES (length bytes) then Some (record { code = code.TooLong; line = 0 }) else None
+too_long bytes = if nat_lt MOST_BYTES (length bytes) then Some (record { code = code.TooLong; line = 0 }) else None
 
 abbrev pub number_of : Line → ℕ
 number_of line = line.number

@@ -12,18 +12,18 @@ use pz_base::fault::{Code, SourceFault};
 use std::alloc::Global;
 
 /// The most bytes that a source may have. Rule `limits.source`.
-pub const MAX_BYTES: usize = 1_048_576;
+pub const MOST_BYTES: usize = 1_048_576;
 
 /// Promises the limit as a number, so that changing the constant alone breaks a proof.
 pub fn sources_are_limited()
-    ensures { MAX_BYTES ≡ 1_048_576 }
+    ensures { MOST_BYTES ≡ 1_048_576 }
 {}
 
 /// `TooLong`, with line 0, if the text has more bytes than a source may have. Rule `checks.length`.
 pub fn too_long(text: &str) -> Option<SourceFault>
     ensures { result ≡ too_long text.now }
 {
-    if text.len() > MAX_BYTES {
+    if text.len() > MOST_BYTES {
         Some(SourceFault {
             code: Code::TooLong,
             line: 0,

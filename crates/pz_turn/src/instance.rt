@@ -31,7 +31,7 @@ use std::slice;
 pub const COMBINATION_LIMIT: u64 = 1_048_576;
 
 /// In a level of at most this many cells no row has more than `MATCH_LIMIT` places. There is at most one for each cell and gap, and a gap
-/// spans fewer than `MAX_SIDE` cells.
+/// spans fewer than `MOST_SIDE` cells.
 const FEW_CELLS: u32 = 4_096;
 
 /// The fault of a search is the fault of the step.

@@ -1,5 +1,5 @@
 use Rattle.pz_grid.specs.Grid.{IsOfGame}
-use Rattle.pz_play_cases.proofs.resting.rest_early.Given as goal
+use Rattle.pz_test_play.proofs.resting.rest_early.Given as goal
 
 -- the level stays one of the game
 abbrev pub invariant-loop-block : goal.invariant-loop-block

@@ -2,7 +2,7 @@ use Rattle.std.proofs.Common.{arith, ◌∙◌, subst}
 use Rattle.std.proofs.lemmas.List.{take_all}
 use Rattle.std.proofs.lemmas.List.Elements.{All-more}
 use Rattle.pz_game.specs.Pattern.{IsOf, AreOf}
-use Rattle.pz_game_cases.proofs.marks.is_cell_of.Goals as goal
+use Rattle.pz_test_game.proofs.marks.is_cell_of.Goals as goal
 
 pub loop-item-preserved : goal.loop-item-preserved
 loop-item-preserved c =

@@ -2,7 +2,7 @@ use Rattle.std.proofs.Common.{All, arith, ◌∙◌, subst}
 use Rattle.std.proofs.lemmas.List.{take_all}
 use Rattle.std.proofs.lemmas.List.Elements.{All-more}
 use Rattle.pz_game.specs.Pattern.{AreOf}
-use Rattle.pz_game_cases.proofs.marks.is_row_of.Goals as goal
+use Rattle.pz_test_game.proofs.marks.is_row_of.Goals as goal
 
 pub loop-cell-preserved : goal.loop-cell-preserved
 loop-cell-preserved c =
