@@ -227,21 +227,21 @@ impl LinePlanes {
         None
     }
 
-    /// Whether an object is noted in a line.
-    fn has(&self, object: usize, line: usize) -> bool
+    /// Whether an object may be noted in a line.
+    fn may_have(&self, object: usize, line: usize) -> bool
         requires { line < self.now.count }
         ensures { result ≡ false → IsMissingIn self.now line object }
     {
         object < self.objects && !bits::is_empty(self.words[self.index(object, line)])
     }
 
-    /// Whether one of these objects is noted in a line.
-    pub fn has_one_of(&self, line: usize, objects: &[usize]) -> bool
+    /// Whether one of these objects may be noted in a line.
+    pub fn may_have_one_of(&self, line: usize, objects: &[usize]) -> bool
         requires { line < self.now.count }
         ensures { result ≡ false → All (IsMissingIn self.now line) objects.now }
     {
         for object in objects {
-            if self.has(*object, line) {
+            if self.may_have(*object, line) {
                 return true;
             }
         }

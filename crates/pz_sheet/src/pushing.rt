@@ -41,7 +41,7 @@ impl<const N: usize> Sheet<N> {
         ensures { result ≡ false → (x : ℕ) → x < self.now.grid.width → AreMissing objects.now (cell_at self.now.grid x y) }
     {
         let rows = self.planes.lines(Axis::Horizontal);
-        self.width > bits::ROOM || rows.has_one_of(y as usize, objects)
+        self.width > bits::ROOM || rows.may_have_one_of(y as usize, objects)
     }
 
     /// Gives a direction to each of these objects in the cell of this number. Only a cell that holds one of them is written.
