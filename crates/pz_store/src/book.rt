@@ -72,7 +72,7 @@ fn keep(kept: &mut Vec<BareLevel>, level: &BareLevel, index: usize) -> Result<()
 
 impl Book {
     /// A book without cells, for levels of the size of one. Err: memory was refused.
-    pub fn new(alloc: Global, level: &BareLevel, objects: usize) -> Result<Book, AllocError>
+    pub(crate) fn new(alloc: Global, level: &BareLevel, objects: usize) -> Result<Book, AllocError>
         ensures frame { IfOk result (λ book. book.frame ≡ level.now.grid) }
         ensures objects { IfOk result (λ book. book.objects ≡ objects) }
         ensures cells { IfOk result (λ book. book.cells ≡ []) }
@@ -86,7 +86,7 @@ impl Book {
     }
 
     /// A level of the size that all have.
-    pub fn frame(&self) -> &BareLevel
+    pub(crate) fn frame(&self) -> &BareLevel
         ensures frame { result.now.grid ≡ self.now.frame }
         ensures distinct { AreDistinctCells self.now.cells }
     {
@@ -132,7 +132,7 @@ impl Book {
     }
 
     /// The number of a cell of a level. A cell that has none gets the next one. Err: memory was refused.
-    pub fn number_of(&mut self, level: &BareLevel, index: usize) -> Result<u32, AllocError>
+    pub(crate) fn number_of(&mut self, level: &BareLevel, index: usize) -> Result<u32, AllocError>
         requires size { SameSize self.old.frame level.now.grid }
         requires within { index < length self.old.frame.cells }
         ensures frame { self.new.frame ≡ self.old.frame }
@@ -155,7 +155,7 @@ impl Book {
     }
 
     /// Puts the cell of a number into a level.
-    pub fn put(&self, level: &mut BareLevel, index: usize, number: u32)
+    pub(crate) fn put(&self, level: &mut BareLevel, index: usize, number: u32)
         requires size { SameSize self.now.frame level.old.grid }
         requires within { index < length self.now.frame.cells }
         requires number { number < length self.now.cells }
@@ -168,7 +168,7 @@ impl Book {
     }
 
     /// The word of a number's cell.
-    pub fn word(&self, number: u32) -> u64
+    pub(crate) fn word(&self, number: u32) -> u64
         requires { number < length self.now.cells }
         ensures { option_map (cell_word self.now.objects) (slice_get self.now.cells number) ≡ Some result }
     {

@@ -38,7 +38,7 @@ impl Model for Rows {
 
 impl Rows {
     /// No rows.
-    pub fn new(alloc: Global, long: usize) -> Rows
+    pub(crate) fn new(alloc: Global, long: usize) -> Rows
         ensures long { result.long ≡ long }
         ensures rows { result.rows ≡ [] }
     {
@@ -50,14 +50,14 @@ impl Rows {
     }
 
     /// How many rows there are.
-    pub fn len(&self) -> usize
+    pub(crate) fn len(&self) -> usize
         ensures { result ≡ length self.now.rows }
     {
         self.count
     }
 
     /// Whether the row at a place has these numbers.
-    pub fn has_at(&self, place: usize, row: &[u32]) -> bool
+    pub(crate) fn has_at(&self, place: usize, row: &[u32]) -> bool
         requires within { place < length self.now.rows }
         requires long { length row.now ≡ self.now.long }
         ensures { IsTrue result ↔ (slice_get self.now.rows place ≡ Some row.now) }
@@ -68,7 +68,7 @@ impl Rows {
     }
 
     /// A number of the row at a place.
-    pub fn get(&self, place: usize, index: usize) -> u32
+    pub(crate) fn get(&self, place: usize, index: usize) -> u32
         requires within { place < length self.now.rows }
         requires there { index < self.now.long }
         ensures { IfSome (slice_get self.now.rows place) (λ row. slice_get row index ≡ Some result) }
@@ -79,7 +79,7 @@ impl Rows {
     }
 
     /// Copies the numbers of the row at a place.
-    pub fn copy_to(&self, place: usize, row: &mut [u32])
+    pub(crate) fn copy_to(&self, place: usize, row: &mut [u32])
         requires within { place < length self.now.rows }
         requires long { length row.old ≡ self.now.long }
         ensures { slice_get self.now.rows place ≡ Some row.new }
@@ -90,7 +90,7 @@ impl Rows {
     }
 
     /// Adds a row. Err: memory was refused.
-    pub fn push(&mut self, row: &[u32]) -> Result<(), AllocError>
+    pub(crate) fn push(&mut self, row: &[u32]) -> Result<(), AllocError>
         requires long { length row.now ≡ self.old.long }
         ensures long { self.new.long ≡ self.old.long }
         ensures pushed { OnOk result (self.new.rows ≡ self.old.rows ++ row.now ∷ []) }
@@ -105,7 +105,7 @@ impl Rows {
     }
 
     /// Takes the last row away.
-    pub fn pop(&mut self)
+    pub(crate) fn pop(&mut self)
         requires some { 0 < length self.old.rows }
         ensures long { self.new.long ≡ self.old.long }
         ensures popped { self.new.rows ≡ take (length self.old.rows - 1) self.old.rows }
