@@ -4,28 +4,14 @@ import { at } from "./elements.mjs";
 import { allSkippedTold, nothingTold } from "./findings.mjs";
 import { atOnce } from "./pieces.mjs";
 import { MOST_SESSIONS, Refusal, codingOf, textOf } from "./session-file.mjs";
-import { whyNoField } from "./texts.mjs";
+import { hasManyLists, whyNoField } from "./texts.mjs";
 
 const MOST_OF_A_FILE = 64 * 2 ** 20; // of a file that is read, as python/saxtegun/files.py has it
-
-const MOST_LISTS = 16 * MOST_SESSIONS; // of a sessions file, of which each session has three; with millions a browser would stand still for half a minute
 
 const unreadableTold = (name) => `${name} can't be read`;
 
 // Why a file isn't read, by its size, or null.
 const tooLongTold = (name, size) => (size > MOST_OF_A_FILE ? `${name} has more than 64 MiB, and is not read` : null);
-
-// Whether a text has more lists and objects outside of its texts than are read at once.
-function hasManyLists(text) {
-  let count = 0, isInText = false;
-  for (let at = 0; at < text.length; at += 1) {
-    const letter = text[at];
-    if (letter === "\\") at += 1;
-    else if (letter === '"') isInText = !isInText;
-    else if (!isInText && (letter === "[" || letter === "{") && (count += 1) > MOST_LISTS) return true;
-  }
-  return false;
-}
 
 const BEGINS_LIKE_SESSIONS = /^\s*\[\s*[[\]]/;
 

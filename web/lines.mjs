@@ -1,6 +1,7 @@
 // The lines of a recording, as docs/sessions.md has them, cut into runs: what they say of each session.
 import { CLOSES } from "./closes.mjs";
 import { Refusal } from "./session-file.mjs";
+import { hasManyLists } from "./texts.mjs";
 
 export const KINDS = ["start", "move", "undo", "restart", "load", "tick", "over"];
 const BEFORE_OVER = ["move", "tick", "over"]; // of what kinds the frame is before one that shows that play is over
@@ -76,6 +77,7 @@ export const framesIn = (bytes, run) => new FramesRead(bytes, run);
 
 function readLine(text, place) {
   if (text.length > MOST_READ) throw new Refusal(`line ${place} has more than 16 MiB, and is not read`);
+  if (hasManyLists(text)) throw new Refusal(`line ${place} has more than 1,048,576 lists and objects, and is not read`);
   let line = null;
   try {
     line = JSON.parse(text);

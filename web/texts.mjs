@@ -9,6 +9,7 @@ const MOST_BEYOND_IN_ALL = 32_768; // such letters of all lines,
 const MOST_LINES_OF_FIELD = 32_768; // and lines: a browser lays out all of a field at once, for minutes where there are many more of any of them
 const END_OF_LINE = /\r\n?|\n/; // in a field
 const LAID_OUT = "which a browser may take minutes to lay out";
+const MOST_LISTS = 1_048_576; // of a text that is read as JSON: of 65,536 sessions each has three; with millions a browser would stand still for half a minute
 const MOST_LETTERS = 200; // of a text of a stranger that is read in a line among others
 
 // A name as names are compared: the case of ASCII letters is ignored, and of no others.
@@ -41,4 +42,17 @@ export function withoutEnd(text) {
   let end = text.length;
   while (end > 0 && SPACE.test(text[end - 1])) end -= 1;
   return text.slice(0, end);
+}
+
+// Whether a text has more lists and objects outside of its texts than are read at once.
+export function hasManyLists(text) {
+  if (text.length <= MOST_LISTS) return false;
+  let count = 0, isInText = false;
+  for (let at = 0; at < text.length; at += 1) {
+    const letter = text[at];
+    if (letter === "\\") at += 1;
+    else if (letter === '"') isInText = !isInText;
+    else if (!isInText && (letter === "[" || letter === "{") && (count += 1) > MOST_LISTS) return true;
+  }
+  return false;
 }

@@ -113,6 +113,12 @@ test("a frame or a line that has more than is read at once is refused, and what 
   assert.throws(() => atOnce(readingRuns(text, 1)), { message: "line 1 has more than 16 MiB, and is not read" });
 });
 
+test("a line of millions of lists is not read", () => {
+  const lineOf = (count) => `{"session":0,"frame":0,"at":0,"kind":"start","level":"[[","x":${"[".repeat(count - 1)}${"]".repeat(count - 1)}}\n{"session":0,"name":"","close":"passed","frames":1}\n`;
+  assert.equal(atOnce(readingRuns(lineOf(2 ** 20), 1)).length, 1);
+  assert.throws(() => atOnce(readingRuns(lineOf(2 ** 20 + 1), 1)), { message: "line 1 has more than 1,048,576 lists and objects, and is not read" });
+});
+
 it("of more lines than are wanted none are held, and where those of one session are more than a worker's share, one plays after the other", async () => {
   const entries = [["long", new Array(200).fill(1)], ["b", [1]], ["c", [2]], ["d", [3]]].map(([name, inputs]) => [name, [GAME, inputs, "", 0]]), bytes = JSON.stringify(entries), { lines } = module.replay(bytes);
   for (const workers of [1, 3]) {
