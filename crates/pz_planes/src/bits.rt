@@ -1,6 +1,6 @@
 //! Positions of a line as the bits of a word: the position n, counted from 0, is in the set if bit n of the word is set.
 
-ghost use Rattle.std.specs.Prelude.{◌≡◌, ℕ, ◌<◌, ◌≤◌, ◌↔◌, ◌&&◌, ◌||◌, true, false, not, nat_eq};
+ghost use Rattle.std.specs.Prelude.{◌≡◌, ℕ, ◌<◌, ◌≤◌, ◌↔◌, ◌&&◌, ◌||◌, IsTrue, true, false, not, nat_eq};
 ghost use Rattle.pz_sets.specs.Sets.{in_word};
 ghost use Rattle.pz_sets.specs.Next.{IsNext};
 ghost use Rattle.pz_planes.specs.Line.{step_to, room_from};
@@ -21,7 +21,7 @@ pub fn all() -> u128
 
 /// Whether a set has no position.
 pub fn is_empty(set: u128) -> bool
-    ensures none { result ≡ true → (at : ℕ) → at < 128 → in_word set at ≡ false }
+    ensures none { IsTrue result ↔ ((at : ℕ) → at < 128 → in_word set at ≡ false) }
     ensures some { result ≡ false → 0 < set }
 {
     set == 0

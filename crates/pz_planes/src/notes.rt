@@ -1,7 +1,7 @@
 //! Where something may head in a level. The whole level, each row and each column has a set of headings: a heading is a layer with a
 //! direction, as one number.
 
-ghost use Rattle.std.specs.Prelude.{◌≡◌, ◌≤◌, ◌<◌, ◌*◌, ◌/◌, ◌%◌, ◌||◌, ℕ, [], true, false, length, slice_index_or, IfOk, OnOk, OnErr, MatchOption};
+ghost use Rattle.std.specs.Prelude.{◌≡◌, ◌≤◌, ◌<◌, ◌*◌, ◌/◌, ◌%◌, ◌||◌, ◌↔◌, IsTrue, ℕ, [], false, length, slice_index_or, IfOk, OnOk, OnErr, MatchOption};
 ghost use Rattle.pz_sets.specs.Sets.{member};
 ghost use Rattle.pz_planes.specs.Noted.{AreAmong};
 ghost use Rattle.pz_planes.specs.Notes.{HaveNone, HaveNoneBetween, IsMoreIn, headings_of};
@@ -10,6 +10,7 @@ use crate::bits;
 use crate::copying::{make_room, refill};
 use crate::line::Axis;
 use pz_sets::set::NumberSet;
+use pz_sets::words;
 use std::alloc::{AllocError, Global};
 use std::marker::Model;
 
@@ -171,15 +172,14 @@ impl Notes {
 
 /// Whether a set of headings is empty.
 pub fn is_empty(headings: &NumberSet) -> bool
-    ensures { result ≡ true → (number : ℕ) → member headings.now number ≡ false }
+    ensures { IsTrue result ↔ ((number : ℕ) → member headings.now number ≡ false) }
 {
-    headings.same(&NumberSet::empty())
+    words::is_empty(headings.words())
 }
 
 /// Whether neither of two levels has a heading noted.
 pub fn are_empty(notes: &Notes, others: &Notes) -> bool
-    ensures first { result ≡ true → (number : ℕ) → member notes.now.whole number ≡ false }
-    ensures second { result ≡ true → (number : ℕ) → member others.now.whole number ≡ false }
+    ensures { IsTrue result ↔ (((number : ℕ) → member notes.now.whole number ≡ false) × ((number : ℕ) → member others.now.whole number ≡ false)) }
 {
     is_empty(notes.whole()) && is_empty(others.whole())
 }

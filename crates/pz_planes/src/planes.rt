@@ -1,7 +1,7 @@
 //! At which positions of each row and each column the objects of a level stand, so that lines can be searched fast. Objects, columns and
 //! rows are counted from 0. A position of a row is a column, and a position of a column is a row.
 
-ghost use Rattle.std.specs.Prelude.{◌≡◌, ℕ, ◌+◌, ◌*◌, ◌/◌, ◌%◌, ◌<◌, ◌≤◌, ◌↔◌, ◌&&◌, ◌||◌, [], true, false, not, nat_eq, All, length, slice_index, slice_index_or, IfOk};
+ghost use Rattle.std.specs.Prelude.{◌≡◌, ℕ, ◌+◌, ◌*◌, ◌/◌, ◌%◌, ◌<◌, ◌≤◌, ◌↔◌, ◌&&◌, ◌||◌, [], IsTrue, true, false, not, nat_eq, All, length, slice_index, slice_index_or, IfOk};
 ghost use Rattle.pz_game.specs.declared.limits.TheConstants.{MOST_OBJECTS, MOST_SIDE};
 ghost use Rattle.pz_game.specs.Items.{names};
 ghost use Rattle.pz_sets.specs.Sets.{in_word, member};
@@ -264,7 +264,7 @@ impl LinePlanes {
 
     /// Whether another has as many objects and lines, so that it fits in this one's memory.
     fn has_room_of(&self, other: &LinePlanes) -> bool
-        ensures { result ≡ true → HasRoomOf self.now other.now }
+        ensures { IsTrue result ↔ HasRoomOf self.now other.now }
     {
         self.objects == other.objects && self.count == other.count
     }
@@ -391,7 +391,7 @@ impl Planes {
 
     /// Whether another has as many objects and lines, so that it fits in this one's memory.
     pub fn has_room_of(&self, other: &Planes) -> bool
-        ensures { result ≡ true → HasRoomOf self.now.rows other.now.rows × HasRoomOf self.now.columns other.now.columns }
+        ensures { IsTrue result ↔ (HasRoomOf self.now.rows other.now.rows × HasRoomOf self.now.columns other.now.columns) }
     {
         self.rows.has_room_of(&other.rows) && self.columns.has_room_of(&other.columns)
     }

@@ -8,7 +8,7 @@ use Rattle.pz_sheet.proofs.Sheet.still_all.Goals as goal
 pub returns-then-is_empty-clause-stilled : goal.returns-then-is_empty-clause-stilled
 returns-then-is_empty-clause-stilled g c =
     let a = c.self.inside in
-    let none = rw c.whole.ensures at (c.is_empty.ensures c.if-is_empty.true) in
+    let none = rw c.whole.ensures at (c.is_empty.ensures.0 c.if-is_empty.true) in
     rw (← c.self.view_is) (ap (λ (cells : List (List (Option Piece))). record (grid_of a.width a.height a.layers a.cells.items) { cells = cells }) (all_are_still _ _ _ _ _ _ c.self.invariant.stored none))
 
 pub invariant_of-self : goal.invariant_of-self
