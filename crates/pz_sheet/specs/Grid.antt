@@ -1,4 +1,5 @@
--- A level: a grid of cells over a game's collision layers.
+-- A grid is a level's value: its cells, with what stands there and where it heads, over a game's collision layers. A level is the
+-- thing in memory that has this value: a `BareLevel` without marks, a `Level` with them.
 use Rattle.std.specs.Prelude.{◌≡◌, ℕ, ◌+◌, ◌*◌, ◌<◌, ◌≤◌, List, [], Option, None, length, slice_index_or, slice_set, All}
 use Rattle.pz_game.specs.declared.limits.TheConstants.{MOST_OBJECTS, MOST_LAYERS}
 use Rattle.pz_game.specs.declared.game.GameParts.{GameParts}
