@@ -45,7 +45,8 @@ impl BareLevel {
         requires size { SameSize self.old.grid other.now.grid }
         requires within { index < length self.old.grid.cells }
         requires there { at < length other.now.grid.cells }
-        ensures { self.new.grid ≡ with_cell self.old.grid (record { number = index; cell = cell_of other.now.grid at }) }
+        ensures { self.new.grid ≡
+            with_cell self.old.grid (record { number = index; cell = cell_of other.now.grid at }) }
     {
         match (&mut *self.sheet, &*other.sheet) {
             (AnySheet::Small(sheet), AnySheet::Small(other)) => sheet.take_cell_of(

@@ -184,7 +184,8 @@ impl BareLevel {
 
     /// The piece of an object at a position, if it stands there. Off the map, and for a number without an object, there is none.
     pub fn piece(&self, x: u32, y: u32, object: usize) -> Option<Piece>
-        ensures { MatchOption result (standing_at self.now.grid x y object ≡ None) (λ piece. standing_at self.now.grid x y object ≡ Some piece.heading) }
+        ensures { MatchOption result (standing_at self.now.grid x y object ≡ None)
+            (λ piece. standing_at self.now.grid x y object ≡ Some piece.heading) }
     {
         match &*self.sheet {
             AnySheet::Small(sheet) => sheet.piece(x, y, object),
@@ -224,7 +225,8 @@ impl BareLevel {
     /// Whether the headings noted in the level allow a heading of the set `asked`. If false, cells that ask for one of these don't all hold
     /// somewhere.
     pub fn may_head_in(&self, asked: &[u128]) -> bool
-        ensures { (cells : List (List Item)) → All (AreOf self.now.grid.layers) cells → AsksAmong asked.now cells → All (HoldsSomewhere self.now.grid) cells → result ≡ true }
+        ensures { (cells : List (List Item)) → All (AreOf self.now.grid.layers) cells → AsksAmong asked.now cells →
+            All (HoldsSomewhere self.now.grid) cells → result ≡ true }
     {
         match &*self.sheet {
             AnySheet::Small(sheet) => sheet.may_head_in(asked),
@@ -263,7 +265,8 @@ impl BareLevel {
 
     /// The first column, from `from` on, in which something may head somewhere.
     pub fn next_column(&self, from: u32) -> Option<u32>
-        ensures next { MatchOption result (AreColumnsStill self.now.grid from self.now.grid.width) (λ x. (from ≤ x) × (x < self.now.grid.width) × AreColumnsStill self.now.grid from x) }
+        ensures next { MatchOption result (AreColumnsStill self.now.grid from self.now.grid.width)
+            (λ x. (from ≤ x) × (x < self.now.grid.width) × AreColumnsStill self.now.grid from x) }
         ensures lawful { IsLawful self.now.grid }
     {
         match &*self.sheet {
@@ -276,7 +279,8 @@ impl BareLevel {
     /// The first row, from `from` on, in which something in a column of the map may head somewhere.
     pub fn next_heading(&self, x: u32, from: u32) -> Option<u32>
         requires { x < self.now.grid.width }
-        ensures next { MatchOption result (AreStill self.now.grid x from self.now.grid.height) (λ y. (from ≤ y) × (y < self.now.grid.height) × AreStill self.now.grid x from y) }
+        ensures next { MatchOption result (AreStill self.now.grid x from self.now.grid.height)
+            (λ y. (from ≤ y) × (y < self.now.grid.height) × AreStill self.now.grid x from y) }
         ensures lawful { IsLawful self.now.grid }
     {
         match &*self.sheet {

@@ -84,7 +84,8 @@ impl<const N: usize> Cell<N> {
         ensures sound { IsSound layers.now self.new }
         ensures cell { seen layers.now self.new ≡ slice_set (seen layers.now self.old) mover.layer None }
         ensures movement { IsWithin self.new.movement self.old.movement }
-        ensures objects { (object : ℕ) → member self.new.objects object ≡ (not (nat_eq object mover.object) && member self.old.objects object) }
+        ensures objects { (object : ℕ) →
+            member self.new.objects object ≡ (not (nat_eq object mover.object) && member self.old.objects object) }
         ensures stood { member self.old.objects mover.object ≡ true }
     {
         // (brings the proof the law of the layers)
@@ -99,9 +100,11 @@ impl<const N: usize> Cell<N> {
         requires free { slice_index_or (seen layers.now self.old) layer None ≡ None }
         requires on_layer { IsOnLayer layers.now.layers layer (Some (still_piece object)) }
         ensures sound { IsSound layers.now self.new }
-        ensures cell { seen layers.now self.new ≡ slice_set (seen layers.now self.old) layer (Some (still_piece object)) }
+        ensures cell { seen layers.now self.new ≡
+            slice_set (seen layers.now self.old) layer (Some (still_piece object)) }
         ensures movement { self.new.movement ≡ self.old.movement }
-        ensures objects { (other : ℕ) → member self.new.objects other ≡ (nat_eq other object || member self.old.objects other) }
+        ensures objects { (other : ℕ) →
+            member self.new.objects other ≡ (nat_eq other object || member self.old.objects other) }
         ensures lacked { member self.old.objects object ≡ false }
     {
         // (brings the proof the law of the layers)

@@ -39,7 +39,9 @@ impl<const N: usize> Cell<N> {
     /// Gives an object a direction, if it stands in the cell.
     pub fn turn(&mut self, layers: &Layers<N>, object: usize, dir: Dir)
         requires sound { IsSound layers.now self.old }
-        ensures turned { member self.old.objects object ≡ true → Becomes layers.now self.old self.new (slice_index layers.now.layers object) (Some (record { object = object; heading = Some dir })) }
+        ensures turned { member self.old.objects object ≡ true →
+            Becomes layers.now self.old self.new (slice_index layers.now.layers object)
+            (Some (record { object = object; heading = Some dir })) }
         ensures kept { member self.old.objects object ≡ false → self.new ≡ self.old }
     {
         if self.has(object) {

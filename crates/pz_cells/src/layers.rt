@@ -38,7 +38,9 @@ impl<const N: usize> Model for Layers<N> {
 
     ghost view = { λ a. record { depth = (arc_value a.table).depth; layers = (arc_value a.table).layers.items } };
 
-    ghost invariant = { λ a. AreLayers N (record { depth = (arc_value a.table).depth; layers = (arc_value a.table).layers.items }) (arc_value a.table).sets.items };
+    ghost invariant = { λ a. AreLayers N
+        (record { depth = (arc_value a.table).depth; layers = (arc_value a.table).layers.items })
+        (arc_value a.table).sets.items };
 }
 
 impl<const N: usize> Layers<N> {
@@ -109,7 +111,8 @@ impl<const N: usize> Layers<N> {
     /// The objects of the layers on which a right cell of a rule places something.
     pub fn displaced_by(&self, right: &[Item]) -> NumberSet
         requires { AreOf self.now.layers right.now }
-        ensures objects { (object : ℕ) → object < length self.now.layers → member result object ≡ is_displaced self.now.layers right.now object }
+        ensures objects { (object : ℕ) → object < length self.now.layers →
+            member result object ≡ is_displaced self.now.layers right.now object }
         ensures law { IsLayering N self.now }
     {
         let mut objects = NumberSet::empty();
@@ -152,7 +155,9 @@ fn layer_set(layers: &[usize], layer: usize) -> NumberSet
 fn layer_sets(alloc: Global, depth: usize, layers: &[usize]) -> Result<Vec<NumberSet>, AllocError>
     requires { length layers.now ≤ MOST_OBJECTS }
     ensures deep { IfOk result (λ sets. length sets.items ≡ depth) }
-    ensures table { IfOk result (λ sets. (layer : ℕ) (other : List ℕ) → layer < length sets.items → IsSetOf layers.now (slice_index_or sets.items layer other) layer) }
+    ensures table { IfOk result
+        (λ sets. (layer : ℕ) (other : List ℕ) → layer < length sets.items →
+        IsSetOf layers.now (slice_index_or sets.items layer other) layer) }
 {
     let mut sets = Vec::new(alloc);
     for layer in 0..depth {

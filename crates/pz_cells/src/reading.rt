@@ -63,7 +63,9 @@ impl<const N: usize> Cell<N> {
     /// The object's piece, if it stands in the cell.
     pub fn piece(&self, layers: &Layers<N>, object: usize) -> Option<Piece>
         requires sound { IsSound layers.now self.now }
-        ensures { MatchOption result (member self.now.objects object ≡ false) (λ piece. (member self.now.objects object ≡ true) × (piece.object ≡ object) × (piece.heading ≡ heading_in self.now.movement (slice_index layers.now.layers object))) }
+        ensures { MatchOption result (member self.now.objects object ≡ false)
+            (λ piece. (member self.now.objects object ≡ true) × (piece.object ≡ object) ×
+            (piece.heading ≡ heading_in self.now.movement (slice_index layers.now.layers object))) }
     {
         if self.has(object) {
             let layer = layers.layer_of(object);
@@ -78,7 +80,8 @@ impl<const N: usize> Cell<N> {
 
     /// Whether both cells have the same objects and the same headings.
     pub fn same(&self, other: &Cell<N>) -> bool
-        ensures { IsTrue result ↔ (AreSame self.now.objects other.now.objects × AreSame self.now.movement other.now.movement) }
+        ensures { IsTrue result ↔
+            (AreSame self.now.objects other.now.objects × AreSame self.now.movement other.now.movement) }
     {
         words::both_same(
             &self.objects,

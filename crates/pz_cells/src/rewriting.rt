@@ -25,8 +25,11 @@ fn end_leaving<const N: usize>(
 )
     requires short { length objects.now ≤ 4 }
     requires of_game { (object : ℕ) → member objects.now object ≡ true → object < length layers.now.layers }
-    ensures ended { (object : ℕ) (dir : Dir) → (member objects.now object && member removed.now object) ≡ true → heads movement.new (slice_index layers.now.layers object) dir ≡ false }
-    ensures others { (layer : ℕ) (dir : Dir) → ((object : ℕ) → (member objects.now object && member removed.now object) ≡ true → slice_index layers.now.layers object ≢ layer) → heads movement.new layer dir ≡ heads movement.old layer dir }
+    ensures ended { (object : ℕ) (dir : Dir) → (member objects.now object && member removed.now object) ≡ true →
+        heads movement.new (slice_index layers.now.layers object) dir ≡ false }
+    ensures others { (layer : ℕ) (dir : Dir) →
+        ((object : ℕ) → (member objects.now object && member removed.now object) ≡ true →
+        slice_index layers.now.layers object ≢ layer) → heads movement.new layer dir ≡ heads movement.old layer dir }
     ensures proper { IsProper movement.old → IsProper movement.new }
 {
     if is_disjoint(removed.words(), objects) {
@@ -48,7 +51,8 @@ impl<const N: usize> Cell<N> {
         requires sound { IsSound layers.now self.old }
         ensures sound { IsSound layers.now self.new }
         ensures cell { seen layers.now self.new ≡ rewritten_cell left.now right.now (seen layers.now self.old) }
-        ensures changed { result ≡ not (same_cell (rewritten_cell left.now right.now (seen layers.now self.old)) (seen layers.now self.old)) }
+        ensures changed { result ≡
+            not (same_cell (rewritten_cell left.now right.now (seen layers.now self.old)) (seen layers.now self.old)) }
     {
         let was = left.masks();
         let is = right.masks();

@@ -17,9 +17,12 @@ pub fn still_cells<const N: usize>(
     requires sound { All (IsSound layers.now) cells.old.items }
     requires range { (from ≤ end) × (end ≤ length cells.old.items) }
     ensures long { length cells.new.items ≡ length cells.old.items }
-    ensures stilled { (index : ℕ) (cell : Cell N) → from ≤ index → index < end → IsStilled layers.now (slice_index_or cells.old.items index cell) (slice_index_or cells.new.items index cell) }
-    ensures before { (index : ℕ) (cell : Cell N) → index < from → slice_index_or cells.new.items index cell ≡ slice_index_or cells.old.items index cell }
-    ensures behind { (index : ℕ) (cell : Cell N) → end ≤ index → slice_index_or cells.new.items index cell ≡ slice_index_or cells.old.items index cell }
+    ensures stilled { (index : ℕ) (cell : Cell N) → from ≤ index → index < end →
+        IsStilled layers.now (slice_index_or cells.old.items index cell) (slice_index_or cells.new.items index cell) }
+    ensures before { (index : ℕ) (cell : Cell N) → index < from →
+        slice_index_or cells.new.items index cell ≡ slice_index_or cells.old.items index cell }
+    ensures behind { (index : ℕ) (cell : Cell N) → end ≤ index →
+        slice_index_or cells.new.items index cell ≡ slice_index_or cells.old.items index cell }
 {
     // (brings the proof the law of the layers)
     let _ = layers.depth();

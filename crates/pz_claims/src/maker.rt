@@ -21,9 +21,16 @@ impl Model for Maker {
 
     ghost Value = { Makes };
 
-    ghost view = { λ m. record { of = record { table = m.token.table_id; total = total_of m.token.me.0 }; numbers = numbers_of m.token.me.0; made = m.made; joined = joined_of m.token.me.0 } };
+    ghost view = { λ m. record {
+      of = record { table = m.token.table_id; total = total_of m.token.me.0 };
+      numbers = numbers_of m.token.me.0;
+      made = m.made;
+      joined = joined_of m.token.me.0;
+    } };
 
-    ghost invariant = { λ m. (m.token.me ≡ (Making (total_of m.token.me.0) (numbers_of m.token.me.0) m.made (joined_of m.token.me.0), [])) × (joined_of m.token.me.0 ≡ 0 → numbers_of m.token.me.0 ≡ []) };
+    ghost invariant = { λ m. (m.token.me ≡
+        (Making (total_of m.token.me.0) (numbers_of m.token.me.0) m.made (joined_of m.token.me.0), [])) ×
+        (joined_of m.token.me.0 ≡ 0 → numbers_of m.token.me.0 ≡ []) };
 }
 
 impl Maker {

@@ -18,7 +18,10 @@ impl Model for Seat {
 
     ghost Value = { Holding };
 
-    ghost view = { λ s. record { of = record { table = s.token.table_id; total = total_of s.token.me.0 }; numbers = numbers_of s.token.me.0 } };
+    ghost view = { λ s. record {
+      of = record { table = s.token.table_id; total = total_of s.token.me.0 };
+      numbers = numbers_of s.token.me.0;
+    } };
 
     ghost invariant = { λ s. s.token.me ≡ (Claiming (total_of s.token.me.0) (numbers_of s.token.me.0), []) };
 }
@@ -37,7 +40,13 @@ impl Model for Ended {
 
     ghost Value = { Ending };
 
-    ghost view = { λ e. record { of = record { table = e.token.table_id; total = total_of e.token.me.0 }; numbers = numbers_of e.token.me.0; found = found_of e.token.me.0 } };
+    ghost view = { λ e. record {
+      of = record { table = e.token.table_id; total = total_of e.token.me.0 };
+      numbers = numbers_of e.token.me.0;
+      found = found_of e.token.me.0;
+    } };
 
-    ghost invariant = { λ e. (e.token.me ≡ (Ended (total_of e.token.me.0) (numbers_of e.token.me.0) (found_of e.token.me.0), [])) × (total_of e.token.me.0 ≤ found_of e.token.me.0) };
+    ghost invariant = { λ e. (e.token.me ≡
+        (Ended (total_of e.token.me.0) (numbers_of e.token.me.0) (found_of e.token.me.0), [])) ×
+        (total_of e.token.me.0 ≤ found_of e.token.me.0) };
 }

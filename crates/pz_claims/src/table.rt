@@ -29,7 +29,8 @@ impl Model for Claims {
 
     ghost view = { λ c. record { table = c.table.shared.table_id; total = c.total } };
 
-    ghost invariant = { λ c. (c.table.shared.key ≡ c.total) × (c.table.shared.table_id.words ≡ 1) × (c.table.shared.table_id.slots ≡ 0) × (c.total ≤ MOST_NUMBERS) };
+    ghost invariant = { λ c. (c.table.shared.key ≡ c.total) × (c.table.shared.table_id.words ≡ 1) ×
+        (c.table.shared.table_id.slots ≡ 0) × (c.total ≤ MOST_NUMBERS) };
 }
 
 /// What a claim answers.

@@ -119,7 +119,8 @@ fn by_three<R: Threads + Wait + Sync>(
         { claim_all(rt, alloc, shared, a) },
         move || -> (Told, Told)
             requires { IsSync R.row × (b.of ≡ shared.now) × (c.of ≡ shared.now) }
-            ensures { IfOk result.0 (λ told. told.0.of ≡ shared.entry.now) × IfOk result.1 (λ told. told.0.of ≡ shared.entry.now) }
+            ensures { IfOk result.0 (λ told. told.0.of ≡ shared.entry.now) ×
+                IfOk result.1 (λ told. told.0.of ≡ shared.entry.now) }
         { by_two(rt, alloc, shared, b, c) },
     );
     let (a, mut told) = a?;

@@ -25,7 +25,8 @@ pub fn read_input<R: Read>(alloc: Global, input: &mut Counted<R>) -> Result<Vec<
     ensures size { IfOk result (λ bytes. length bytes.items ≤ MOST_BYTES) }
     ensures called { input.new.calls ≤ MOST_BYTES + 1 }
     ensures failed { (result ≡ Err InputFault.Device) ↔ (input.new.has_failed ≡ true) }
-    ensures long { IfErr result (λ fault. fault ≡ InputFault.TooLong → IfSome input.old.remaining (λ all. MOST_BYTES < length all)) }
+    ensures long { IfErr result
+        (λ fault. fault ≡ InputFault.TooLong → IfSome input.old.remaining (λ all. MOST_BYTES < length all)) }
 {
     let mut bytes = Vec::new(alloc);
     let mut buffer = [0u8; 4096];

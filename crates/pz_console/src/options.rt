@@ -115,9 +115,12 @@ fn file(alloc: Global, text: Option<&str>) -> Result<Option<Text>, AllocError>
 /// What the matches of a command line choose.
 fn choose(alloc: Global, matches: &ArgMatches) -> Result<Chosen, OptionsFault>
     ensures chosen { IfOk result (λ chosen. choice_of (first_value (found_of matches.now) (codes "workers"))
-        (first_value (found_of matches.now) (codes "order")) (first_value (found_of matches.now) (codes "file")) ≡ Some chosen) }
-    ensures refused { IfErr result (λ fault. fault ≢ OptionsFault.Memory → choice_of (first_value (found_of matches.now) (codes "workers"))
-        (first_value (found_of matches.now) (codes "order")) (first_value (found_of matches.now) (codes "file")) ≡ None) }
+        (first_value (found_of matches.now) (codes "order")) (first_value (found_of matches.now) (codes "file")) ≡
+        Some chosen) }
+    ensures refused { IfErr result
+        (λ fault. fault ≢ OptionsFault.Memory → choice_of (first_value (found_of matches.now) (codes "workers"))
+        (first_value (found_of matches.now) (codes "order")) (first_value (found_of matches.now) (codes "file")) ≡
+        None) }
     ensures some { IfOk result (λ chosen. 1 ≤ chosen.options.workers) }
     ensures few { IfOk result (λ chosen. chosen.options.workers ≤ MOST_WORKERS) }
 {
@@ -140,7 +143,8 @@ fn choose(alloc: Global, matches: &ArgMatches) -> Result<Chosen, OptionsFault>
 /// that `clap` doesn't take is refused, and so is a call for help. Rule `program.options`.
 pub fn read_options<'a>(alloc: Global, words: &'a [String]) -> Result<Chosen, OptionsFault>
     ensures chosen { IfOk result (λ chosen. options_of (map string_bytes words.entry.now) ≡ Some chosen) }
-    ensures refused { IfErr result (λ fault. fault ≢ OptionsFault.Memory → options_of (map string_bytes words.entry.now) ≡ None) }
+    ensures refused { IfErr result
+        (λ fault. fault ≢ OptionsFault.Memory → options_of (map string_bytes words.entry.now) ≡ None) }
     ensures some { IfOk result (λ chosen. 1 ≤ chosen.options.workers) }
     ensures few { IfOk result (λ chosen. chosen.options.workers ≤ MOST_WORKERS) }
 {

@@ -40,7 +40,11 @@ impl<T> Model for Sender<T> {
 
     ghost Value = { Sends T };
 
-    ghost view = { λ s. record { lane = record { words = s.producer.end.words; slots = s.producer.end.slots; names = s.producer.end.names }; capacity = producer_capacity s.producer; sent = sent s.producer } };
+    ghost view = { λ s. record {
+      lane = record { words = s.producer.end.words; slots = s.producer.end.slots; names = s.producer.end.names };
+      capacity = producer_capacity s.producer;
+      sent = sent s.producer;
+    } };
 
     ghost invariant = { λ s. producer_capacity s.producer ≤ known_free s.producer + length (sent s.producer) };
 }
@@ -57,7 +61,11 @@ impl<T> Model for Taker<T> {
 
     ghost Value = { Takes T };
 
-    ghost view = { λ t. record { lane = record { words = t.consumer.end.words; slots = t.consumer.end.slots; names = t.consumer.end.names }; taken = received t.consumer; known = known_items t.consumer } };
+    ghost view = { λ t. record {
+      lane = record { words = t.consumer.end.words; slots = t.consumer.end.slots; names = t.consumer.end.names };
+      taken = received t.consumer;
+      known = known_items t.consumer;
+    } };
 }
 
 /// Names all that was sent on a lane.
@@ -72,7 +80,10 @@ impl<T> Model for SentAll<T> {
 
     ghost Value = { All T };
 
-    ghost view = { λ a. record { lane = record { words = a.finished.end.words; slots = a.finished.end.slots; names = a.finished.end.names }; sent = all_sent a.finished } };
+    ghost view = { λ a. record {
+      lane = record { words = a.finished.end.words; slots = a.finished.end.slots; names = a.finished.end.names };
+      sent = all_sent a.finished;
+    } };
 }
 
 /// The two ends of a new lane, which holds this many messages at once.
@@ -111,7 +122,8 @@ impl<T: Drop> Sender<T> {
 impl<T: Drop> Taker<T> {
     /// Takes the next message, if one is there.
     pub fn try_take(&mut self) -> Option<Message<T>>
-        ensures taken { IfSome result (λ message. (self.new.lane ≡ self.old.lane) × (self.new.taken ≡ self.old.taken ++ message ∷ [])) }
+        ensures taken { IfSome result
+            (λ message. (self.new.lane ≡ self.old.lane) × (self.new.taken ≡ self.old.taken ++ message ∷ [])) }
         ensures none { IfNone result ((self.new.lane ≡ self.old.lane) × (self.new.taken ≡ self.old.taken)) }
         ensures known { IfSome result (λ message. IsPrefix self.old.known (message ∷ self.new.known)) }
         ensures gives { 0 < length self.old.known → IsSome result }

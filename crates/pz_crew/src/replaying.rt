@@ -75,8 +75,16 @@ where
         thread::scope_env(),
         rt,
         |scope| -> Result<(Maker, Sessions<P::Piece>), ReplayFault>
-            requires { (1 ≤ crew.capacity) × (1 ≤ started) × (started ≤ MOST_WORKERS) × (maker.of ≡ table.now) × (maker.made ≡ 0) × (maker.joined ≡ 0) × (maker.numbers ≡ []) × (table.now.total ≡ length (P.sessions played.now)) × (blank ≡ replicate (length (P.sessions played.now)) []) }
-            ensures { IfOk result (λ made. IsAll (P.sessions played.entry.now) table.entry.now started made.0 made.1) × IfOk result (λ made. MayPassFor (G.may_pass gate.entry.now) (P.sessions played.entry.now) made.0.numbers) × (result ≡ Err ReplayFault.GateClosed → HasStop (G.may_stop gate.entry.now) (P.sessions played.entry.now)) × (result ≢ Err ReplayFault.Workers) }
+            requires { (1 ≤ crew.capacity) × (1 ≤ started) × (started ≤ MOST_WORKERS) × (maker.of ≡ table.now) ×
+                (maker.made ≡ 0) × (maker.joined ≡ 0) × (maker.numbers ≡ []) ×
+                (table.now.total ≡ length (P.sessions played.now)) ×
+                (blank ≡ replicate (length (P.sessions played.now)) []) }
+            ensures { IfOk result (λ made. IsAll (P.sessions played.entry.now) table.entry.now started made.0 made.1) ×
+                IfOk result (λ made. MayPassFor (G.may_pass gate.entry.now)
+                (P.sessions played.entry.now) made.0.numbers) ×
+                (result ≡ Err ReplayFault.GateClosed →
+                HasStop (G.may_stop gate.entry.now) (P.sessions played.entry.now)) ×
+                (result ≢ Err ReplayFault.Workers) }
         {
             let shared = Shared {
                 rt,

@@ -60,11 +60,16 @@ fn send_pieces<U: Playing, R: Wait, G: Gate>(
     run: &mut U,
     gate: &G,
 ) -> Result<(), End>
-    ensures whole { OnOk result (sender.new ≡ record sender.old { sent = sender.old.sent ++ messages_of session (U.left run.old) }) }
+    ensures whole { OnOk result
+        (sender.new ≡ record sender.old { sent = sender.old.sent ++ messages_of session (U.left run.old) }) }
     ensures passed { OnOk result (MayPassUpTo (G.may_pass gate.now) session (length (U.left run.old))) }
-    ensures part { IfErr result (λ _. (count : ℕ) × (sender.new ≡ record sender.old { sent = sender.old.sent ++ take count (messages_of session (U.left run.old)) }) × MayPassUpTo (G.may_pass gate.now) session count) }
+    ensures part { IfErr result
+        (λ _. (count : ℕ) × (sender.new ≡
+        record sender.old { sent = sender.old.sent ++ take count (messages_of session (U.left run.old)) }) ×
+        MayPassUpTo (G.may_pass gate.now) session count) }
     ensures broken { IfErr result (λ end. end ≢ Finished) }
-    ensures closed { IfErr result (λ end. end ≡ GateClosed → HasStopIn (G.may_stop gate.now) session (length (U.left run.old))) }
+    ensures closed { IfErr result
+        (λ end. end ≡ GateClosed → HasStopIn (G.may_stop gate.now) session (length (U.left run.old))) }
 {
     for number in 0..u64::MAX {
         match run.next() {
@@ -93,11 +98,24 @@ fn play<P: Playable, R: Wait, G: Gate>(
     session: usize,
 ) -> Result<(), End>
     requires { session < length (P.sessions duty.now.played.now) }
-    ensures whole { OnOk result (sender.new ≡ record sender.old { sent = sender.old.sent ++ messages_of session (pieces_at (P.sessions duty.now.played.now) session) }) }
+    ensures whole { OnOk result
+        (sender.new ≡ record sender.old {
+          sent = sender.old.sent ++ messages_of session
+              (pieces_at (P.sessions duty.now.played.now) session);
+        }) }
     ensures passed { OnOk result (MayPassIn (G.may_pass duty.now.gate.now) (P.sessions duty.now.played.now) session) }
-    ensures part { IfErr result (λ _. (count : ℕ) × (sender.new ≡ record sender.old { sent = sender.old.sent ++ take count (messages_of session (pieces_at (P.sessions duty.now.played.now) session)) }) × MayPassUpTo (G.may_pass duty.now.gate.now) session count) }
+    ensures part { IfErr result
+        (λ _. (count : ℕ) × (sender.new ≡
+        record sender.old {
+          sent = sender.old.sent ++ take count
+              (messages_of session (pieces_at (P.sessions duty.now.played.now) session));
+        }) ×
+        MayPassUpTo (G.may_pass duty.now.gate.now) session count) }
     ensures broken { IfErr result (λ end. end ≢ Finished) }
-    ensures closed { IfErr result (λ end. end ≡ GateClosed → HasStopIn (G.may_stop duty.now.gate.now) session (length (pieces_at (P.sessions duty.now.played.now) session))) }
+    ensures closed { IfErr result
+        (λ end. end ≡ GateClosed →
+        HasStopIn (G.may_stop duty.now.gate.now) session
+        (length (pieces_at (P.sessions duty.now.played.now) session))) }
 {
     let Ok(mut run) = duty.played.begin(duty.alloc, session) else {
         return Err(End::Memory);
@@ -115,7 +133,8 @@ fn end_work<T: Drop, R: Wait>(
 ) -> Worked<T>
     ensures end { result.end ≡ end }
     ensures ended { result.ended ≡ ended }
-    ensures sent { IfSome result.sent (λ all. all ≡ record { lane = sender.lane; sent = sender.sent ++ Last end ∷ [] }) }
+    ensures sent { IfSome result.sent
+        (λ all. all ≡ record { lane = sender.lane; sent = sender.sent ++ Last end ∷ [] }) }
 {
     let mut sender = sender;
     send(rt, bell, &mut sender, Message::Last(end));

@@ -46,7 +46,9 @@ struct Task<'a, P: Playable, G> {
 }
 
 impl<'a, P: Playable, G: Gate> Promise<Worked<P::Piece>> for Task<'a, P, G> {
-    ghost kept_by = { λ task worked. Keeps task.claims.now (P.sessions task.played.now) (G.may_pass task.gate.now) (G.may_stop task.gate.now) task.lane.value.lane worked };
+    ghost kept_by = { λ task worked.
+        Keeps task.claims.now (P.sessions task.played.now) (G.may_pass task.gate.now)
+        (G.may_stop task.gate.now) task.lane.value.lane worked };
 }
 
 /// A worker that was started: it runs in a thread of its own, or has run in the calling one.
@@ -70,8 +72,14 @@ where
     requires seat { (seat.of ≡ shared.now.claims.now) × (seat.numbers ≡ []) }
     requires sender { sender.sent ≡ [] }
     requires job { shared.now.claims.now.total ≡ length (P.sessions shared.now.played.now) }
-    ensures runs { IfSome result (λ started. IfRuns started (λ h. (h.promise.claims.now ≡ shared.now.claims.now) × (h.promise.played.now ≡ shared.now.played.now) × (h.promise.gate.now ≡ shared.now.gate.now) × (h.promise.lane.value.lane ≡ sender.lane))) }
-    ensures has_run { IfSome result (λ started. IfHasRun started (Keeps shared.now.claims.now (P.sessions shared.now.played.now) (G.may_pass shared.now.gate.now) (G.may_stop shared.now.gate.now) sender.lane)) }
+    ensures runs { IfSome result
+        (λ started. IfRuns started
+        (λ h. (h.promise.claims.now ≡ shared.now.claims.now) × (h.promise.played.now ≡ shared.now.played.now) ×
+        (h.promise.gate.now ≡ shared.now.gate.now) × (h.promise.lane.value.lane ≡ sender.lane))) }
+    ensures has_run { IfSome result
+        (λ started. IfHasRun started
+        (Keeps shared.now.claims.now (P.sessions shared.now.played.now) (G.may_pass shared.now.gate.now)
+        (G.may_stop shared.now.gate.now) sender.lane)) }
 {
     let (rt, alloc) = (shared.rt, shared.alloc);
     let (claims, played, gate) = (shared.claims, shared.played, shared.gate);
@@ -83,8 +91,10 @@ where
         lane: Snapshot::of(&sender),
     };
     let run = move || -> Worked<P::Piece>
-        requires { (seat.of ≡ claims.now) × (seat.numbers ≡ []) × (sender.sent ≡ []) × (claims.now.total ≡ length (P.sessions played.now)) }
-        ensures { Keeps claims.entry.now (P.sessions played.entry.now) (G.may_pass gate.entry.now) (G.may_stop gate.entry.now) sender.lane result }
+        requires { (seat.of ≡ claims.now) × (seat.numbers ≡ []) × (sender.sent ≡ []) ×
+            (claims.now.total ≡ length (P.sessions played.now)) }
+        ensures { Keeps claims.entry.now (P.sessions played.entry.now) (G.may_pass gate.entry.now)
+            (G.may_stop gate.entry.now) sender.lane result }
     {
         let duty = Duty {
             alloc,
@@ -114,9 +124,14 @@ fn join<'e, P: Playable + Sync, R: Threads + Wait + Sync, G: Gate + Sync>(
     lane: Snapshot<Sender<P::Piece>>,
     started: Started<PromisedHandle<Worked<P::Piece>, Task<'e, P, G>>, P::Piece>,
 ) -> Worked<P::Piece>
-    requires runs { IfRuns started (λ h. (h.promise.claims.now ≡ shared.now.claims.now) × (h.promise.played.now ≡ shared.now.played.now) × (h.promise.gate.now ≡ shared.now.gate.now) × (h.promise.lane.value.lane ≡ lane.value.lane)) }
-    requires has_run { IfHasRun started (Keeps shared.now.claims.now (P.sessions shared.now.played.now) (G.may_pass shared.now.gate.now) (G.may_stop shared.now.gate.now) lane.value.lane) }
-    ensures { Keeps shared.now.claims.now (P.sessions shared.now.played.now) (G.may_pass shared.now.gate.now) (G.may_stop shared.now.gate.now) lane.value.lane result }
+    requires runs { IfRuns started
+        (λ h. (h.promise.claims.now ≡ shared.now.claims.now) × (h.promise.played.now ≡ shared.now.played.now) ×
+        (h.promise.gate.now ≡ shared.now.gate.now) × (h.promise.lane.value.lane ≡ lane.value.lane)) }
+    requires has_run { IfHasRun started
+        (Keeps shared.now.claims.now (P.sessions shared.now.played.now) (G.may_pass shared.now.gate.now)
+        (G.may_stop shared.now.gate.now) lane.value.lane) }
+    ensures { Keeps shared.now.claims.now (P.sessions shared.now.played.now) (G.may_pass shared.now.gate.now)
+        (G.may_stop shared.now.gate.now) lane.value.lane result }
 {
     match started {
         Started::Runs(worker) => worker.join(shared.rt),
@@ -135,7 +150,9 @@ fn gather<T: Drop, R: Wait>(
     requires { IsRecorded inboxes.old.items sessions }
     ensures lanes { map lane_of inboxes.new.items ≡ map lane_of inboxes.old.items }
     ensures ended { All IsHonest inboxes.new.items × All HasEnded inboxes.new.items }
-    ensures done { IfOk result (λ made. (made.0 ≡ maker) × Gathered (map taken_of inboxes.new.items) made.1 × IfSome sessions (λ s. length made.1 ≡ length s) × IsSome sessions) }
+    ensures done { IfOk result
+        (λ made. (made.0 ≡ maker) × Gathered (map taken_of inboxes.new.items) made.1 ×
+        IfSome sessions (λ s. length made.1 ≡ length s) × IsSome sessions) }
     ensures fault { IfErr result (λ fault. fault ≡ ReplayFault.Memory) }
 {
     let mut sessions = sessions;
@@ -191,13 +208,18 @@ fn settle<P: Playable>(
     requires maker { IfOk below (λ made. made.0.of ≡ claims.now) }
     requires worked { IsWorked claims.now (P.sessions played.now) inbox.taker.lane worked }
     requires inbox { IsHonest inbox × HasEnded inbox }
-    ensures settled { IfOk result (λ made. IfOk below (λ before. IsSettled (P.sessions played.now) inbox before.0 before.1 made.0 made.1)) }
+    ensures settled { IfOk result
+        (λ made. IfOk below (λ before. IsSettled (P.sessions played.now) inbox before.0 before.1 made.0 made.1)) }
     ensures below { IfOk result (λ _. IsOk below) }
-    ensures joined { IfOk result (λ made. IfOk below (λ before. IfSome worked.ended (λ ended. made.0.numbers ≡ before.0.numbers ++ ended.numbers) × IsSome worked.ended)) }
+    ensures joined { IfOk result
+        (λ made. IfOk below (λ before.
+        IfSome worked.ended (λ ended. made.0.numbers ≡ before.0.numbers ++ ended.numbers) × IsSome worked.ended)) }
     ensures first { fault_in result ≡ first_fault (fault_in below) (fault_of worked) }
     ensures workers { result ≡ Err ReplayFault.Workers → below ≡ Err ReplayFault.Workers }
     ensures lost { result ≡ Err ReplayFault.LaneLost → (worked.sent ≡ None) ⊎ (below ≡ Err ReplayFault.LaneLost) }
-    ensures closed { IfErr result (λ fault. fault ≡ ReplayFault.GateClosed → (worked.end ≡ End.GateClosed) ⊎ (below ≡ Err ReplayFault.GateClosed)) }
+    ensures closed { IfErr result
+        (λ fault. fault ≡ ReplayFault.GateClosed → (worked.end ≡ End.GateClosed) ⊎
+        (below ≡ Err ReplayFault.GateClosed)) }
 {
     if let Some(fault) = first_fault(&below, &worked) {
         drop(below);
@@ -231,7 +253,8 @@ fn open_lane<T: Drop>(
     inboxes: &mut Vec<Inbox<T>>,
 ) -> Option<Sender<T>>
     requires { 1 ≤ capacity }
-    ensures some { IfSome result (λ sender. (sender.sent ≡ []) × IsOpened inboxes.old.items inboxes.new.items sender.lane) }
+    ensures some { IfSome result
+        (λ sender. (sender.sent ≡ []) × IsOpened inboxes.old.items inboxes.new.items sender.lane) }
     ensures none { IfNone result (inboxes.new.items ≡ inboxes.old.items) }
 {
     let (sender, taker) = lane(alloc, capacity).ok()?;
@@ -260,13 +283,18 @@ where
     requires capacity { 1 ≤ shared.now.capacity }
     requires maker { (maker.of ≡ shared.now.claims.now) × (maker.made + left ≤ MOST_SEATS) }
     requires job { shared.now.claims.now.total ≡ length (P.sessions shared.now.played.now) }
-    requires recorded { IsRecorded inboxes.old.items sessions × IfSome sessions (λ s. length s ≡ length (P.sessions shared.now.played.now)) }
+    requires recorded { IsRecorded inboxes.old.items sessions ×
+        IfSome sessions (λ s. length s ≡ length (P.sessions shared.now.played.now)) }
     ensures lanes { map lane_of inboxes.new.items ≡ map lane_of inboxes.old.items }
     ensures ended { All IsHonest inboxes.new.items × All HasEnded inboxes.new.items }
-    ensures whole { IfOk result (λ made. IsDone (P.sessions shared.now.played.now) maker left inboxes.new.items made.0 made.1) }
+    ensures whole { IfOk result
+        (λ made. IsDone (P.sessions shared.now.played.now) maker left inboxes.new.items made.0 made.1) }
     ensures workers { result ≢ Err ReplayFault.Workers }
-    ensures passed { MayPassFor (G.may_pass shared.now.gate.now) (P.sessions shared.now.played.now) maker.numbers → IfOk result (λ made. MayPassFor (G.may_pass shared.now.gate.now) (P.sessions shared.now.played.now) made.0.numbers) }
-    ensures closed { result ≡ Err ReplayFault.GateClosed → HasStop (G.may_stop shared.now.gate.now) (P.sessions shared.now.played.now) }
+    ensures passed { MayPassFor (G.may_pass shared.now.gate.now) (P.sessions shared.now.played.now) maker.numbers →
+        IfOk result (λ made. MayPassFor (G.may_pass shared.now.gate.now)
+        (P.sessions shared.now.played.now) made.0.numbers) }
+    ensures closed { result ≡ Err ReplayFault.GateClosed →
+        HasStop (G.may_stop shared.now.gate.now) (P.sessions shared.now.played.now) }
 {
     let rt = shared.rt;
     if left == 0 {
@@ -308,9 +336,12 @@ where
     requires job { shared.now.claims.now.total ≡ length (P.sessions shared.now.played.now) }
     requires blank { blank ≡ replicate (length (P.sessions shared.now.played.now)) [] }
     ensures workers { result ≢ Err ReplayFault.Workers }
-    ensures all { IfOk result (λ made. IsAll (P.sessions shared.now.played.now) shared.now.claims.now workers made.0 made.1) }
-    ensures passed { IfOk result (λ made. MayPassFor (G.may_pass shared.now.gate.now) (P.sessions shared.now.played.now) made.0.numbers) }
-    ensures closed { result ≡ Err ReplayFault.GateClosed → HasStop (G.may_stop shared.now.gate.now) (P.sessions shared.now.played.now) }
+    ensures all { IfOk result
+        (λ made. IsAll (P.sessions shared.now.played.now) shared.now.claims.now workers made.0 made.1) }
+    ensures passed { IfOk result
+        (λ made. MayPassFor (G.may_pass shared.now.gate.now) (P.sessions shared.now.played.now) made.0.numbers) }
+    ensures closed { result ≡ Err ReplayFault.GateClosed →
+        HasStop (G.may_stop shared.now.gate.now) (P.sessions shared.now.played.now) }
 {
     let mut inboxes = Vec::new(shared.alloc);
     run_workers(scope, shared, maker, workers, &mut inboxes, Some(blank))

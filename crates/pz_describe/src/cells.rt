@@ -77,7 +77,8 @@ fn add_each(
     places: &[u32],
 ) -> Result<(), AllocError>
     requires { All (λ place. place < length texts.now) places.now }
-    ensures { OnOk result (distinct.new ≡ fold with_cell distinct.old (map (λ place. slice_index_or texts.now place []) places.now)) }
+    ensures { OnOk result (distinct.new ≡
+        fold with_cell distinct.old (map (λ place. slice_index_or texts.now place []) places.now)) }
 {
     let mut noted = vec![in alloc; false; texts.len()]?;
     for place in places {
@@ -99,7 +100,8 @@ fn places_of(alloc: Global, distinct: &Distinct, texts: &[Text]) -> Result<Vec<u
 /// Puts the number of each cell.
 fn put_numbers(page: &mut Page, numbers: &[usize], places: &[u32]) -> Result<(), AllocError>
     requires { All (λ place. place < length numbers.now) places.now }
-    ensures { OnOk result (page.new ≡ page.old ++ flat_map (λ place. numeral (slice_index_or numbers.now place 0)) places.now) }
+    ensures { OnOk result (page.new ≡
+        page.old ++ flat_map (λ place. numeral (slice_index_or numbers.now place 0)) places.now) }
 {
     for place in places {
         page.number(numbers[*place as usize] as u64)?;
@@ -116,7 +118,9 @@ fn put_places(
     places: &[u32],
 ) -> Result<(), AllocError>
     requires { All (λ place. place < length texts.now) places.now }
-    ensures { OnOk result (page.new ≡ page.old ++ numbers_array (map (place_in known.now) (map (λ place. slice_index_or texts.now place []) places.now))) }
+    ensures { OnOk result (page.new ≡
+        page.old ++ numbers_array
+        (map (place_in known.now) (map (λ place. slice_index_or texts.now place []) places.now))) }
 {
     let numbers = places_of(alloc, known, texts)?;
     page.begin_array()?;
@@ -133,7 +137,8 @@ fn put_numbered(
     places: &[u32],
 ) -> Result<(), AllocError>
     requires { All (λ place. place < length texts.now) places.now }
-    ensures { OnOk result (page.new ≡ page.old ++ numbered_tokens known.now (map (λ place. slice_index_or texts.now place []) places.now)) }
+    ensures { OnOk result (page.new ≡
+        page.old ++ numbered_tokens known.now (map (λ place. slice_index_or texts.now place []) places.now)) }
 {
     page.begin_object()?;
     page.key("cells")?;
@@ -151,7 +156,8 @@ fn put_cells(
     places: &[u32],
 ) -> Result<(), AllocError>
     requires { All (λ place. place < length texts.now) places.now }
-    ensures { OnOk result (page.new ≡ page.old ++ cells_tokens (map (λ place. slice_index_or texts.now place []) places.now)) }
+    ensures { OnOk result (page.new ≡
+        page.old ++ cells_tokens (map (λ place. slice_index_or texts.now place []) places.now)) }
 {
     let mut known = Distinct::new(alloc);
     add_each(alloc, &mut known, texts, places)?;

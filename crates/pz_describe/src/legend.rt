@@ -78,7 +78,8 @@ fn put_definition(
     line: &Line,
     definition: &Definition,
 ) -> Result<(), AllocError>
-    ensures { OnOk result (page.new ≡ page.old ++ option_map_or (definition_tokens reading.now line.now definition.now) (sides line.now.text) []) }
+    ensures { OnOk result (page.new ≡
+        page.old ++ option_map_or (definition_tokens reading.now line.now definition.now) (sides line.now.text) []) }
 {
     let Some((left, right)) = sides(line.text.items()) else {
         return Ok(());
@@ -129,7 +130,8 @@ pub(crate) fn put_legend(
     reading: &Reading,
     lines: &[Line],
 ) -> Result<(), AllocError>
-    ensures { OnOk result (page.new ≡ page.old ++ key (codes "legend") ∷ array (flat_map (legend_tokens reading.now) lines.now)) }
+    ensures { OnOk result (page.new ≡
+        page.old ++ key (codes "legend") ∷ array (flat_map (legend_tokens reading.now) lines.now)) }
 {
     page.key("legend")?;
     page.begin_array()?;

@@ -165,7 +165,8 @@ fn put_paragraphs(
     lines: &[Line],
     paragraphs: &[Paragraph],
 ) -> Result<(), AllocError>
-    ensures { OnOk result (page.new ≡ page.old ++ flat_map (paragraph_tokens reading.now lines.now) (enumerate_from 0 paragraphs.now)) }
+    ensures { OnOk result (page.new ≡
+        page.old ++ flat_map (paragraph_tokens reading.now lines.now) (enumerate_from 0 paragraphs.now)) }
 {
     for (place, paragraph) in paragraphs.iter().enumerate() {
         put_object(

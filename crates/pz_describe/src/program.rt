@@ -17,7 +17,8 @@ fn put_instances(
     rules: &[RuleLine],
     instances: &[Instance],
 ) -> Result<(), AllocError>
-    ensures { OnOk result (page.new ≡ page.old ++ flat_map (λ instance. numeral (line_of rules.now instance)) instances.now) }
+    ensures { OnOk result (page.new ≡
+        page.old ++ flat_map (λ instance. numeral (line_of rules.now instance)) instances.now) }
 {
     for instance in instances {
         page.number(line_of(rules, instance) as u64)?;

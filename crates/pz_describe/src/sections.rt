@@ -36,7 +36,8 @@ fn put_layer_lines(page: &mut Page, lines: &[NameLine]) -> Result<(), AllocError
 
 /// Puts the layers.
 pub(crate) fn put_layers(alloc: Global, page: &mut Page, lines: &[Line]) -> Result<(), AllocError>
-    ensures { OnOk result (page.new ≡ page.old ++ key (codes "layers") ∷ array (flat_map layer_tokens (layer_lines lines.now))) }
+    ensures { OnOk result (page.new ≡
+        page.old ++ key (codes "layers") ∷ array (flat_map layer_tokens (layer_lines lines.now))) }
 {
     let layers = layer_lines(alloc, lines)?;
     page.key("layers")?;

@@ -80,7 +80,8 @@ fn add_item(
     item: &Item,
     from: u64,
 ) -> Result<(), AllocError>
-    ensures lines { OnOk result (written.new.lines ≡ written.old.lines ++ line_from from session name.now written.old.frames item.now) }
+    ensures lines { OnOk result
+        (written.new.lines ≡ written.old.lines ++ line_from from session name.now written.old.frames item.now) }
     ensures frames { OnOk result (written.new.frames ≡ written.old.frames + frame_count (item.now ∷ [])) }
     ensures passed { OnOk result (written.new.passed ≡ (written.old.passed || is_pass item.now)) }
 {

@@ -20,7 +20,8 @@ fn folded_name(alloc: Global, name: &[u8]) -> Result<Vec<u8>, AllocError>
 }
 
 fn insert(names: &mut BTreeSet<Vec<u8>>, name: Vec<u8>) -> Result<(), AllocError>
-    ensures { OnOk result (map (λ held. held.items) names.new.keys ≡ with_name (map (λ held. held.items) names.old.keys) name.items) }
+    ensures { OnOk result (map (λ held. held.items) names.new.keys ≡
+        with_name (map (λ held. held.items) names.old.keys) name.items) }
 {
     names.insert(name)?;
     Ok(())
@@ -28,7 +29,8 @@ fn insert(names: &mut BTreeSet<Vec<u8>>, name: Vec<u8>) -> Result<(), AllocError
 
 #[tactic(auto, unfolding(crate::specs::Names::with_word))]
 fn add_word(alloc: Global, names: &mut BTreeSet<Vec<u8>>, word: &[u8]) -> Result<(), AllocError>
-    ensures { OnOk result (map (λ held. held.items) names.new.keys ≡ with_word (map (λ held. held.items) names.old.keys) word.now) }
+    ensures { OnOk result (map (λ held. held.items) names.new.keys ≡
+        with_word (map (λ held. held.items) names.old.keys) word.now) }
 {
     if word.is_empty() {
         return Ok(());

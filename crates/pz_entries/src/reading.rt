@@ -25,9 +25,11 @@ fn read_piece(
     piece: &[u8],
 ) -> Result<Option<usize>, AllocError>
     ensures reads { IfOk result (λ answer. MatchOption answer (read_piece sets.old.items piece.now ≡ None)
-        (λ place. read_piece sets.old.items piece.now ≡ Some (slice_index_or sets.new.items place [], sets.new.items))) }
+        (λ place. read_piece sets.old.items piece.now ≡ Some
+        (slice_index_or sets.new.items place [], sets.new.items))) }
     ensures within { IfOk result (λ answer. IfSome answer (λ place. place < length sets.new.items)) }
-    ensures kept { IfOk result (λ answer. IfSome answer (λ _. take (length sets.old.items) sets.new.items ≡ sets.old.items)) }
+    ensures kept { IfOk result
+        (λ answer. IfSome answer (λ _. take (length sets.old.items) sets.new.items ≡ sets.old.items)) }
 {
     let count = sets.len();
     match cut_last(piece) {

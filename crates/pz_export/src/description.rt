@@ -70,7 +70,8 @@ pub extern "C" fn saxtegun_description(
     outcome: &mut Outcome,
 ) -> usize
     ensures size { length room.new ≡ length room.old }
-    ensures answered { outcome.new.status ≢ REFUSED → IsDescribed (description_of source.now) room.old room.new outcome.new result }
+    ensures answered { outcome.new.status ≢ REFUSED →
+        IsDescribed (description_of source.now) room.old room.new outcome.new result }
     ensures refused { outcome.new.status ≡ REFUSED → IsUndescribed source.now room.old room.new outcome.new result }
 {
     tell(described(alloc, source), room, outcome)
@@ -86,7 +87,8 @@ pub extern "C" fn saxtegun_level_description(
     outcome: &mut Outcome,
 ) -> usize
     ensures size { length room.new ≡ length room.old }
-    ensures answered { outcome.new.status ≢ REFUSED → IsDescribed (level_description_of level.now) room.old room.new outcome.new result }
+    ensures answered { outcome.new.status ≢ REFUSED →
+        IsDescribed (level_description_of level.now) room.old room.new outcome.new result }
     ensures refused { outcome.new.status ≡ REFUSED → IsUndescribed level.now room.old room.new outcome.new result }
 {
     tell(described_level(alloc, level), room, outcome)

@@ -70,7 +70,8 @@ pub extern "C" fn saxtegun_lines(
     outcome: &mut Outcome,
 ) -> usize
     ensures size { length room.new ≡ length room.old }
-    ensures answered { outcome.new.status ≢ REFUSED → IsAnswered text_of (order_of order) file.now room.old room.new outcome.new result }
+    ensures answered { outcome.new.status ≢ REFUSED →
+        IsAnswered text_of (order_of order) file.now room.old room.new outcome.new result }
     ensures refused { outcome.new.status ≡ REFUSED → IsRefused file.now room.old room.new outcome.new result }
 {
     tell(lines(alloc, file, order_of(order)), room, outcome)
@@ -88,7 +89,8 @@ pub extern "C" fn saxtegun_frames(
     outcome: &mut Outcome,
 ) -> usize
     ensures size { length room.new ≡ length room.old }
-    ensures answered { outcome.new.status ≢ REFUSED → IsAnswered (text_from from) (order_of order) file.now room.old room.new outcome.new result }
+    ensures answered { outcome.new.status ≢ REFUSED →
+        IsAnswered (text_from from) (order_of order) file.now room.old room.new outcome.new result }
     ensures refused { outcome.new.status ≡ REFUSED → IsRefused file.now room.old room.new outcome.new result }
 {
     tell(
@@ -138,7 +140,8 @@ pub extern "C" fn saxtegun_stages(
     outcome: &mut Outcome,
 ) -> usize
     ensures size { length room.new ≡ length room.old }
-    ensures answered { outcome.new.status ≢ REFUSED → IsStaged Stages (order_of order) file.now session number room.old room.new outcome.new result }
+    ensures answered { outcome.new.status ≢ REFUSED →
+        IsStaged Stages (order_of order) file.now session number room.old room.new outcome.new result }
     ensures refused { outcome.new.status ≡ REFUSED → IsRefused file.now room.old room.new outcome.new result }
 {
     tell(
@@ -168,7 +171,8 @@ pub extern "C" fn saxtegun_firings(
     outcome: &mut Outcome,
 ) -> usize
     ensures size { length room.new ≡ length room.old }
-    ensures answered { outcome.new.status ≢ REFUSED → IsStaged Firings (order_of order) file.now session number room.old room.new outcome.new result }
+    ensures answered { outcome.new.status ≢ REFUSED →
+        IsStaged Firings (order_of order) file.now session number room.old room.new outcome.new result }
     ensures refused { outcome.new.status ≡ REFUSED → IsRefused file.now room.old room.new outcome.new result }
 {
     tell(

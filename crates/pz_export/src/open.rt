@@ -83,7 +83,8 @@ fn tell_call(
 
 /// The sessions of a place, which holds none while they are away. The first that are asked for are none. Err: memory was refused.
 fn take_sessions(alloc: Global, held: &mut Held) -> Option<&'static mut OpenSessions>
-    ensures taken { MatchOption result (held.new.value ≡ held.old.value) (λ sessions. sessions.now ≡ held_in held.old.value) }
+    ensures taken { MatchOption result (held.new.value ≡ held.old.value)
+        (λ sessions. sessions.now ≡ held_in held.old.value) }
 {
     match replace(held, Held::none()).into_ref() {
         Some(sessions) => Some(sessions),
@@ -109,8 +110,11 @@ pub extern "C" fn saxtegun_open(
     outcome: &mut Outcome,
 ) -> usize
     ensures size { length room.new ≡ length room.old }
-    ensures opened { outcome.new.status ≢ REFUSED → IsOpenedFor (order_of order) file.now session (held_in held.old.value) (held_in held.new.value) room.old room.new outcome.new result }
-    ensures refused { outcome.new.status ≡ REFUSED → IsNotOpened file.now (held_in held.old.value) (held_in held.new.value) room.old room.new outcome.new result }
+    ensures opened { outcome.new.status ≢ REFUSED →
+        IsOpenedFor (order_of order) file.now session (held_in held.old.value)
+        (held_in held.new.value) room.old room.new outcome.new result }
+    ensures refused { outcome.new.status ≡ REFUSED →
+        IsNotOpened file.now (held_in held.old.value) (held_in held.new.value) room.old room.new outcome.new result }
 {
     let Some(sessions) = take_sessions(alloc, held) else {
         *outcome = refused(FileFault::Memory);
@@ -130,7 +134,8 @@ pub extern "C" fn saxtegun_open(
 
 /// Gives the session of a number inputs, each by its byte.
 fn give(alloc: Global, held: &mut Held, number: usize, bytes: &[u8]) -> Result<Vec<u8>, CallFault>
-    ensures given { IfOk result (λ lines. GivesBytes number bytes.now (held_in held.old.value) (held_in held.new.value) lines.items) }
+    ensures given { IfOk result
+        (λ lines. GivesBytes number bytes.now (held_in held.old.value) (held_in held.new.value) lines.items) }
     ensures why { IfErr result (λ cause. IsNotGivenFor cause (open_at (held_in held.old.value) number) bytes.now) }
     ensures same { OnErr result (held_in held.new.value ≡ held_in held.old.value) }
 {
@@ -161,8 +166,12 @@ pub extern "C" fn saxtegun_give(
     outcome: &mut Outcome,
 ) -> usize
     ensures size { length room.new ≡ length room.old }
-    ensures given { outcome.new.status ≢ REFUSED → IsGiven number inputs.now (held_in held.old.value) (held_in held.new.value) room.old room.new outcome.new result }
-    ensures refused { outcome.new.status ≡ REFUSED → IsNotGiven number inputs.now (held_in held.old.value) (held_in held.new.value) room.old room.new outcome.new result }
+    ensures given { outcome.new.status ≢ REFUSED →
+        IsGiven number inputs.now (held_in held.old.value)
+        (held_in held.new.value) room.old room.new outcome.new result }
+    ensures refused { outcome.new.status ≡ REFUSED →
+        IsNotGiven number inputs.now (held_in held.old.value)
+        (held_in held.new.value) room.old room.new outcome.new result }
 {
     let number = number as usize;
     tell_call(number, give(alloc, held, number, inputs), room, outcome)
@@ -170,7 +179,9 @@ pub extern "C" fn saxtegun_give(
 
 /// Leads the session of a number back to its first inputs.
 fn back(held: &mut Held, number: usize, inputs: usize) -> Result<Vec<u8>, SessionFault>
-    ensures back { IfOk result (λ lines. IsDoneAt number (λ old new. GoesBack inputs old new lines.items) (held_in held.old.value) (held_in held.new.value)) }
+    ensures back { IfOk result
+        (λ lines. IsDoneAt number (λ old new. GoesBack inputs old new lines.items) (held_in held.old.value)
+        (held_in held.new.value)) }
     ensures why { IfErr result (λ cause. GoesNot cause (open_at (held_in held.old.value) number) inputs) }
     ensures same { OnErr result (held_in held.new.value ≡ held_in held.old.value) }
 {
@@ -193,8 +204,10 @@ pub extern "C" fn saxtegun_back(
     outcome: &mut Outcome,
 ) -> usize
     ensures size { length room.new ≡ length room.old }
-    ensures back { outcome.new.status ≢ REFUSED → IsBack number inputs (held_in held.old.value) (held_in held.new.value) room.old room.new outcome.new result }
-    ensures refused { outcome.new.status ≡ REFUSED → IsNotBack number inputs (held_in held.old.value) (held_in held.new.value) room.old room.new outcome.new result }
+    ensures back { outcome.new.status ≢ REFUSED →
+        IsBack number inputs (held_in held.old.value) (held_in held.new.value) room.old room.new outcome.new result }
+    ensures refused { outcome.new.status ≡ REFUSED →
+        IsNotBack number inputs (held_in held.old.value) (held_in held.new.value) room.old room.new outcome.new result }
 {
     let number = number as usize;
     let answer = back(held, number, inputs as usize).map_err(|why| CallFault::OfSession(why));
@@ -204,7 +217,8 @@ pub extern "C" fn saxtegun_back(
 /// A copy of the session of a number, opened; its number.
 fn copy(held: &mut Held, number: usize) -> Result<usize, SessionFault>
     ensures copied { IfOk result (λ copy. copy ≡ length (held_in held.old.value)) }
-    ensures behind { OnOk result (held_in held.new.value ≡ held_in held.old.value ++ open_at (held_in held.old.value) number ∷ []) }
+    ensures behind { OnOk result
+        (held_in held.new.value ≡ held_in held.old.value ++ open_at (held_in held.old.value) number ∷ []) }
     ensures why { IfErr result (λ cause. CopiesNot cause (open_at (held_in held.old.value) number)) }
     ensures same { OnErr result (held_in held.new.value ≡ held_in held.old.value) }
 {
@@ -221,8 +235,10 @@ fn copy(held: &mut Held, number: usize) -> Result<usize, SessionFault>
 /// all sessions as they were.
 #[unsafe(no_mangle)]
 pub extern "C" fn saxtegun_copy(held: &mut Held, number: u32, outcome: &mut Outcome)
-    ensures copied { outcome.new.status ≢ REFUSED → IsCopied number (held_in held.old.value) (held_in held.new.value) outcome.new }
-    ensures refused { outcome.new.status ≡ REFUSED → IsNotCopied number (held_in held.old.value) (held_in held.new.value) outcome.new }
+    ensures copied { outcome.new.status ≢ REFUSED →
+        IsCopied number (held_in held.old.value) (held_in held.new.value) outcome.new }
+    ensures refused { outcome.new.status ≡ REFUSED →
+        IsNotCopied number (held_in held.old.value) (held_in held.new.value) outcome.new }
 {
     *outcome = match copy(held, number as usize) {
         Ok(copy) => done(copy),

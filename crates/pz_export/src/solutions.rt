@@ -38,7 +38,8 @@ pub extern "C" fn saxtegun_solutions(
     outcome: &mut Outcome,
 ) -> usize
     ensures size { length room.new ≡ length room.old }
-    ensures solved { outcome.new.status ≢ REFUSED → IsSolvedFile (bounded_by levels bytes) file.now room.old room.new outcome.new result }
+    ensures solved { outcome.new.status ≢ REFUSED →
+        IsSolvedFile (bounded_by levels bytes) file.now room.old room.new outcome.new result }
     ensures refused { outcome.new.status ≡ REFUSED → IsRefused file.now room.old room.new outcome.new result }
 {
     let bounds = Bounds {

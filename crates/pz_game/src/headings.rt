@@ -66,7 +66,8 @@ pub fn heading(set: &[u128], layer: usize) -> Option<Dir>
 pub fn set(set: &mut [u128], layer: usize, dir: Dir)
     requires low { layer < MOST_LAYERS }
     requires within { layer / 25 < length set.old }
-    ensures heads { (other : ℕ) (way : Dir) → heads set.new other way ≡ ((nat_eq other layer && same_dir dir way) || heads set.old other way) }
+    ensures heads { (other : ℕ) (way : Dir) →
+        heads set.new other way ≡ ((nat_eq other layer && same_dir dir way) || heads set.old other way) }
     ensures proper { IsProper set.old → IsProper set.new }
 {
     words::insert(set, flag(layer, dir));
@@ -75,7 +76,8 @@ pub fn set(set: &mut [u128], layer: usize, dir: Dir)
 /// Takes a direction from a layer.
 fn unset(set: &mut [u128], layer: usize, dir: Dir)
     requires { layer < MOST_LAYERS }
-    ensures heads { (other : ℕ) (way : Dir) → heads set.new other way ≡ (not (nat_eq other layer && same_dir dir way) && heads set.old other way) }
+    ensures heads { (other : ℕ) (way : Dir) →
+        heads set.new other way ≡ (not (nat_eq other layer && same_dir dir way) && heads set.old other way) }
     ensures proper { IsProper set.old → IsProper set.new }
 {
     words::remove(set, flag(layer, dir));
@@ -84,7 +86,8 @@ fn unset(set: &mut [u128], layer: usize, dir: Dir)
 /// Ends the movement of a layer.
 pub fn clear(set: &mut [u128], layer: usize)
     requires { layer < MOST_LAYERS }
-    ensures heads { (other : ℕ) (way : Dir) → heads set.new other way ≡ (not (nat_eq other layer) && heads set.old other way) }
+    ensures heads { (other : ℕ) (way : Dir) →
+        heads set.new other way ≡ (not (nat_eq other layer) && heads set.old other way) }
     ensures proper { IsProper set.old → IsProper set.new }
 {
     unset(set, layer, Dir::Up);

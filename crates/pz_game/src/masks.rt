@@ -85,7 +85,8 @@ fn insert_if(set: &mut NumberSet, test: bool, number: usize)
 /// Adds a direction of a layer.
 fn add(set: &mut NumberSet, layer: usize, dir: Dir)
     requires { layer < MOST_LAYERS }
-    ensures heads { (other : ℕ) (way : Dir) → heads set.new other way ≡ ((nat_eq other layer && same_dir dir way) || heads set.old other way) }
+    ensures heads { (other : ℕ) (way : Dir) →
+        heads set.new other way ≡ ((nat_eq other layer && same_dir dir way) || heads set.old other way) }
     ensures proper { IsProper set.old → IsProper set.new }
 {
     set.insert(flag(layer, dir));
@@ -94,7 +95,8 @@ fn add(set: &mut NumberSet, layer: usize, dir: Dir)
 /// Adds all directions of a layer.
 fn fill(set: &mut NumberSet, layer: usize)
     requires { layer < MOST_LAYERS }
-    ensures heads { (other : ℕ) (way : Dir) → heads set.new other way ≡ (nat_eq other layer || heads set.old other way) }
+    ensures heads { (other : ℕ) (way : Dir) →
+        heads set.new other way ≡ (nat_eq other layer || heads set.old other way) }
     ensures proper { IsProper set.old → IsProper set.new }
 {
     add(set, layer, Dir::Up);
@@ -107,7 +109,8 @@ fn fill(set: &mut NumberSet, layer: usize)
 /// Adds all directions of a layer, if a test holds.
 fn fill_if(set: &mut NumberSet, test: bool, layer: usize)
     requires { layer < MOST_LAYERS }
-    ensures heads { (other : ℕ) (way : Dir) → heads set.new other way ≡ ((test && nat_eq other layer) || heads set.old other way) }
+    ensures heads { (other : ℕ) (way : Dir) →
+        heads set.new other way ≡ ((test && nat_eq other layer) || heads set.old other way) }
     ensures proper { IsProper set.old → IsProper set.new }
 {
     if test {
@@ -118,7 +121,8 @@ fn fill_if(set: &mut NumberSet, test: bool, layer: usize)
 /// Adds a direction of a layer, if there is one.
 fn add_if(set: &mut NumberSet, layer: usize, heading: Option<Dir>)
     requires { layer < MOST_LAYERS }
-    ensures heads { (other : ℕ) (way : Dir) → heads set.new other way ≡ ((nat_eq other layer && is_toward heading way) || heads set.old other way) }
+    ensures heads { (other : ℕ) (way : Dir) →
+        heads set.new other way ≡ ((nat_eq other layer && is_toward heading way) || heads set.old other way) }
     ensures proper { IsProper set.old → IsProper set.new }
 {
     match heading {

@@ -53,7 +53,8 @@ impl Model for Pattern {
 
     ghost view = { λ p. (arc_value p.contents).items.items };
 
-    ghost invariant = { λ p. All IsLow (arc_value p.contents).items.items → AreMasksOf (arc_value p.contents).items.items (arc_value p.contents).masks };
+    ghost invariant = { λ p. All IsLow (arc_value p.contents).items.items →
+        AreMasksOf (arc_value p.contents).items.items (arc_value p.contents).masks };
 }
 
 impl Pattern {
@@ -105,7 +106,8 @@ impl Model for Row {
 
     ghost view = { λ r. record { cells = r.cells.items; gap_at = r.gap_at } };
 
-    ghost invariant = { λ r. IsRow (record { cells = r.cells.items; gap_at = r.gap_at }) × (All (All IsLow) r.cells.items → AreNamed r.cells.items r.named × AreRequired r.cells.items r.required) };
+    ghost invariant = { λ r. IsRow (record { cells = r.cells.items; gap_at = r.gap_at }) ×
+        (All (All IsLow) r.cells.items → AreNamed r.cells.items r.named × AreRequired r.cells.items r.required) };
 }
 
 /// The objects that cells name as present.

@@ -146,8 +146,11 @@ fn read_row<'a>(
     alloc: Global,
     tokens: &'a [Token],
 ) -> Result<Option<(Listed<Cell>, &'a [Token])>, AllocError>
-    ensures row { IfOk result (λ found. MatchOption found (inside tokens.now ≡ None) (λ p. inside tokens.now ≡ row_before p.0 (outside p.1.now))) }
-    ensures shorter { IfOk result (λ found. IfSome found (λ p. (length p.1.now ≤ length tokens.now) × (has_cells p.0 ≡ true))) }
+    ensures row { IfOk result
+        (λ found. MatchOption found (inside tokens.now ≡ None)
+        (λ p. inside tokens.now ≡ row_before p.0 (outside p.1.now))) }
+    ensures shorter { IfOk result
+        (λ found. IfSome found (λ p. (length p.1.now ≤ length tokens.now) × (has_cells p.0 ≡ true))) }
 {
     let mut row = OpenRow {
         cells: Listed::new(Vec::new(alloc)),
@@ -184,7 +187,9 @@ pub fn read_rows<'a>(
     alloc: Global,
     tokens: &'a [Token],
 ) -> Result<Option<(Listed<Listed<Cell>>, &'a [Token])>, AllocError>
-    ensures { IfOk result (λ found. MatchOption found (outside tokens.now ≡ None) (λ p. outside tokens.now ≡ Some (record { rows = p.0; rest = p.1.now }))) }
+    ensures { IfOk result (λ found.
+        MatchOption found (outside tokens.now ≡ None)
+        (λ p. outside tokens.now ≡ Some (record { rows = p.0; rest = p.1.now }))) }
 {
     let mut rows = Vec::new(alloc);
     let mut rest = tokens;

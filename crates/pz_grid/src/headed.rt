@@ -12,7 +12,8 @@ impl Level {
     /// Whether the level's headings allow one of those in `asked`. If false, no row that asks for one of these has a place, in any
     /// direction.
     pub fn may_head_in(&self, asked: &Headings) -> bool
-        ensures { result ≡ false → (row : RuleRow) (dir : Dir) → IsRowOf self.now.grid.layers row → AsksAmong asked.now row.cells → places self.now.grid row dir ≡ [] }
+        ensures { result ≡ false → (row : RuleRow) (dir : Dir) → IsRowOf self.now.grid.layers row →
+            AsksAmong asked.now row.cells → places self.now.grid row dir ≡ [] }
     {
         self.bare().may_head_in(asked.words())
     }

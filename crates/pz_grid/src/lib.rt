@@ -59,9 +59,19 @@ impl Model for Level {
 
     ghost Value = { LevelState };
 
-    ghost view = { λ a. record { grid = a.bare.grid; row_marks = a.row_marks.items; column_marks = a.column_marks.items; level_marks = a.level_marks } };
+    ghost view = { λ a. record {
+      grid = a.bare.grid;
+      row_marks = a.row_marks.items;
+      column_marks = a.column_marks.items;
+      level_marks = a.level_marks;
+    } };
 
-    ghost invariant = { λ a. IsMarked (record { grid = a.bare.grid; row_marks = a.row_marks.items; column_marks = a.column_marks.items; level_marks = a.level_marks }) };
+    ghost invariant = { λ a. IsMarked (record {
+      grid = a.bare.grid;
+      row_marks = a.row_marks.items;
+      column_marks = a.column_marks.items;
+      level_marks = a.level_marks;
+    }) };
 }
 
 impl Level {

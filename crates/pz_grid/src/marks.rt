@@ -111,8 +111,10 @@ impl Level {
         requires on_map { IsOnMap self.old.grid x y }
         requires low { item.object < CAPACITY }
         ensures grid { self.new.grid ≡ self.old.grid }
-        ensures rows { IsMore self.old.row_marks self.new.row_marks y (λ object. names item.word && nat_eq item.object object) }
-        ensures columns { IsMore self.old.column_marks self.new.column_marks x (λ object. names item.word && nat_eq item.object object) }
+        ensures rows { IsMore self.old.row_marks self.new.row_marks y
+            (λ object. names item.word && nat_eq item.object object) }
+        ensures columns { IsMore self.old.column_marks self.new.column_marks x
+            (λ object. names item.word && nat_eq item.object object) }
     {
         if names(item.word) {
             self.mark(x, y, item.object);
@@ -125,7 +127,8 @@ impl Level {
         requires low { All (λ item. item.object < CAPACITY) right.now }
         ensures grid { self.new.grid ≡ self.old.grid }
         ensures rows { IsMore self.old.row_marks self.new.row_marks y (λ object. names_object object right.now) }
-        ensures columns { IsMore self.old.column_marks self.new.column_marks x (λ object. names_object object right.now) }
+        ensures columns { IsMore self.old.column_marks self.new.column_marks x
+            (λ object. names_object object right.now) }
     {
         for item in right.items() {
             self.mark_item(x, y, *item);
@@ -153,9 +156,12 @@ fn mark_lines(
     requires column_count { length column_marks.old.items ≡ bare.now.grid.width }
     ensures row_count { length row_marks.new.items ≡ bare.now.grid.height }
     ensures column_count { length column_marks.new.items ≡ bare.now.grid.width }
-    ensures rows { (line object : ℕ) → line < bare.now.grid.height → is_marked row_marks.new.items line object ≡ in_row bare.now.grid line object }
-    ensures columns { (line object : ℕ) → line < bare.now.grid.width → is_marked column_marks.new.items line object ≡ in_column bare.now.grid line object }
-    ensures all { (line object : ℕ) → line < bare.now.grid.height → is_marked row_marks.new.items line object ≡ true → member result object ≡ true }
+    ensures rows { (line object : ℕ) → line < bare.now.grid.height →
+        is_marked row_marks.new.items line object ≡ in_row bare.now.grid line object }
+    ensures columns { (line object : ℕ) → line < bare.now.grid.width →
+        is_marked column_marks.new.items line object ≡ in_column bare.now.grid line object }
+    ensures all { (line object : ℕ) → line < bare.now.grid.height → is_marked row_marks.new.items line object ≡ true →
+        member result object ≡ true }
 {
     bare.mark_lines(Axis::Horizontal, row_marks.as_mut_slice());
     bare.mark_lines(Axis::Vertical, column_marks.as_mut_slice());
@@ -164,7 +170,8 @@ fn mark_lines(
 
 /// A set with at least the objects of these sets.
 fn all_of(marks: &[NumberSet]) -> NumberSet
-    ensures { (line object : ℕ) → line < length marks.now → is_marked marks.now line object ≡ true → member result object ≡ true }
+    ensures { (line object : ℕ) → line < length marks.now → is_marked marks.now line object ≡ true →
+        member result object ≡ true }
 {
     let mut set = NumberSet::empty();
     for line in 0..marks.len() {

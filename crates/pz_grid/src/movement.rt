@@ -112,7 +112,8 @@ impl Level {
 
     /// The first column, from `from` on, in which something may head somewhere.
     fn next_column(&self, from: u32) -> Option<u32>
-        ensures next { MatchOption result (AreColumnsStill self.now.grid from self.now.grid.width) (λ x. (from ≤ x) × (x < self.now.grid.width) × AreColumnsStill self.now.grid from x) }
+        ensures next { MatchOption result (AreColumnsStill self.now.grid from self.now.grid.width)
+            (λ x. (from ≤ x) × (x < self.now.grid.width) × AreColumnsStill self.now.grid from x) }
         ensures lawful { IsLawful self.now.grid }
     {
         self.bare.next_column(from)
@@ -121,7 +122,8 @@ impl Level {
     /// The first row, from `from` on, in which something in a column of the map may head somewhere.
     fn next_heading(&self, x: u32, from: u32) -> Option<u32>
         requires { x < self.now.grid.width }
-        ensures next { MatchOption result (AreStill self.now.grid x from self.now.grid.height) (λ y. (from ≤ y) × (y < self.now.grid.height) × AreStill self.now.grid x from y) }
+        ensures next { MatchOption result (AreStill self.now.grid x from self.now.grid.height)
+            (λ y. (from ≤ y) × (y < self.now.grid.height) × AreStill self.now.grid x from y) }
         ensures lawful { IsLawful self.now.grid }
     {
         self.bare.next_heading(x, from)
@@ -142,7 +144,8 @@ impl Level {
     fn carry(&mut self, x: u32, y: u32, mover: Mover, next: (u32, u32))
         requires on_map { IsOnMap self.old.grid x y }
         requires leaves { Leaves self.old.grid x y mover next }
-        ensures pass { (moved : Bool) → in_pass self.new.grid true ≡ move_at (in_pass self.old.grid moved) (spot x y mover.layer) }
+        ensures pass { (moved : Bool) →
+            in_pass self.new.grid true ≡ move_at (in_pass self.old.grid moved) (spot x y mover.layer) }
         ensures size { SameSize self.old.grid self.new.grid }
         ensures marks { IsMove self.old self.new }
     {
@@ -153,7 +156,8 @@ impl Level {
     /// Moves what leaves a position. True: something has moved in this pass, here or before.
     fn pass_at(&mut self, x: u32, y: u32, moved_before: bool) -> bool
         requires on_map { IsOnMap self.old.grid x y }
-        ensures pass { in_pass self.new.grid result ≡ fold move_at (in_pass self.old.grid moved_before) (spots_at self.old.grid.depth x y) }
+        ensures pass { in_pass self.new.grid result ≡
+            fold move_at (in_pass self.old.grid moved_before) (spots_at self.old.grid.depth x y) }
         ensures size { SameSize self.old.grid self.new.grid }
         ensures marks { IsMove self.old self.new }
     {
@@ -170,7 +174,8 @@ impl Level {
     /// Goes on with a pass at a position.
     fn pass_over(&mut self, x: u32, y: u32, before: Passed) -> Passed
         requires on_map { IsOnMap self.old.grid x y }
-        ensures pass { in_pass self.new.grid result.moved ≡ fold move_at (in_pass self.old.grid before.moved) (spots_at self.old.grid.depth x y) }
+        ensures pass { in_pass self.new.grid result.moved ≡
+            fold move_at (in_pass self.old.grid before.moved) (spots_at self.old.grid.depth x y) }
         ensures left { result.left ≡ false → (before.left ≡ false) × IsStillAt self.new.grid x y }
         ensures size { SameSize self.old.grid self.new.grid }
         ensures marks { IsMove self.old self.new }
@@ -182,7 +187,8 @@ impl Level {
 
     fn pass_in(&mut self, x: u32, before: Passed) -> Passed
         requires x_in { x < self.old.grid.width }
-        ensures pass { in_pass self.new.grid result.moved ≡ fold move_at (in_pass self.old.grid before.moved) (spots_in self.old.grid.depth self.old.grid.height x) }
+        ensures pass { in_pass self.new.grid result.moved ≡
+            fold move_at (in_pass self.old.grid before.moved) (spots_in self.old.grid.depth self.old.grid.height x) }
         ensures left { result.left ≡ false → (before.left ≡ false) × AreStill self.new.grid x 0 self.new.grid.height }
         ensures size { SameSize self.old.grid self.new.grid }
         ensures marks { IsMove self.old self.new }

@@ -26,7 +26,8 @@ impl Level {
     ) -> bool
         requires left_of { AreOf self.old.grid.layers left.now }
         requires right_of { AreOf self.old.grid.layers right.now }
-        ensures rewritten { in_rewrite self.new.grid result ≡ rewritten_row dir (in_rewrite self.old.grid changed) (place, (row_of_one left.now, row_of_one right.now)) }
+        ensures rewritten { in_rewrite self.new.grid result ≡
+            rewritten_row dir (in_rewrite self.old.grid changed) (place, (row_of_one left.now, row_of_one right.now)) }
         ensures size { SameSize self.old.grid self.new.grid }
         ensures marks { IsWidenedBy self.old self.new (λ object. names_object object right.now) }
     {

@@ -141,7 +141,8 @@ fn spread_holds<const N: usize>(
     from: usize,
 ) -> bool
     requires of_game { IsRowOf sheet.now.grid.layers row.now }
-    requires begun { list_all (cell_holds sheet.now.grid row.now dir place) (take from (enumerate_from 0 row.now.cells)) ≡ true }
+    requires begun { list_all (cell_holds sheet.now.grid row.now dir place)
+        (take from (enumerate_from 0 row.now.cells)) ≡ true }
     ensures { result ≡ row_holds sheet.now.grid row.now dir place }
 {
     let cells = row.cells();
@@ -213,7 +214,8 @@ fn search_in<'a, const N: usize>(
 ) -> Option<RunSearch<'a, N>>
     requires of_game { IsRowOf sheet.now.grid.layers row.now }
     requires line_in { line.number < line_count sheet.now.grid line.dir }
-    ensures { MatchOption result (StartsNowhere sheet.now.grid row.now line.dir line.number) (IsSearchFor sheet.now.grid row.now line.dir line.number) }
+    ensures { MatchOption result (StartsNowhere sheet.now.grid row.now line.dir line.number)
+        (IsSearchFor sheet.now.grid row.now line.dir line.number) }
 {
     let head = head_of(row);
     let number = line.number;
@@ -264,9 +266,11 @@ fn add_place<const N: usize>(
     found: &mut Found,
 ) -> Result<(), GridFault>
     requires of_game { IsRowOf sheet.now.grid.layers row.now }
-    requires begun { list_all (cell_holds sheet.now.grid row.now dir place) (take from (enumerate_from 0 row.now.cells)) ≡ true }
+    requires begun { list_all (cell_holds sheet.now.grid row.now dir place)
+        (take from (enumerate_from 0 row.now.cells)) ≡ true }
     ensures added { OnOk result (found.new ≡ found.old ++ filter (row_holds sheet.now.grid row.now dir) (place ∷ [])) }
-    ensures limit { result ≡ Err GridFault.MatchLimit → MATCH_LIMIT < length (found.old ++ filter (row_holds sheet.now.grid row.now dir) (place ∷ [])) }
+    ensures limit { result ≡ Err GridFault.MatchLimit →
+        MATCH_LIMIT < length (found.old ++ filter (row_holds sheet.now.grid row.now dir) (place ∷ [])) }
 {
     if spread_holds(sheet, row, dir, place, from) {
         found.add(place)
@@ -286,7 +290,8 @@ fn next_gap<const N: usize>(
 ) -> Option<u32>
     requires on_map { IsOnMap sheet.now.grid from.x from.y }
     requires of_game { AreOf sheet.now.grid.layers behind.now }
-    ensures next { IsNext (holds_behind sheet.now.grid dir from.x from.y behind.now at) from.gap (line_length sheet.now.grid dir) result }
+    ensures next { IsNext (holds_behind sheet.now.grid dir from.x from.y behind.now at) from.gap
+        (line_length sheet.now.grid dir) result }
     ensures short { IfSome result (λ gap. gap < MOST_SIDE) }
 {
     let steps = at as usize + from.gap as usize;
@@ -344,8 +349,12 @@ fn add_places_with_gaps<const N: usize>(
     requires start_in { start < line_length sheet.now.grid line.dir }
     requires gap_at { row.now.gap_at ≡ Some at }
     requires starts { starts_with sheet.now.grid line.dir line.number (head_of row.now) start ≡ true }
-    ensures added { OnOk result (found.new ≡ found.old ++ filter (row_holds sheet.now.grid row.now line.dir) (pairs_at sheet.now.grid row.now line.dir line.number start)) }
-    ensures limit { result ≡ Err GridFault.MatchLimit → MATCH_LIMIT < length (found.old ++ filter (row_holds sheet.now.grid row.now line.dir) (pairs_at sheet.now.grid row.now line.dir line.number start)) }
+    ensures added { OnOk result
+        (found.new ≡ found.old ++ filter (row_holds sheet.now.grid row.now line.dir)
+        (pairs_at sheet.now.grid row.now line.dir line.number start)) }
+    ensures limit { result ≡ Err GridFault.MatchLimit →
+        MATCH_LIMIT < length (found.old ++ filter (row_holds sheet.now.grid row.now line.dir)
+        (pairs_at sheet.now.grid row.now line.dir line.number start)) }
 {
     let behind = &row.cells()[at as usize];
     let mut from = 0;
@@ -375,8 +384,12 @@ fn add_places_at<const N: usize>(
     requires line_in { line.number < line_count sheet.now.grid line.dir }
     requires start_in { start < line_length sheet.now.grid line.dir }
     requires starts { starts_with sheet.now.grid line.dir line.number (head_of row.now) start ≡ true }
-    ensures added { OnOk result (found.new ≡ found.old ++ filter (row_holds sheet.now.grid row.now line.dir) (pairs_at sheet.now.grid row.now line.dir line.number start)) }
-    ensures limit { result ≡ Err GridFault.MatchLimit → MATCH_LIMIT < length (found.old ++ filter (row_holds sheet.now.grid row.now line.dir) (pairs_at sheet.now.grid row.now line.dir line.number start)) }
+    ensures added { OnOk result
+        (found.new ≡ found.old ++ filter (row_holds sheet.now.grid row.now line.dir)
+        (pairs_at sheet.now.grid row.now line.dir line.number start)) }
+    ensures limit { result ≡ Err GridFault.MatchLimit →
+        MATCH_LIMIT < length (found.old ++ filter (row_holds sheet.now.grid row.now line.dir)
+        (pairs_at sheet.now.grid row.now line.dir line.number start)) }
 {
     match row.gap_at() {
         None => found.add(place_in(line, start, 0)),
@@ -393,8 +406,12 @@ fn add_places_in<const N: usize>(
 ) -> Result<(), GridFault>
     requires of_game { IsRowOf sheet.now.grid.layers row.now }
     requires line_in { line.number < line_count sheet.now.grid line.dir }
-    ensures added { OnOk result (found.new ≡ found.old ++ filter (row_holds sheet.now.grid row.now line.dir) (pairs_in sheet.now.grid row.now line.dir line.number)) }
-    ensures limit { result ≡ Err GridFault.MatchLimit → MATCH_LIMIT < length (found.old ++ filter (row_holds sheet.now.grid row.now line.dir) (pairs_in sheet.now.grid row.now line.dir line.number)) }
+    ensures added { OnOk result
+        (found.new ≡ found.old ++ filter (row_holds sheet.now.grid row.now line.dir)
+        (pairs_in sheet.now.grid row.now line.dir line.number)) }
+    ensures limit { result ≡ Err GridFault.MatchLimit →
+        MATCH_LIMIT < length (found.old ++ filter (row_holds sheet.now.grid row.now line.dir)
+        (pairs_in sheet.now.grid row.now line.dir line.number)) }
 {
     // (brings the proof how short a line is)
     let _ = line_length(sheet, line.dir);
@@ -413,7 +430,8 @@ fn add_places_in<const N: usize>(
 fn tested_for<const N: usize>(sheet: &Sheet<N>, row: &Row, line: Line) -> u32
     requires of_game { IsRowOf sheet.now.grid.layers row.now }
     requires line_in { line.number < line_count sheet.now.grid line.dir }
-    ensures low { starts_in line.dir (places sheet.now.grid row.now line.dir) (line_length sheet.now.grid line.dir) line.number ≤ result }
+    ensures low { starts_in line.dir (places sheet.now.grid row.now line.dir)
+        (line_length sheet.now.grid line.dir) line.number ≤ result }
     ensures high { result ≤ line_length sheet.now.grid line.dir }
 {
     match search_in(sheet, row, line) {
@@ -443,8 +461,12 @@ impl Level {
     ) -> Result<(), GridFault>
         requires of_game { IsRowOf self.now.grid.layers row.now }
         requires line_in { line < line_count self.now.grid dir }
-        ensures added { OnOk result (found.new ≡ found.old ++ filter (row_holds self.now.grid row.now dir) (pairs_in self.now.grid row.now dir line)) }
-        ensures limit { result ≡ Err GridFault.MatchLimit → MATCH_LIMIT < length (found.old ++ filter (row_holds self.now.grid row.now dir) (pairs_in self.now.grid row.now dir line)) }
+        ensures added { OnOk result
+            (found.new ≡ found.old ++ filter (row_holds self.now.grid row.now dir)
+            (pairs_in self.now.grid row.now dir line)) }
+        ensures limit { result ≡ Err GridFault.MatchLimit →
+            MATCH_LIMIT < length (found.old ++ filter (row_holds self.now.grid row.now dir)
+            (pairs_in self.now.grid row.now dir line)) }
     {
         if !self.may_start(row, dir, line) {
             return Ok(());

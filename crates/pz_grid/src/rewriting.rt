@@ -59,7 +59,8 @@ impl Level {
         requires on_map { IfSome at (λ position. IsOnMap self.old.grid position.0 position.1) }
         requires left_of { AreOf self.old.grid.layers left.now }
         requires right_of { AreOf self.old.grid.layers right.now }
-        ensures rewritten { in_rewrite self.new.grid result ≡ rewritten_at (in_rewrite self.old.grid changed) left.now right.now at }
+        ensures rewritten { in_rewrite self.new.grid result ≡
+            rewritten_at (in_rewrite self.old.grid changed) left.now right.now at }
         ensures size { SameSize self.old.grid self.new.grid }
         ensures marks { IsWidenedBy self.old self.new (λ object. names_object object right.now) }
     {
@@ -83,7 +84,8 @@ impl Level {
     ) -> bool
         requires left_of { IsRowOf self.old.grid.layers left.now }
         requires right_of { IsRowOf self.old.grid.layers right.now }
-        ensures rewritten { in_rewrite self.new.grid result ≡ rewritten_row dir (in_rewrite self.old.grid changed_before) (place, (left.now, right.now)) }
+        ensures rewritten { in_rewrite self.new.grid result ≡
+            rewritten_row dir (in_rewrite self.old.grid changed_before) (place, (left.now, right.now)) }
         ensures size { SameSize self.old.grid self.new.grid }
         ensures marks { IsWidenedBy self.old self.new (λ object. row_places object right.now) }
     {
@@ -108,7 +110,8 @@ impl Level {
     ) -> bool
         requires left_of { AreRowsOf self.old.grid.layers instance.now.left }
         requires right_of { AreRowsOf self.old.grid.layers instance.now.right }
-        ensures rewritten { in_rewrite self.new.grid result ≡ rewritten instance.now places.now (in_rewrite self.old.grid changed_before) }
+        ensures rewritten { in_rewrite self.new.grid result ≡
+            rewritten instance.now places.now (in_rewrite self.old.grid changed_before) }
         ensures size { SameSize self.old.grid self.new.grid }
         ensures marks { IsWidenedBy self.old self.new (places_object instance.now.right) }
     {
@@ -133,7 +136,8 @@ impl Level {
 pub fn rewrite(game: &Game, level: &mut Level, instance: &Instance, places: &[Place]) -> bool
     requires level_of { IsOfGame game.now level.old.grid }
     requires right_of { IsInstanceOf game.now.layers instance.now }
-    ensures rewritten { in_rewrite level.new.grid result ≡ rewritten instance.now places.now (in_rewrite level.old.grid false) }
+    ensures rewritten { in_rewrite level.new.grid result ≡
+        rewritten instance.now places.now (in_rewrite level.old.grid false) }
     ensures size { SameSize level.old.grid level.new.grid }
     ensures marks { IsWidenedBy level.old level.new (places_object instance.now.right) }
     ensures lawful { IsLawful level.new.grid }

@@ -70,7 +70,8 @@ fn with_new_program(
 
 /// What a game gives when its program has to be made. A call drops the game, because it has many parts.
 fn with_expansion(programs: &mut Programs, alloc: Global, game: Game) -> Result<Answer, AllocError>
-    ensures { IfOk result (λ answer. shared_in answer ≡ or_refused (program_of game) (λ program. Ok (record { game = game; program = program }))) }
+    ensures { IfOk result (λ answer. shared_in answer ≡
+        or_refused (program_of game) (λ program. Ok (record { game = game; program = program }))) }
 {
     match expand(alloc, &game) {
         Ok(program) => with_new_program(programs, alloc, game, program),
@@ -83,7 +84,8 @@ fn with_expansion(programs: &mut Programs, alloc: Global, game: Game) -> Result<
 
 /// What a game gives with its rules. They are expanded unless a game before it has the same.
 fn with_rules(programs: &mut Programs, alloc: Global, game: Game) -> Result<Answer, AllocError>
-    ensures { IfOk result (λ answer. shared_in answer ≡ or_refused (program_of game) (λ program. Ok (record { game = game; program = program }))) }
+    ensures { IfOk result (λ answer. shared_in answer ≡
+        or_refused (program_of game) (λ program. Ok (record { game = game; program = program }))) }
 {
     match programs.program_for(&game) {
         Some(program) => match Arc::try_clone(program) {

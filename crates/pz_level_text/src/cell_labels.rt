@@ -52,7 +52,11 @@ impl<'a> Model for CellLabels<'a> {
 
     ghost Value = { WriterView };
 
-    ghost view = { λ c. record { table = c.table; order = c.order; cells = map (text_at c.table.texts) c.labels.items } };
+    ghost view = { λ c. record {
+      table = c.table;
+      order = c.order;
+      cells = map (text_at c.table.texts) c.labels.items;
+    } };
 
     ghost invariant = { λ c. All (λ label. label < length c.table.texts) c.labels.items };
 }
@@ -88,7 +92,9 @@ impl<'a> CellLabels<'a> {
     #[inline(always)]
     fn label_at(&mut self, level: &BareLevel, x: u32, y: u32) -> Result<usize, AllocError>
         ensures known { IfOk result (λ label. label < length self.new.table.texts) }
-        ensures text { IfOk result (λ label. text_at self.new.table.texts label ≡ joined (set_of (standing_names self.old.table.game.objects level.now.grid (x, y)))) }
+        ensures text { IfOk result
+            (λ label. text_at self.new.table.texts label ≡
+            joined (set_of (standing_names self.old.table.game.objects level.now.grid (x, y)))) }
         ensures cells { self.new.cells ≡ self.old.cells }
         ensures kept { take (length self.old.table.texts) self.new.table.texts ≡ self.old.table.texts }
         ensures game { self.new.table.game ≡ self.old.table.game }
@@ -152,7 +158,11 @@ impl<'a> CellLabels<'a> {
     fn look(&mut self, level: &BareLevel, index: usize) -> Result<usize, AllocError>
         requires on_map { index < level.now.grid.width * level.now.grid.height }
         requires count { length self.old.cells ≡ level.now.grid.width * level.now.grid.height }
-        ensures known { OnOk result ((seen : Grid) → SameSize seen level.now.grid → index < length seen.cells → self.old.cells ≡ texts_in self.old.table.game self.old.order seen → self.new.cells ≡ texts_in self.old.table.game self.old.order (with_cell seen (cell_there level.now.grid index))) }
+        ensures known { OnOk result
+            ((seen : Grid) → SameSize seen level.now.grid → index < length seen.cells →
+            self.old.cells ≡ texts_in self.old.table.game self.old.order seen →
+            self.new.cells ≡ texts_in self.old.table.game self.old.order
+            (with_cell seen (cell_there level.now.grid index))) }
         ensures changed { IfOk result (λ number. IsSameBut number (number + 1) self.old.cells self.new.cells) }
         ensures kept { take (length self.old.table.texts) self.new.table.texts ≡ self.old.table.texts }
         ensures game { self.new.table.game ≡ self.old.table.game }

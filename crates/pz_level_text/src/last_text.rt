@@ -25,7 +25,9 @@ pub(crate) fn follow(
     cell: usize,
 ) -> Option<LastText>
     requires within { All (λ label. label < length texts.now) labels.now }
-    requires last { IfSome last (λ last. (before : List (List ℕ)) × IsLastOf before texts.now room.old last × IsSameBut cell (cell + 1) before (map (text_at texts.now) labels.now)) }
+    requires last { IfSome last
+        (λ last. (before : List (List ℕ)) × IsLastOf before texts.now room.old last ×
+        IsSameBut cell (cell + 1) before (map (text_at texts.now) labels.now)) }
     ensures { IfSome result (IsLastOf (map (text_at texts.now) labels.now) texts.now room.new) }
 {
     match last {

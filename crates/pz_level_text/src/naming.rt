@@ -66,7 +66,8 @@ impl<'a> Model for Naming<'a> {
 
     ghost view = { λ n. record { objects = n.objects.now; recorded = n.recorded.now } };
 
-    ghost invariant = { λ n. All (λ slot. IfSome slot (λ met. IsNamedAs n.objects.now n.recorded.now met.objects met.cell)) n.met.slots };
+    ghost invariant = { λ n. All
+        (λ slot. IfSome slot (λ met. IsNamedAs n.objects.now n.recorded.now met.objects met.cell)) n.met.slots };
 }
 
 fn is_named(object: &Name, name: &[u8]) -> bool
@@ -100,7 +101,8 @@ fn is_within(objects: &[Name], standing: &NumberSet, names: &CellNames) -> bool
 }
 
 fn has_each(objects: &[Name], standing: &NumberSet, names: &[Vec<u8>]) -> bool
-    ensures { result ≡ list_all (λ name. has_name (chosen_from (member standing.now) 0 objects.now) name.items) names.now }
+    ensures { result ≡ list_all
+        (λ name. has_name (chosen_from (member standing.now) 0 objects.now) name.items) names.now }
 {
     names.iter().all(|name| has_named(objects, standing, name))
 }
@@ -143,7 +145,8 @@ impl<'a> Naming<'a> {
     /// Whether it is remembered that a set has the names of a cell.
     fn is_met(&self, objects: &NumberSet, cell: usize) -> bool
         requires { cell < length self.now.recorded }
-        ensures { (result ≡ true) → has_names self.now.objects objects.now (slice_index_or self.now.recorded cell []) ≡ true }
+        ensures { (result ≡ true) →
+            has_names self.now.objects objects.now (slice_index_or self.now.recorded cell []) ≡ true }
     {
         let place = place_of(objects);
         match self.met.at(place) {

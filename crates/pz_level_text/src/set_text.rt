@@ -13,7 +13,8 @@ use std::alloc::{AllocError, Global};
 use std::collections::BTreeSet;
 
 fn insert<'a>(names: &mut BTreeSet<&'a str>, name: &'a str) -> Result<(), AllocError>
-    ensures { OnOk result (map (λ n. n.now) names.new.keys ≡ with_name (map (λ n. n.now) names.old.keys) name.entry.now) }
+    ensures { OnOk result (map (λ n. n.now) names.new.keys ≡
+        with_name (map (λ n. n.now) names.old.keys) name.entry.now) }
 {
     names.insert(name)?;
     Ok(())
@@ -25,7 +26,8 @@ fn names_of<'a>(
     names: &'a [Name],
     objects: &NumberSet,
 ) -> Result<BTreeSet<&'a str>, AllocError>
-    ensures { IfOk result (λ chosen. map (λ name. name.now) chosen.keys ≡ set_of (chosen_from (member objects.now) 0 names.now)) }
+    ensures { IfOk result (λ chosen. map (λ name. name.now) chosen.keys ≡
+        set_of (chosen_from (member objects.now) 0 names.now)) }
 {
     let mut chosen = BTreeSet::new(alloc);
     for (object, name) in names.iter().enumerate() {

@@ -189,7 +189,8 @@ impl<'a> TextWriter<'a> {
 
     /// The same text, not quoted, for callers that read it back.
     pub fn write_plain(&mut self, level: &BareLevel) -> Result<String, AllocError>
-        ensures text { IfOk result (λ text. string_bytes text ≡ text_of_level self.old.table.game self.old.order level.now.grid) }
+        ensures text { IfOk result
+            (λ text. string_bytes text ≡ text_of_level self.old.table.game self.old.order level.now.grid) }
         ensures game { self.new.table.game ≡ self.old.table.game }
         ensures order { self.new.order ≡ self.old.order }
     {

@@ -71,7 +71,8 @@ impl Model for Packer {
 
     ghost view = { λ packer. unpacked packer.kept.places.items packer.kept.bytes.items [] packer.parts.items };
 
-    ghost invariant = { λ packer. ArePacked packer.kept.places.items packer.kept.bytes.items packer.parts.items packer.last.items };
+    ghost invariant = { λ packer.
+        ArePacked packer.kept.places.items packer.kept.bytes.items packer.parts.items packer.last.items };
 }
 
 /// Whether two texts begin with the same block.
@@ -92,7 +93,8 @@ fn alike_to(last: &[u8], line: &[u8], from: usize, end: usize) -> usize
     requires line { end ≤ length line.now }
     ensures onward { from ≤ result }
     ensures within { result ≤ end }
-    ensures alike { (places bytes : List ℕ) → AreChanges last.now line.now from places bytes → AreChanges last.now line.now result places bytes }
+    ensures alike { (places bytes : List ℕ) → AreChanges last.now line.now from places bytes →
+        AreChanges last.now line.now result places bytes }
 {
     let mut at = from;
     while BLOCK <= end - at && begin_alike(&last[at..], &line[at..]) {
@@ -149,7 +151,8 @@ impl Pieces {
         requires last { at + count * CHUNK ≤ length last.now }
         requires line { at + count * CHUNK ≤ length line.now }
         requires few { at + count * CHUNK ≤ MOST }
-        ensures { OnOk result (AreChanges last.now line.now (at + count * CHUNK) self.new.places.items self.new.bytes.items) }
+        ensures { OnOk result (AreChanges last.now line.now
+            (at + count * CHUNK) self.new.places.items self.new.bytes.items) }
     {
         for chunk in 0..count {
             self.add_chunk(last, line, at + chunk * CHUNK)?;
@@ -160,7 +163,8 @@ impl Pieces {
     /// Finds the changes of a line, in place of those of another: blocks that are alike are passed over, and of others the chunks compared.
     /// Answers for how many first bytes they stand: for none, and there are none, if they would take more room than these bytes.
     fn find(&mut self, last: &[u8], line: &[u8]) -> Result<usize, AllocError>
-        ensures changes { IfOk result (λ front. AreChanges last.now line.now front self.new.places.items self.new.bytes.items) }
+        ensures changes { IfOk result
+            (λ front. AreChanges last.now line.now front self.new.places.items self.new.bytes.items) }
         ensures last { IfOk result (λ front. front ≤ length last.now) }
         ensures line { IfOk result (λ front. front ≤ length line.now) }
         ensures few { IfOk result (λ front. front ≤ MOST) }
@@ -187,8 +191,11 @@ impl Pieces {
         requires front { front ≤ length line.now }
         requires few { front ≤ MOST }
         requires places { length changes.now.places.items ≤ MOST }
-        ensures part { IfOk result (IsPartOf self.new.places.items self.new.bytes.items changes.now.places.items (changes.now.bytes.items ++ drop front line.now) front) }
-        ensures grown { HaveGrown self.old.places.items self.old.bytes.items self.new.places.items self.new.bytes.items }
+        ensures part { IfOk result
+            (IsPartOf self.new.places.items self.new.bytes.items changes.now.places.items
+            (changes.now.bytes.items ++ drop front line.now) front) }
+        ensures grown { HaveGrown self.old.places.items self.old.bytes.items self.new.places.items
+            self.new.bytes.items }
     {
         let (_, tail) = line.split_at(front);
         let place = self.places.len();
@@ -276,8 +283,10 @@ pub(crate) fn unpack(
     last: &mut Vec<u8>,
     lines: &mut Vec<u8>,
 ) -> Result<(), AllocError>
-    ensures added { OnOk result (lines.new.items ≡ lines.old.items ++ next_line kept.now.places.items kept.now.bytes.items last.old.items part) }
-    ensures last { OnOk result (last.new.items ≡ next_line kept.now.places.items kept.now.bytes.items last.old.items part) }
+    ensures added { OnOk result (lines.new.items ≡ lines.old.items ++
+        next_line kept.now.places.items kept.now.bytes.items last.old.items part) }
+    ensures last { OnOk result
+        (last.new.items ≡ next_line kept.now.places.items kept.now.bytes.items last.old.items part) }
 {
     let (own, _) = cut(cut(&kept.bytes, part.from).1, part.own);
     advance(last, places_of(&kept.places, part), own, part.front)?;

@@ -49,7 +49,8 @@ fn write_session<W: Write>(
 ) -> Result<(), Cause>
     requires { output.old.failure ≡ None }
     ensures ok { OnOk result (IsSent (lines_of session shown.now) written.old written.new output.old output.new) }
-    ensures err { IfErr result (IsSentInPart (lines_of session shown.now) written.old written.new output.old output.new) }
+    ensures err { IfErr result
+        (IsSentInPart (lines_of session shown.now) written.old written.new output.old output.new) }
 {
     let items = shown.items.items();
     let frames = frame_count(items);
@@ -97,7 +98,8 @@ fn write_full<W: Write>(
     output: &mut Output<W>,
 ) -> Result<Vec<u8>, Cause>
     requires { output.old.failure ≡ None }
-    ensures ok { IfOk result (λ left. (sent : List ℕ) × (lines.items ≡ sent ++ left.items) × IsSent sent written.old written.new output.old output.new) }
+    ensures ok { IfOk result (λ left. (sent : List ℕ) × (lines.items ≡ sent ++ left.items) ×
+        IsSent sent written.old written.new output.old output.new) }
     ensures err { IfErr result (IsSentInPart lines.items written.old written.new output.old output.new) }
 {
     let mut lines = lines;
@@ -116,8 +118,10 @@ fn write_lines_of<W: Write>(
     output: &mut Output<W>,
 ) -> Result<Vec<u8>, Cause>
     requires { output.old.failure ≡ None }
-    ensures ok { IfOk result (λ left. (sent : List ℕ) × (before.items ++ packed.now ≡ sent ++ left.items) × IsSent sent written.old written.new output.old output.new) }
-    ensures err { IfErr result (IsSentInPart (before.items ++ packed.now) written.old written.new output.old output.new) }
+    ensures ok { IfOk result (λ left. (sent : List ℕ) × (before.items ++ packed.now ≡ sent ++ left.items) ×
+        IsSent sent written.old written.new output.old output.new) }
+    ensures err { IfErr result
+        (IsSentInPart (before.items ++ packed.now) written.old written.new output.old output.new) }
 {
     let mut lines = before;
     let mut last = Vec::new(*lines.allocator());

@@ -84,7 +84,8 @@ fn gather(
     known: &[Option<Denotation>],
 ) -> Result<bool, AllocError>
     requires { AreMarked marks.old mentions.old.items }
-    ensures { IfOk result (λ all. gathered (known_at known.now) mentions.old.items parts.now ≡ (if all then Some mentions.new.items else None)) }
+    ensures { IfOk result (λ all. gathered (known_at known.now) mentions.old.items parts.now ≡
+        (if all then Some mentions.new.items else None)) }
 {
     for part in parts {
         let Some(denotation) = entry(known, *part) else {
@@ -120,7 +121,9 @@ fn group(
     parts: &[usize],
     known: &[Option<Denotation>],
 ) -> Result<Option<Denotation>, AllocError>
-    ensures { IfOk result (λ r. r ≡ option_map (λ members. record { kind = kind; members = members; number = number }) (gathered (known_at known.now) [] parts.now)) }
+    ensures { IfOk result (λ r. r ≡
+        option_map (λ members. record { kind = kind; members = members; number = number })
+        (gathered (known_at known.now) [] parts.now)) }
 {
     let Some(members) = gathered(alloc, parts, known)? else {
         return Ok(None);
@@ -170,7 +173,8 @@ fn are_known(parts: &[usize], known: &[Option<Denotation>]) -> bool
 /// Whether a look at the line of a name finds nothing: either what the name denotes is known already, or a name on its right isn't known
 /// yet.
 fn is_settled(number: usize, meaning: &Meaning, known: &[Option<Denotation>]) -> bool
-    ensures { result ≡ (is_some (known_at known.now number) || not (list_all (λ part. is_some (known_at known.now part)) (parts_of meaning.now))) }
+    ensures { result ≡ (is_some (known_at known.now number) || not
+        (list_all (λ part. is_some (known_at known.now part)) (parts_of meaning.now))) }
 {
     entry(known, number).is_some() || !are_known(meaning.parts(), known)
 }
@@ -183,7 +187,9 @@ fn settle(
     known: &mut [Option<Denotation>],
 ) -> Result<bool, AllocError>
     requires { number < length known.old }
-    ensures each { IfOk result (λ _. (k : ℕ) → known_at known.new k ≡ (if k == number then settled (known_at known.old) number meaning.now else known_at known.old k)) }
+    ensures each { IfOk result
+        (λ _. (k : ℕ) → known_at known.new k ≡
+        (if k == number then settled (known_at known.old) number meaning.now else known_at known.old k)) }
     ensures same { IfOk result (λ found. found ≡ false → (k : ℕ) → known_at known.new k ≡ known_at known.old k) }
 {
     if is_settled(number, meaning, known) {
@@ -201,7 +207,8 @@ fn round(
     known: &mut [Option<Denotation>],
 ) -> Result<bool, AllocError>
     requires { length known.old ≡ length meanings.now }
-    ensures { IfOk result (λ found. IsRound meanings.now (known_at known.old) (known_at known.new) (length meanings.now) found) }
+    ensures { IfOk result (λ found.
+        IsRound meanings.now (known_at known.old) (known_at known.new) (length meanings.now) found) }
 {
     let mut found = false;
     for (number, meaning) in meanings.iter().enumerate() {
@@ -248,7 +255,8 @@ pub fn denotations(
     meanings: &[Meaning],
 ) -> Result<Vec<Option<Denotation>>, AllocError>
     requires { StaysInside meanings.now }
-    ensures each { IfOk result (λ known. (number : ℕ) → known_at known.items number ≡ value_at (length meanings.now) meanings.now number) }
+    ensures each { IfOk result
+        (λ known. (number : ℕ) → known_at known.items number ≡ value_at (length meanings.now) meanings.now number) }
     ensures count { IfOk result (λ known. length known.items ≡ length meanings.now) }
 {
     let mut known = nothing_known(alloc, meanings.len())?;
@@ -260,6 +268,9 @@ pub fn denotations(
 /// that does gives the same to each name that denotes something here.
 pub fn values_are_least(meanings: &[Meaning])
     requires { StaysInside meanings.now }
-    ensures lawful { (k : ℕ) → denotation_next (value_at (length meanings.now) meanings.now) meanings.now k ≡ value_at (length meanings.now) meanings.now k }
-    ensures least { (g : ℕ → Option Denotation) → ((k : ℕ) → denotation_next g meanings.now k ≡ g k) → IsBelow (value_at (length meanings.now) meanings.now) g }
+    ensures lawful { (k : ℕ) →
+        denotation_next (value_at (length meanings.now) meanings.now) meanings.now k ≡
+        value_at (length meanings.now) meanings.now k }
+    ensures least { (g : ℕ → Option Denotation) → ((k : ℕ) → denotation_next g meanings.now k ≡ g k) →
+        IsBelow (value_at (length meanings.now) meanings.now) g }
 {}

@@ -145,7 +145,8 @@ fn note_name(
     number: u32,
     definition: &Definition,
 ) -> Result<(), SourceFault>
-    ensures refused { IfErr result (λ fault. fault.code ≢ code.Memory → misnames_by names.old (Some definition.now) ≡ Some fault.code) }
+    ensures refused { IfErr result
+        (λ fault. fault.code ≢ code.Memory → misnames_by names.old (Some definition.now) ≡ Some fault.code) }
     ensures there { IfErr result (λ fault. fault.code ≢ code.Memory → fault.line ≡ number) }
     ensures whole { IfErr result (λ fault. fault.code ≡ code.Memory → fault.line ≡ 0) }
     ensures sound { OnOk result (misnames_by names.old (Some definition.now) ≡ None) }
@@ -174,7 +175,8 @@ fn new_definition(
     names: &mut NameSet,
     line: &Line,
 ) -> Result<Definition, SourceFault>
-    ensures refused { IfErr result (λ fault. fault.code ≢ code.Memory → misnames_by names.old (definition_of line.now) ≡ Some fault.code) }
+    ensures refused { IfErr result
+        (λ fault. fault.code ≢ code.Memory → misnames_by names.old (definition_of line.now) ≡ Some fault.code) }
     ensures there { IfErr result (λ fault. fault.code ≢ code.Memory → fault.line ≡ line.now.number) }
     ensures whole { IfErr result (λ fault. fault.code ≡ code.Memory → fault.line ≡ 0) }
     ensures sound { IfOk result (λ _. misnames_by names.old (definition_of line.now) ≡ None) }
@@ -198,11 +200,15 @@ fn define(
     definitions: &mut Vec<Definition>,
     line: &Line,
 ) -> Result<(), SourceFault>
-    ensures refused { IfErr result (λ fault. fault.code ≢ code.Memory → (if is_blank line.now then None else misnames_by names.old (definition_of line.now)) ≡ Some fault.code) }
+    ensures refused { IfErr result
+        (λ fault. fault.code ≢ code.Memory →
+        (if is_blank line.now then None else misnames_by names.old (definition_of line.now)) ≡ Some fault.code) }
     ensures there { IfErr result (λ fault. fault.code ≢ code.Memory → fault.line ≡ line.now.number) }
     ensures whole { IfErr result (λ fault. fault.code ≡ code.Memory → fault.line ≡ 0) }
-    ensures sound { OnOk result ((if is_blank line.now then None else misnames_by names.old (definition_of line.now)) ≡ None) }
-    ensures definitions { OnOk result (definitions.new.items ≡ definitions.old.items ++ definitions_of (line.now ∷ [])) }
+    ensures sound { OnOk result
+        ((if is_blank line.now then None else misnames_by names.old (definition_of line.now)) ≡ None) }
+    ensures definitions { OnOk result
+        (definitions.new.items ≡ definitions.old.items ++ definitions_of (line.now ∷ [])) }
     ensures noted { OnOk result (names.new ≡ names.old ++ map (λ d. d.name) (definitions_of (line.now ∷ []))) }
 {
     if is_blank(line) {
@@ -220,7 +226,8 @@ pub fn definitions(
     names: &mut NameSet,
     lines: &[Line],
 ) -> Result<Vec<Definition>, SourceFault>
-    ensures refused { IfErr result (λ fault. fault.code ≢ code.Memory → first_fault line_number (misnames names.old) [] lines.now ≡ Some fault) }
+    ensures refused { IfErr result
+        (λ fault. fault.code ≢ code.Memory → first_fault line_number (misnames names.old) [] lines.now ≡ Some fault) }
     ensures whole { IfErr result (λ fault. fault.code ≡ code.Memory → fault.line ≡ 0) }
     ensures sound { IfOk result (λ _. first_fault line_number (misnames names.old) [] lines.now ≡ None) }
     ensures definitions { IfOk result (λ r. r.items ≡ definitions_of lines.now) }

@@ -89,7 +89,8 @@ fn add_object(
 
 /// Adds what the lines of OBJECTS say about their names.
 fn add_objects(meanings: &mut Vec<Meaning>, objects: &[NameLine]) -> Result<(), AllocError>
-    ensures { OnOk result (meanings.new.items ≡ meanings.old.items ++ object_meanings 0 (length meanings.old.items) objects.now) }
+    ensures { OnOk result (meanings.new.items ≡
+        meanings.old.items ++ object_meanings 0 (length meanings.old.items) objects.now) }
 {
     for (place, line) in objects.iter().enumerate() {
         let first = meanings.len();
@@ -118,7 +119,8 @@ fn add_definitions(
     names: &NameSet,
     definitions: &[Definition],
 ) -> Result<(), AllocError>
-    ensures { OnOk result (meanings.new.items ≡ meanings.old.items ++ map (λ d. meaning_by names.now d.said) definitions.now) }
+    ensures { OnOk result (meanings.new.items ≡
+        meanings.old.items ++ map (λ d. meaning_by names.now d.said) definitions.now) }
 {
     for definition in definitions {
         add_definition(alloc, meanings, names, definition)?;

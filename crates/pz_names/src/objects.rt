@@ -114,7 +114,9 @@ fn read_paragraph<'a>(
     line: &Line,
     others: &'a [Line],
 ) -> Result<&'a [Line], AllocError>
-    ensures { IfOk result (λ after. (n : ℕ) → found.new.items ++ paragraphs_within n after.now ≡ found.old.items ++ paragraphs_within (suc n) (line.now ∷ others.entry.now)) }
+    ensures { IfOk result (λ after. (n : ℕ) →
+        found.new.items ++ paragraphs_within n after.now ≡
+        found.old.items ++ paragraphs_within (suc n) (line.now ∷ others.entry.now)) }
 {
     if is_blank(line) {
         return Ok(others);
@@ -190,7 +192,8 @@ fn note_paragraph(
     count: usize,
     paragraph: &Paragraph,
 ) -> Result<(), SourceFault>
-    ensures refused { IfErr result (λ fault. fault.code ≢ code.Memory → misnamed above.old count paragraph.now ≡ Some fault.code) }
+    ensures refused { IfErr result
+        (λ fault. fault.code ≢ code.Memory → misnamed above.old count paragraph.now ≡ Some fault.code) }
     ensures there { IfErr result (λ fault. fault.code ≢ code.Memory → fault.line ≡ paragraph_at paragraph.now) }
     ensures whole { IfErr result (λ fault. fault.code ≡ code.Memory → fault.line ≡ 0) }
     ensures sound { OnOk result (misnamed above.old count paragraph.now ≡ None) }
@@ -214,7 +217,8 @@ fn note_paragraphs(
     requires { names.old ≡ [] }
     ensures sound { OnOk result (first_fault paragraph_at misnames [] paragraphs.now ≡ None) }
     ensures names { OnOk result (names.new ≡ object_names (map name_line_of paragraphs.now)) }
-    ensures refused { IfErr result (λ fault. fault.code ≢ code.Memory → first_fault paragraph_at misnames [] paragraphs.now ≡ Some fault) }
+    ensures refused { IfErr result
+        (λ fault. fault.code ≢ code.Memory → first_fault paragraph_at misnames [] paragraphs.now ≡ Some fault) }
     ensures whole { IfErr result (λ fault. fault.code ≡ code.Memory → fault.line ≡ 0) }
 {
     for (count, paragraph) in paragraphs.iter().enumerate() {
@@ -227,7 +231,8 @@ fn note_paragraphs(
 fn names_of_paragraphs(alloc: Global, paragraphs: &[Paragraph]) -> Result<NameSet, SourceFault>
     ensures sound { IfOk result (λ _. first_fault paragraph_at misnames [] paragraphs.now ≡ None) }
     ensures names { IfOk result (λ names. names ≡ object_names (map name_line_of paragraphs.now)) }
-    ensures refused { IfErr result (λ fault. fault.code ≢ code.Memory → first_fault paragraph_at misnames [] paragraphs.now ≡ Some fault) }
+    ensures refused { IfErr result
+        (λ fault. fault.code ≢ code.Memory → first_fault paragraph_at misnames [] paragraphs.now ≡ Some fault) }
     ensures whole { IfErr result (λ fault. fault.code ≡ code.Memory → fault.line ≡ 0) }
 {
     let mut names = NameSet::new(alloc);

@@ -44,9 +44,11 @@ fn denoted(
     requires first { first ≡ length (object_names objects.now) }
     requires named { names.now ≡ names_of_source objects.now definitions.now }
     ensures sound { IfOk result (λ _. fault_of_definitions objects.now definitions.now ≡ None) }
-    ensures denoted { IfOk result (λ values. values.items ≡ values_of (meanings_of_source objects.now definitions.now)) }
+    ensures denoted { IfOk result
+        (λ values. values.items ≡ values_of (meanings_of_source objects.now definitions.now)) }
     ensures all { IfOk result (λ values. length values.items ≡ length names.now) }
-    ensures refused { IfErr result (λ fault. fault.code ≢ code.Memory → fault_of_definitions objects.now definitions.now ≡ Some fault) }
+    ensures refused { IfErr result
+        (λ fault. fault.code ≢ code.Memory → fault_of_definitions objects.now definitions.now ≡ Some fault) }
     ensures whole { IfErr result (λ fault. fault.code ≡ code.Memory → fault.line ≡ 0) }
 {
     if let Some(fault) = unknown_part(names, definitions) {
@@ -79,9 +81,11 @@ pub fn read_legend(
     requires { names.old ≡ object_names objects.now }
     ensures sound { IfOk result (λ _. fault_of_legend objects.now lines.now ≡ None) }
     ensures named { OnOk result (names.new ≡ names_of_source objects.now (definitions_of lines.now)) }
-    ensures denoted { IfOk result (λ values. values.items ≡ values_of (meanings_of_source objects.now (definitions_of lines.now))) }
+    ensures denoted { IfOk result
+        (λ values. values.items ≡ values_of (meanings_of_source objects.now (definitions_of lines.now))) }
     ensures all { IfOk result (λ values. length values.items ≡ length names.new) }
-    ensures refused { IfErr result (λ fault. fault.code ≢ code.Memory → fault_of_legend objects.now lines.now ≡ Some fault) }
+    ensures refused { IfErr result
+        (λ fault. fault.code ≢ code.Memory → fault_of_legend objects.now lines.now ≡ Some fault) }
     ensures whole { IfErr result (λ fault. fault.code ≡ code.Memory → fault.line ≡ 0) }
 {
     let first = names.len();

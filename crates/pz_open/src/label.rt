@@ -28,7 +28,8 @@ impl Label {
 
     /// The lines of items of the session. Its close tells how many frames there are. Err: memory was refused.
     pub fn lines(&self, alloc: Global, frames: u64, items: &[Item]) -> Result<Vec<u8>, AllocError>
-        ensures { IfOk result (λ lines. lines.items ≡ flat_map (item_line self.now.number self.now.name frames) items.now) }
+        ensures { IfOk result (λ lines. lines.items ≡
+            flat_map (item_line self.now.number self.now.name frames) items.now) }
     {
         let mut lines = Vec::new(alloc);
         for item in items {

@@ -120,7 +120,9 @@ fn next_worth_keeping(from: usize, count: usize) -> usize
 
 /// Keeps the place behind so many inputs on the way to `count`, if it is worth keeping. Where memory is refused it isn't kept.
 fn keep(kept: &mut Vec<Kept>, place: &Place, at: usize, count: usize)
-    ensures { (plan : PlanState) → (inputs : List Input) → IsKeptOf plan inputs (record { count = at; place = place.now }) → All (IsKeptOf plan inputs) kept.old.items → All (IsKeptOf plan inputs) kept.new.items }
+    ensures { (plan : PlanState) → (inputs : List Input) →
+        IsKeptOf plan inputs (record { count = at; place = place.now }) → All (IsKeptOf plan inputs) kept.old.items →
+        All (IsKeptOf plan inputs) kept.new.items }
 {
     if !is_worth_keeping(at, count) || kept.reserve(1).is_err() {
         return;
@@ -132,7 +134,8 @@ fn keep(kept: &mut Vec<Kept>, place: &Place, at: usize, count: usize)
 
 /// Forgets the places that are not worth keeping behind so many inputs.
 fn thin(kept: &mut Vec<Kept>, count: usize)
-    ensures { (plan : PlanState) → (inputs : List Input) → All (IsKeptOf plan inputs) kept.old.items → All (IsKeptOf plan inputs) kept.new.items }
+    ensures { (plan : PlanState) → (inputs : List Input) → All (IsKeptOf plan inputs) kept.old.items →
+        All (IsKeptOf plan inputs) kept.new.items }
 {
     kept.retain(|kept| is_worth_keeping(kept.count, count));
 }
@@ -147,7 +150,9 @@ fn forget_behind(kept: &mut Vec<Kept>, count: usize)
 /// The last place that is kept behind no more than so many inputs, or the start.
 fn last_kept(plan: &Plan, kept: &Vec<Kept>, count: usize) -> Result<Kept, AllocError>
     ensures before { IfOk result (λ last. last.count ≤ count) }
-    ensures kept { IfOk result (λ last. (inputs : List Input) → All (IsKeptOf plan.now inputs) kept.now.items → IsKeptOf plan.now inputs last) }
+    ensures kept { IfOk result
+        (λ last. (inputs : List Input) → All (IsKeptOf plan.now inputs) kept.now.items →
+        IsKeptOf plan.now inputs last) }
 {
     let mut left = kept.len();
     'kept: while left > 0 {
@@ -242,7 +247,8 @@ fn told_newest(
     requires known { IfSome known (IsKeptOf plan.now inputs.now) }
     requires kept { All (IsKeptOf plan.now inputs.now) kept.old.items }
     ensures standing { IfOk result (λ newest. IsStanding plan.now inputs.now newest.place) }
-    ensures lines { IfOk result (λ newest. TellsNewest (record { label = label.now; plan = with_inputs plan.now inputs.now }) newest.lines.items) }
+    ensures lines { IfOk result (λ newest. TellsNewest (record
+        { label = label.now; plan = with_inputs plan.now inputs.now }) newest.lines.items) }
     ensures kept { All (IsKeptOf plan.now inputs.now) kept.new.items }
 {
     let alloc = *kept.allocator();
@@ -317,7 +323,8 @@ impl OpenSession {
         ensures given { OnOk result (self.new ≡ behind self.old (self.old.plan.inputs ++ inputs.now)) }
         ensures lines { IfOk result (λ lines. TellsNewest self.new lines.items) }
         ensures same { OnErr result (self.new ≡ self.old) }
-        ensures full { IfErr result (λ fault. fault ≡ TooMany → MOST_INPUTS < length self.old.plan.inputs + length inputs.now) }
+        ensures full { IfErr result
+            (λ fault. fault ≡ TooMany → MOST_INPUTS < length self.old.plan.inputs + length inputs.now) }
         ensures room { length self.old.plan.inputs + length inputs.now ≤ MOST_INPUTS → result ≢ Err TooMany }
     {
         let before = self.inputs.len();

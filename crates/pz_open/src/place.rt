@@ -111,8 +111,12 @@ pub fn go_on(
 ) -> Result<Moved, AllocError>
     requires { CanGoOn plan.now place }
     ensures go_on { IfOk result (λ moved. CanGoOn plan.now moved.place) }
-    ensures place { IfOk result (λ moved. (inputs : List Input) → taken ≡ length inputs + 1 → IsPlace plan.now inputs place → IsPlace plan.now (inputs ++ input ∷ []) moved.place) }
-    ensures items { IfOk result (λ moved. (inputs : List Input) → taken ≡ length inputs + 1 → IsPlace plan.now inputs place → ComesWith plan.now inputs input moved.items.items) }
+    ensures place { IfOk result
+        (λ moved. (inputs : List Input) → taken ≡ length inputs + 1 → IsPlace plan.now inputs place →
+        IsPlace plan.now (inputs ++ input ∷ []) moved.place) }
+    ensures items { IfOk result
+        (λ moved. (inputs : List Input) → taken ≡ length inputs + 1 → IsPlace plan.now inputs place →
+        ComesWith plan.now inputs input moved.items.items) }
 {
     let mut told = Told {
         items: Vec::new(alloc),
@@ -150,8 +154,11 @@ fn play_one(
     frames: &mut u64,
     input: Input,
 ) -> Result<Option<Stop>, AllocError>
-    ensures stood { IfOk result (λ stop. (plan : PlanState) → IsStood plan board.old → stop ≡ None → IsStood plan board.new) }
-    ensures led { IfOk result (λ stop. (plan : PlanState) (before : List Input) → IsStood plan board.old → StandsAt plan before frames.old board.old → IsLed plan (before ++ input ∷ []) frames.new stop board.new) }
+    ensures stood { IfOk result
+        (λ stop. (plan : PlanState) → IsStood plan board.old → stop ≡ None → IsStood plan board.new) }
+    ensures led { IfOk result
+        (λ stop. (plan : PlanState) (before : List Input) → IsStood plan board.old →
+        StandsAt plan before frames.old board.old → IsLed plan (before ++ input ∷ []) frames.new stop board.new) }
 {
     let mut told = Told {
         items: Vec::new(alloc),
@@ -176,8 +183,11 @@ fn play_all(
     frames: &mut u64,
     inputs: &[Input],
 ) -> Result<Option<Stop>, AllocError>
-    ensures stood { IfOk result (λ stop. (plan : PlanState) → IsStood plan board.old → stop ≡ None → IsStood plan board.new) }
-    ensures led { IfOk result (λ stop. (plan : PlanState) (before : List Input) → IsStood plan board.old → StandsAt plan before frames.old board.old → IsLed plan (before ++ inputs.now) frames.new stop board.new) }
+    ensures stood { IfOk result
+        (λ stop. (plan : PlanState) → IsStood plan board.old → stop ≡ None → IsStood plan board.new) }
+    ensures led { IfOk result
+        (λ stop. (plan : PlanState) (before : List Input) → IsStood plan board.old →
+        StandsAt plan before frames.old board.old → IsLed plan (before ++ inputs.now) frames.new stop board.new) }
 {
     let mut taken = 0;
     'inputs: while taken < inputs.len() {
@@ -199,7 +209,8 @@ pub fn go_through(
 ) -> Result<Place, AllocError>
     requires { CanGoOn plan.now place }
     ensures go_on { IfOk result (CanGoOn plan.now) }
-    ensures place { IfOk result (λ next. (before : List Input) → IsPlace plan.now before place → IsPlace plan.now (before ++ inputs.now) next) }
+    ensures place { IfOk result
+        (λ next. (before : List Input) → IsPlace plan.now before place → IsPlace plan.now (before ++ inputs.now) next) }
 {
     match place {
         Place::Stopped(stop, frames) => Ok(Place::Stopped(stop, frames)),

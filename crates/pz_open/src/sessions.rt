@@ -201,7 +201,8 @@ impl OpenSessions {
     /// Gives a session inputs, one after another, and answers the lines of the items that come with the last of all that it then has. Err: it
     /// isn't open, or would have more inputs than a session may have, or memory was refused; then all stay as they were.
     pub fn give(&mut self, number: usize, inputs: &[Input]) -> Result<Vec<u8>, SessionFault>
-        ensures given { IfOk result (λ lines. IsDoneAt number (λ old new. Gives inputs.now old new lines.items) self.old self.new) }
+        ensures given { IfOk result
+            (λ lines. IsDoneAt number (λ old new. Gives inputs.now old new lines.items) self.old self.new) }
         ensures same { OnErr result (self.new ≡ self.old) }
         ensures why { IfErr result (λ why. GivesNot why (open_at self.old number) (length inputs.now)) }
         ensures open { open_at self.old number ≡ None → result ≡ Err refused.NotOpen }
@@ -215,7 +216,8 @@ impl OpenSessions {
     /// Leads a session back to its first `count` inputs, and answers the lines of the items that come with the last of these. Err: it isn't
     /// open, or has fewer inputs, or memory was refused; then all stay as they were.
     pub fn back(&mut self, number: usize, count: usize) -> Result<Vec<u8>, SessionFault>
-        ensures went { IfOk result (λ lines. IsDoneAt number (λ old new. GoesBack count old new lines.items) self.old self.new) }
+        ensures went { IfOk result
+            (λ lines. IsDoneAt number (λ old new. GoesBack count old new lines.items) self.old self.new) }
         ensures same { OnErr result (self.new ≡ self.old) }
         ensures why { IfErr result (λ why. GoesNot why (open_at self.old number) count) }
         ensures open { open_at self.old number ≡ None → result ≡ Err refused.NotOpen }

@@ -27,7 +27,8 @@ impl Told {
     /// Tells a frame. If no `u64` holds its number, the answer is want of memory; no session has so many.
     #[tactic(auto, unfolding(pz_session::specs::Session::numbered))]
     fn add(&mut self, frame: Frame) -> Result<(), AllocError>
-        ensures items { OnOk result (self.new.items.items ≡ self.old.items.items ++ frame_items self.old.frames self.old.taken (frame ∷ [])) }
+        ensures items { OnOk result
+            (self.new.items.items ≡ self.old.items.items ++ frame_items self.old.frames self.old.taken (frame ∷ [])) }
         ensures frames { OnOk result (self.new.frames ≡ self.old.frames + 1) }
         ensures taken { self.new.taken ≡ self.old.taken }
     {
@@ -46,7 +47,9 @@ impl Told {
     /// Tells a frame, if there is one.
     #[tactic(auto, unfolding(pz_session::specs::Session::numbered))]
     fn add_if(&mut self, frame: Option<Frame>) -> Result<(), AllocError>
-        ensures items { OnOk result (self.new.items.items ≡ self.old.items.items ++ frame_items self.old.frames self.old.taken (option_to_list frame)) }
+        ensures items { OnOk result
+            (self.new.items.items ≡ self.old.items.items ++ frame_items self.old.frames self.old.taken
+            (option_to_list frame)) }
         ensures frames { OnOk result (self.new.frames ≡ self.old.frames + length (option_to_list frame)) }
         ensures taken { self.new.taken ≡ self.old.taken }
     {
@@ -59,7 +62,9 @@ impl Told {
     /// Tells what a link shows. Whether one more tick follows it.
     #[tactic(auto, using(crate::proofs::Chains::items_append))]
     fn add_shown(&mut self, shown: Shown) -> Result<bool, AllocError>
-        ensures items { OnOk result (self.new.items.items ≡ self.old.items.items ++ frame_items self.old.frames self.old.taken (shown_frames shown)) }
+        ensures items { OnOk result
+            (self.new.items.items ≡ self.old.items.items ++ frame_items self.old.frames self.old.taken
+            (shown_frames shown)) }
         ensures frames { OnOk result (self.new.frames ≡ self.old.frames + length (shown_frames shown)) }
         ensures taken { self.new.taken ≡ self.old.taken }
         ensures goes_on { IfOk result (λ goes_on. goes_on ≡ shown.goes_on) }
@@ -107,7 +112,8 @@ fn follow(
     outcome: Result<Shown, PlayFault>,
     allowed: u64,
 ) -> Result<Option<Stop>, AllocError>
-    ensures { IfOk result (λ stop. (link : Result (Link State) Stop) → GivesLink link board.old outcome → IsTold told.old (follow (ticks tick_link allowed) link) told.new stop board.new) }
+    ensures { IfOk result (λ stop. (link : Result (Link State) Stop) → GivesLink link board.old outcome →
+        IsTold told.old (follow (ticks tick_link allowed) link) told.new stop board.new) }
 {
     match outcome {
         Ok(shown) => {

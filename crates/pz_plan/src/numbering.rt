@@ -40,7 +40,8 @@ fn add_mark(
     subject: Subject,
     choices: &mut Vec<Choice>,
 ) -> Result<(), AllocError>
-    ensures { OnOk result (choices.new.items ≡ choices.old.items ++ map (λ what. record { spot = spot; asked = what }) (asked_by_mark lead subject)) }
+    ensures { OnOk result (choices.new.items ≡
+        choices.old.items ++ map (λ what. record { spot = spot; asked = what }) (asked_by_mark lead subject)) }
 {
     if let Some(Lead::OneOf(class)) = lead {
         choices.push(Choice {
@@ -53,7 +54,8 @@ fn add_mark(
 
 /// Adds the choice of a member.
 fn add_subject(spot: Spot, subject: Subject, choices: &mut Vec<Choice>) -> Result<(), AllocError>
-    ensures { OnOk result (choices.new.items ≡ choices.old.items ++ map (λ what. record { spot = spot; asked = what }) (asked_by_subject subject)) }
+    ensures { OnOk result (choices.new.items ≡
+        choices.old.items ++ map (λ what. record { spot = spot; asked = what }) (asked_by_subject subject)) }
 {
     if let Subject::Property(property) = subject {
         choices.push(Choice {
@@ -67,7 +69,9 @@ fn add_subject(spot: Spot, subject: Subject, choices: &mut Vec<Choice>) -> Resul
 /// The term of a mention, whose choices are added.
 fn number_term(spot: Spot, mention: &Mention, choices: &mut Vec<Choice>) -> Result<Term, AllocError>
     ensures term { IfOk result (λ term. term ≡ term_of (length choices.old.items) mention.now) }
-    ensures choices { OnOk result (choices.new.items ≡ choices.old.items ++ map (λ what. record { spot = spot; asked = what }) (asked_by mention.now)) }
+    ensures choices { OnOk result
+        (choices.new.items ≡ choices.old.items ++ map (λ what. record { spot = spot; asked = what })
+        (asked_by mention.now)) }
 {
     let lead = lead_of(choices.len(), mention.lead);
     add_mark(spot, mention.lead, mention.subject, choices)?;

@@ -108,7 +108,8 @@ fn add_mentions(
     denotation: &Denotation,
     mentions: &mut Vec<Mention>,
 ) -> Result<(), AllocError>
-    ensures { OnOk result (mentions.new.items ≡ added_all (says_the_same side) mentions.old.items (mentions_of lead denotation.now)) }
+    ensures { OnOk result (mentions.new.items ≡
+        added_all (says_the_same side) mentions.old.items (mentions_of lead denotation.now)) }
 {
     if is_chosen(lead, denotation) {
         return add_mention(
@@ -156,7 +157,8 @@ fn add_phrase(
     phrase: &Phrase,
     mentions: &mut Vec<Mention>,
 ) -> Result<(), AllocError>
-    ensures { OnOk result (mentions.new.items ≡ added_all (says_the_same side) mentions.old.items (mentions_at table.now phrase.now)) }
+    ensures { OnOk result (mentions.new.items ≡
+        added_all (says_the_same side) mentions.old.items (mentions_at table.now phrase.now)) }
 {
     match denoted(table, phrase.name) {
         Some(denotation) => add_mentions(side, phrase.lead, denotation, mentions),

@@ -96,7 +96,8 @@ pub fn others(set: u128) -> u128
 /// The positions from which a position of the set is this many steps on, in a line of 128.
 pub fn from_which(set: u128, way: Way, steps: usize) -> u128
     requires { steps < 128 }
-    ensures { (at : ℕ) → at < 128 → steps < room_from 128 way at → in_word result at ≡ in_word set (step_to way at steps) }
+    ensures { (at : ℕ) → at < 128 → steps < room_from 128 way at →
+        in_word result at ≡ in_word set (step_to way at steps) }
 {
     match way {
         Way::Ahead => set >> steps,

@@ -89,14 +89,17 @@ impl Notes {
 
     /// The first row, from number `from` on, for which a heading may be noted. None is noted for those before it.
     pub fn next_row(&self, from: usize) -> Option<usize>
-        ensures { MatchOption result (HaveNoneBetween self.now.rows from (length self.now.rows)) (λ row. (from ≤ row) × (row < length self.now.rows) × HaveNoneBetween self.now.rows from row) }
+        ensures { MatchOption result (HaveNoneBetween self.now.rows from (length self.now.rows))
+            (λ row. (from ≤ row) × (row < length self.now.rows) × HaveNoneBetween self.now.rows from row) }
     {
         next_noted(&self.rows, self.noted_rows, from)
     }
 
     /// The same of columns.
     pub fn next_column(&self, from: usize) -> Option<usize>
-        ensures { MatchOption result (HaveNoneBetween self.now.columns from (length self.now.columns)) (λ column. (from ≤ column) × (column < length self.now.columns) × HaveNoneBetween self.now.columns from column) }
+        ensures { MatchOption result (HaveNoneBetween self.now.columns from (length self.now.columns))
+            (λ column. (from ≤ column) × (column < length self.now.columns) ×
+            HaveNoneBetween self.now.columns from column) }
     {
         next_noted(&self.columns, self.noted_columns, from)
     }
@@ -105,7 +108,8 @@ impl Notes {
     /// row.
     pub fn add(&mut self, index: usize, headings: &NumberSet)
         requires within { index < length self.old.columns * length self.old.rows }
-        ensures whole { (number : ℕ) → member self.new.whole number ≡ (member self.old.whole number || member headings.now number) }
+        ensures whole { (number : ℕ) →
+            member self.new.whole number ≡ (member self.old.whole number || member headings.now number) }
         ensures rows { IsMoreIn self.old.rows self.new.rows (index / length self.old.columns) headings.now }
         ensures columns { IsMoreIn self.old.columns self.new.columns (index % length self.old.columns) headings.now }
     {
@@ -179,7 +183,9 @@ pub fn is_empty(headings: &NumberSet) -> bool
 
 /// Whether neither of two levels has a heading noted.
 pub fn are_empty(notes: &Notes, others: &Notes) -> bool
-    ensures { IsTrue result ↔ (((number : ℕ) → member notes.now.whole number ≡ false) × ((number : ℕ) → member others.now.whole number ≡ false)) }
+    ensures { IsTrue result ↔
+        (((number : ℕ) → member notes.now.whole number ≡ false) ×
+        ((number : ℕ) → member others.now.whole number ≡ false)) }
 {
     is_empty(notes.whole()) && is_empty(others.whole())
 }
@@ -187,7 +193,8 @@ pub fn are_empty(notes: &Notes, others: &Notes) -> bool
 /// The first line, from number `from` on, for which a heading may be noted. None is noted for those before it.
 fn next_noted(sets: &[NumberSet], noted: u128, from: usize) -> Option<usize>
     requires { AreAmong noted sets.now }
-    ensures { MatchOption result (HaveNoneBetween sets.now from (length sets.now)) (λ line. (from ≤ line) × (line < length sets.now) × HaveNoneBetween sets.now from line) }
+    ensures { MatchOption result (HaveNoneBetween sets.now from (length sets.now))
+        (λ line. (from ≤ line) × (line < length sets.now) × HaveNoneBetween sets.now from line) }
 {
     let end = sets.len();
     if end > bits::ROOM as usize || from >= end {
@@ -201,7 +208,8 @@ fn next_noted(sets: &[NumberSet], noted: u128, from: usize) -> Option<usize>
 
 /// The same, set by set.
 fn next_of_many(sets: &[NumberSet], from: usize) -> Option<usize>
-    ensures { MatchOption result (HaveNoneBetween sets.now from (length sets.now)) (λ line. (from ≤ line) × (line < length sets.now) × HaveNoneBetween sets.now from line) }
+    ensures { MatchOption result (HaveNoneBetween sets.now from (length sets.now))
+        (λ line. (from ≤ line) × (line < length sets.now) × HaveNoneBetween sets.now from line) }
 {
     for line in from..sets.len() {
         if !is_empty(&sets[line]) {

@@ -128,7 +128,8 @@ impl LinePlanes {
     fn item_places(&self, line: usize, item: &Item) -> u128
         requires line_in { line < self.now.count }
         requires object_in { item.now.object < self.now.objects }
-        ensures { (at : ℕ) → at < 128 → stands_in self.now item.now.object line at ≡ names item.now.word → in_word result at ≡ true }
+        ensures { (at : ℕ) → at < 128 → stands_in self.now item.now.object line at ≡ names item.now.word →
+            in_word result at ≡ true }
     {
         let word = self.words[self.index(item.object, line)];
         if names(item.word) {
@@ -337,7 +338,8 @@ impl Planes {
         requires low { index < 4 }
         requires inside { IsInside self.old x y }
         requires known { (bit : ℕ) → bit < 128 → in_word word bit ≡ true → IsKnown self.old (index * 128 + bit) }
-        ensures { AreChanged self.old self.new x y (λ object was. toggled (nat_eq (object / 128) index && in_word word (object % 128)) was) }
+        ensures { AreChanged self.old self.new x y
+            (λ object was. toggled (nat_eq (object / 128) index && in_word word (object % 128)) was) }
     {
         let mut rest = word;
         'objects: while rest != 0 {
@@ -372,8 +374,10 @@ impl Planes {
         requires within { index < self.old.columns.count * self.old.rows.count }
         requires known_before { AreKnown self.old before.now }
         requires known { AreKnown self.old after.now }
-        requires there { AreThere self.old (index % self.old.columns.count) (index / self.old.columns.count) (member before.now) }
-        ensures { AreChanged self.old self.new (index % self.old.columns.count) (index / self.old.columns.count) (λ object was. member after.now object) }
+        requires there { AreThere self.old (index % self.old.columns.count) (index / self.old.columns.count)
+            (member before.now) }
+        ensures { AreChanged self.old self.new (index % self.old.columns.count) (index / self.old.columns.count)
+            (λ object was. member after.now object) }
     {
         let width = self.columns.count();
         self.note(index % width, index / width, before, after);
@@ -391,7 +395,8 @@ impl Planes {
 
     /// Whether another has as many objects and lines, so that it fits in this one's memory.
     pub fn has_room_of(&self, other: &Planes) -> bool
-        ensures { IsTrue result ↔ (HasRoomOf self.now.rows other.now.rows × HasRoomOf self.now.columns other.now.columns) }
+        ensures { IsTrue result ↔
+            (HasRoomOf self.now.rows other.now.rows × HasRoomOf self.now.columns other.now.columns) }
     {
         self.rows.has_room_of(&other.rows) && self.columns.has_room_of(&other.columns)
     }
@@ -432,7 +437,10 @@ fn mark_object(words: &[u128], start: usize, object: usize, marks: &mut [NumberS
     requires covers { start + length marks.old ≤ length words.now }
     requires low { object < CAPACITY }
     ensures count { length marks.new ≡ length marks.old }
-    ensures marked { (line other : ℕ) → line < length marks.old → member (slice_index_or marks.new line []) other ≡ ((nat_eq other object && not (nat_eq (slice_index words.now (start + line)) 0)) || member (slice_index_or marks.old line []) other) }
+    ensures marked { (line other : ℕ) → line < length marks.old →
+        member (slice_index_or marks.new line []) other ≡
+        ((nat_eq other object && not (nat_eq (slice_index words.now (start + line)) 0)) || member
+        (slice_index_or marks.old line []) other) }
 {
     for line in 0..marks.len() {
         if words[start + line] != 0 {

@@ -24,7 +24,8 @@ impl Flags for Commands {
 
     ghost exact = { ⊤ };
 
-    ghost table = { (codes "AGAIN", 1) ∷ (codes "CANCEL", 2) ∷ (codes "CHECKPOINT", 4) ∷ (codes "RESTART", 8) ∷ (codes "WIN", 16) ∷ [] };
+    ghost table = { (codes "AGAIN", 1) ∷ (codes "CANCEL", 2) ∷ (codes "CHECKPOINT", 4) ∷ (codes "RESTART", 8) ∷
+        (codes "WIN", 16) ∷ [] };
 
     ghost set_of = { λ c. c.0 };
 

@@ -101,7 +101,8 @@ pub(crate) fn restart(
     numbers: &mut Vec<Option<usize>>,
     texts: &KnownTexts,
 ) -> Result<(), AllocError>
-    ensures begun { OnOk result ((width : ℕ) (all : List (List ℕ)) → 0 < width → IsBegun width all texts.now draft.new numbers.new.items) }
+    ensures begun { OnOk result
+        ((width : ℕ) (all : List (List ℕ)) → 0 < width → IsBegun width all texts.now draft.new numbers.new.items) }
     ensures start { OnOk result (draft.new.at.cells ≡ 0) }
     ensures marks { OnOk result (length draft.new.marks.items ≡ 0) }
 {
@@ -149,10 +150,14 @@ fn write_part(
     requires from { draft.old.at.cells ≤ stop }
     requires stop { stop ≤ length labels.now }
     requires within { All (λ label. label < length texts.now) labels.now }
-    requires written { AreWritten width (map (text_at texts.now) labels.now) texts.now draft.old.at draft.old.json.items numbers.old.items }
-    requires firsts { AreFirsts (map (text_at texts.now) labels.now) texts.now draft.old.at.cells draft.old.firsts.items }
-    ensures written { OnOk result (AreWritten width (map (text_at texts.now) labels.now) texts.now draft.new.at draft.new.json.items numbers.new.items) }
-    ensures firsts { OnOk result (AreFirsts (map (text_at texts.now) labels.now) texts.now draft.new.at.cells draft.new.firsts.items) }
+    requires written { AreWritten width
+        (map (text_at texts.now) labels.now) texts.now draft.old.at draft.old.json.items numbers.old.items }
+    requires firsts { AreFirsts
+        (map (text_at texts.now) labels.now) texts.now draft.old.at.cells draft.old.firsts.items }
+    ensures written { OnOk result (AreWritten width (map (text_at texts.now) labels.now) texts.now draft.new.at
+        draft.new.json.items numbers.new.items) }
+    ensures firsts { OnOk result
+        (AreFirsts (map (text_at texts.now) labels.now) texts.now draft.new.at.cells draft.new.firsts.items) }
     ensures stop { OnOk result (draft.new.at.cells ≡ stop) }
     ensures marks { draft.new.marks ≡ draft.old.marks }
 {
@@ -197,7 +202,8 @@ pub(crate) fn write_cells(
     requires within { All (λ label. label < length texts.now) labels.now }
     requires begun { IsBegun width (map (text_at texts.now) labels.now) texts.now draft.old numbers.old.items }
     requires mark { draft.old.at.cells ≡ length draft.old.marks.items * STEP }
-    ensures begun { OnOk result (IsBegun width (map (text_at texts.now) labels.now) texts.now draft.new numbers.new.items) }
+    ensures begun { OnOk result
+        (IsBegun width (map (text_at texts.now) labels.now) texts.now draft.new numbers.new.items) }
     ensures to { OnOk result (draft.new.at.cells ≡ to) }
 {
     'parts: while draft.at.cells < to {
@@ -259,11 +265,17 @@ fn take_rest(draft: &mut Draft, last: &Draft, mark: Written, count: usize) -> Re
     requires mark { mark.end ≤ last.now.at.end }
     requires firsts { mark.known ≤ length last.now.firsts.items }
     requires marks { count ≤ length last.now.marks.items }
-    requires ends { All (λ next. (mark.end ≤ next.end) × (next.end ≤ last.now.at.end)) (drop count last.now.marks.items) }
+    requires ends { All (λ next. (mark.end ≤ next.end) × (next.end ≤ last.now.at.end))
+        (drop count last.now.marks.items) }
     ensures room { OnOk result (draft.new.at.end ≤ length draft.new.json.items) }
-    ensures json { OnOk result (take draft.new.at.end draft.new.json.items ≡ take draft.old.at.end draft.old.json.items ++ drop mark.end (take last.now.at.end last.now.json.items)) }
-    ensures firsts { OnOk result (draft.new.firsts.items ≡ draft.old.firsts.items ++ drop mark.known last.now.firsts.items) }
-    ensures marks { OnOk result (draft.new.marks.items ≡ draft.old.marks.items ++ map (moved mark.end draft.old.at.end) (drop count last.now.marks.items)) }
+    ensures json { OnOk result
+        (take draft.new.at.end draft.new.json.items ≡
+        take draft.old.at.end draft.old.json.items ++ drop mark.end (take last.now.at.end last.now.json.items)) }
+    ensures firsts { OnOk result
+        (draft.new.firsts.items ≡ draft.old.firsts.items ++ drop mark.known last.now.firsts.items) }
+    ensures marks { OnOk result
+        (draft.new.marks.items ≡ draft.old.marks.items ++ map (moved mark.end draft.old.at.end)
+        (drop count last.now.marks.items)) }
 {
     take_marks(
         &mut draft.marks,
@@ -295,9 +307,13 @@ fn finish_at(
     requires mark { draft.old.at.cells ≡ length draft.old.marks.items * STEP }
     requires from { draft.old.at.cells ≤ count * STEP }
     requires count { count < length last.now.marks.items }
-    requires last { (before : List (List ℕ)) × IsWhole width before texts.now last.now × IsSameBut 0 (count * STEP) before (map (text_at texts.now) labels.now) }
-    ensures whole { IfOk result (λ whole. whole ≡ true → IsWhole width (map (text_at texts.now) labels.now) texts.now draft.new) }
-    ensures begun { IfOk result (λ whole. whole ≡ false → IsBegun width (map (text_at texts.now) labels.now) texts.now draft.new numbers.new.items) }
+    requires last { (before : List (List ℕ)) × IsWhole width before texts.now last.now ×
+        IsSameBut 0 (count * STEP) before (map (text_at texts.now) labels.now) }
+    ensures whole { IfOk result
+        (λ whole. whole ≡ true → IsWhole width (map (text_at texts.now) labels.now) texts.now draft.new) }
+    ensures begun { IfOk result
+        (λ whole. whole ≡ false →
+        IsBegun width (map (text_at texts.now) labels.now) texts.now draft.new numbers.new.items) }
     ensures mark { IfOk result (λ whole. whole ≡ false → draft.new.at.cells ≡ count * STEP) }
 {
     let mark = last.marks[count];
@@ -325,7 +341,8 @@ fn finish(
     requires mark { draft.old.at.cells ≡ length draft.old.marks.items * STEP }
     requires from { draft.old.at.cells ≤ changed.first }
     requires some { changed.first < changed.end }
-    requires last { (before : List (List ℕ)) × IsWhole width before texts.now last.now × IsSameBut changed.first changed.end before (map (text_at texts.now) labels.now) }
+    requires last { (before : List (List ℕ)) × IsWhole width before texts.now last.now ×
+        IsSameBut changed.first changed.end before (map (text_at texts.now) labels.now) }
     ensures { OnOk result (IsWhole width (map (text_at texts.now) labels.now) texts.now draft.new) }
 {
     // (the number of the first mark behind all cells that may have changed)
@@ -354,7 +371,8 @@ pub(crate) fn write_after(
     requires wide { 0 < width }
     requires within { All (λ label. label < length texts.now) labels.now }
     requires some { changed.first < changed.end }
-    requires last { (before : List (List ℕ)) × IsWhole width before texts.now last.now × IsSameBut changed.first changed.end before (map (text_at texts.now) labels.now) }
+    requires last { (before : List (List ℕ)) × IsWhole width before texts.now last.now ×
+        IsSameBut changed.first changed.end before (map (text_at texts.now) labels.now) }
     ensures { OnOk result (IsWhole width (map (text_at texts.now) labels.now) texts.now draft.new) }
 {
     let count = changed.first / STEP;
@@ -368,7 +386,8 @@ pub(crate) fn write_after(
 /// behind it.
 fn known_behind(draft: &Draft, count: usize) -> usize
     requires { count < length draft.now.marks.items }
-    ensures { (width : ℕ) (all texts : List (List ℕ)) → IsWhole width all texts draft.now → result ≡ length (known_of (take (min ((count + 1) * STEP) (length all)) all)) }
+    ensures { (width : ℕ) (all texts : List (List ℕ)) → IsWhole width all texts draft.now →
+        result ≡ length (known_of (take (min ((count + 1) * STEP) (length all)) all)) }
 {
     if count + 1 < draft.marks.len() {
         return draft.marks[count + 1].known;
@@ -380,8 +399,10 @@ fn known_behind(draft: &Draft, count: usize) -> usize
 /// number of one digit.
 fn place(draft: &Draft, width: usize, cell: usize) -> Option<(usize, usize)>
     requires wide { 0 < width }
-    requires whole { (all : List (List ℕ)) × (texts : List (List ℕ)) × IsWhole width all texts draft.now × (cell < length all) }
-    ensures { IfSome result (λ found. (all texts : List (List ℕ)) → IsWhole width all texts draft.now → cell < length all → IsDigitAt width all cell found.0 found.1) }
+    requires whole { (all : List (List ℕ)) × (texts : List (List ℕ)) × IsWhole width all texts draft.now ×
+        (cell < length all) }
+    ensures { IfSome result (λ found. (all texts : List (List ℕ)) → IsWhole width all texts draft.now →
+        cell < length all → IsDigitAt width all cell found.0 found.1) }
 {
     let count = cell / STEP;
     let mark = draft.marks[count];
@@ -411,7 +432,8 @@ pub(crate) fn patch(
     requires wide { 0 < width }
     requires known { label < length texts.now }
     requires whole { (all : List (List ℕ)) × IsWhole width all texts.now draft.old × (cell < length all) }
-    ensures patched { result ≡ true → (all : List (List ℕ)) → IsWhole width all texts.now draft.old → cell < length all → IsWhole width (slice_set all cell (text_at texts.now label)) texts.now draft.new }
+    ensures patched { result ≡ true → (all : List (List ℕ)) → IsWhole width all texts.now draft.old →
+        cell < length all → IsWhole width (slice_set all cell (text_at texts.now label)) texts.now draft.new }
     ensures kept { result ≡ false → draft.new ≡ draft.old }
 {
     let (at, known) = match place(draft, width, cell) {

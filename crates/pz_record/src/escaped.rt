@@ -54,7 +54,8 @@ fn put_marked(json: &mut [u8], end: usize, bytes: &[u8], mark: u8) -> usize
 fn put_number(json: &mut [u8], end: usize, number: usize) -> Option<usize>
     requires room { end + 3 ≤ length json.old }
     ensures end { IfSome result (λ next. next ≤ end + 3) }
-    ensures written { IfSome result (λ next. take next json.new ≡ take end json.old ++ escape (decimal number ++ 44 ∷ [])) }
+    ensures written { IfSome result
+        (λ next. take next json.new ≡ take end json.old ++ escape (decimal number ++ 44 ∷ [])) }
     ensures room { length json.new ≡ length json.old }
     ensures none { result ≡ None → json.new ≡ json.old }
 {
@@ -76,7 +77,8 @@ fn end_line(json: &mut [u8], end: usize, width: usize, column: usize) -> (usize,
     requires column { column < width }
     requires room { end + 2 ≤ length json.old }
     ensures end { result.0 ≤ end + 2 }
-    ensures written { (count : ℕ) → column ≡ count % width → take result.0 json.new ≡ take end json.old ++ escape (line_end width (count + 1)) }
+    ensures written { (count : ℕ) → column ≡ count % width →
+        take result.0 json.new ≡ take end json.old ++ escape (line_end width (count + 1)) }
     ensures column { (count : ℕ) → column ≡ count % width → result.1 ≡ (count + 1) % width }
     ensures line { result.1 < width }
     ensures room { length json.new ≡ length json.old }
@@ -108,7 +110,8 @@ pub(crate) fn write_known(
     ensures written { AreWritten width (map (text_at texts.now) labels.now) texts.now result json.new numbers.now }
     ensures onward { from.cells ≤ result.cells }
     ensures stop { result.cells ≤ stop }
-    ensures same { known_of (take result.cells (map (text_at texts.now) labels.now)) ≡ known_of (take from.cells (map (text_at texts.now) labels.now)) }
+    ensures same { known_of (take result.cells (map (text_at texts.now) labels.now)) ≡
+        known_of (take from.cells (map (text_at texts.now) labels.now)) }
 {
     let mut at = from;
     'cells: while at.cells < stop {
@@ -135,7 +138,8 @@ pub(crate) fn write_known(
 fn put_large(json: &mut Vec<u8>, end: usize, number: usize) -> Result<usize, AllocError>
     requires { end ≤ length json.old.items }
     ensures end { IfOk result (λ next. next ≤ length json.new.items) }
-    ensures written { IfOk result (λ next. take next json.new.items ≡ take end json.old.items ++ escape (decimal number ++ 44 ∷ [])) }
+    ensures written { IfOk result
+        (λ next. take next json.new.items ≡ take end json.old.items ++ escape (decimal number ++ 44 ∷ [])) }
 {
     let mut digits = Buffer::new();
     let text = digits.format(number).as_bytes();
@@ -152,7 +156,9 @@ fn put_new(
 ) -> Result<usize, AllocError>
     requires { end ≤ length json.old.items }
     ensures end { IfOk result (λ next. next ≤ length json.new.items) }
-    ensures written { IfOk result (λ next. take next json.new.items ≡ take end json.old.items ++ escape (text.now ++ 58 ∷ [] ++ decimal number ++ 44 ∷ [])) }
+    ensures written { IfOk result
+        (λ next. take next json.new.items ≡
+        take end json.old.items ++ escape (text.now ++ 58 ∷ [] ++ decimal number ++ 44 ∷ [])) }
 {
     let text = text.escaped();
     make_way(json, end, text.len() + 1)?;
@@ -175,8 +181,11 @@ pub(crate) fn write_cell(
     requires within { All (λ label. label < length texts.now) labels.now }
     requires at { AreWritten width (map (text_at texts.now) labels.now) texts.now at json.old.items numbers.old.items }
     requires firsts { AreFirsts (map (text_at texts.now) labels.now) texts.now at.cells firsts.old.items }
-    ensures written { IfOk result (λ next. AreWritten width (map (text_at texts.now) labels.now) texts.now next json.new.items numbers.new.items) }
-    ensures firsts { IfOk result (λ next. AreFirsts (map (text_at texts.now) labels.now) texts.now next.cells firsts.new.items) }
+    ensures written { IfOk result
+        (λ next. AreWritten width
+        (map (text_at texts.now) labels.now) texts.now next json.new.items numbers.new.items) }
+    ensures firsts { IfOk result
+        (λ next. AreFirsts (map (text_at texts.now) labels.now) texts.now next.cells firsts.new.items) }
     ensures onward { IfOk result (λ next. next.cells ≡ at.cells + 1) }
 {
     let label = labels[at.cells];

@@ -32,7 +32,8 @@ impl Model for KnownTexts {
 
     ghost view = { λ n. map string_bytes n.texts.keys };
 
-    ghost invariant = { λ n. AreDistinct (map string_bytes n.texts.keys) × (n.quoted.items ≡ map string_bytes n.texts.keys) };
+    ghost invariant = { λ n. AreDistinct (map string_bytes n.texts.keys) ×
+        (n.quoted.items ≡ map string_bytes n.texts.keys) };
 }
 
 impl KnownTexts {
@@ -96,7 +97,8 @@ impl KnownTexts {
 
     /// The label of a text. A new text is added after the others. Err: memory was refused. The texts known before always keep their labels.
     pub fn label_of(&mut self, alloc: Global, text: String) -> Result<usize, AllocError>
-        ensures label { IfOk result (λ label. (label < length self.new) × (text_at self.new label ≡ string_bytes text)) }
+        ensures label { IfOk result
+            (λ label. (label < length self.new) × (text_at self.new label ≡ string_bytes text)) }
         ensures kept { take (length self.old) self.new ≡ self.old }
     {
         match self.number_of(text.as_str()) {

@@ -20,7 +20,8 @@ fn write_number(text: &mut String, number: usize) -> Result<(), AllocError>
 
 /// Writes a new text, a colon, its number and a comma.
 fn write_new(text: &mut String, name: &str, number: usize) -> Result<(), AllocError>
-    ensures { OnOk result (string_bytes text.new ≡ string_bytes text.old ++ (name.now ++ 58 ∷ [] ++ decimal number ++ 44 ∷ [])) }
+    ensures { OnOk result (string_bytes text.new ≡
+        string_bytes text.old ++ (name.now ++ 58 ∷ [] ++ decimal number ++ 44 ∷ [])) }
 {
     text.push_str(name)?;
     text.push_str(":")?;
@@ -32,7 +33,9 @@ fn write_new(text: &mut String, name: &str, number: usize) -> Result<(), AllocEr
 /// last line then has.
 fn end_line(text: &mut String, width: usize, column: usize) -> Result<usize, AllocError>
     requires { column < width }
-    ensures ended { OnOk result ((count : ℕ) → column ≡ count % width → string_bytes text.new ≡ string_bytes text.old ++ line_end width (count + 1)) }
+    ensures ended { OnOk result
+        ((count : ℕ) → column ≡ count % width →
+        string_bytes text.new ≡ string_bytes text.old ++ line_end width (count + 1)) }
     ensures column { IfOk result (λ next. (count : ℕ) → column ≡ count % width → next ≡ (count + 1) % width) }
 {
     if column + 1 < width {

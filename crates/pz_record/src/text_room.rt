@@ -44,7 +44,8 @@ impl Model for TextRoom {
 
     ghost view = { λ r. room_of r.last };
 
-    ghost invariant = { λ r. (r.last.at.end ≤ length r.last.json.items) × (take r.last.at.end r.last.json.items ≡ escape (escaped_says (take r.last.at.end r.last.json.items))) };
+    ghost invariant = { λ r. (r.last.at.end ≤ length r.last.json.items) ×
+        (take r.last.at.end r.last.json.items ≡ escape (escaped_says (take r.last.at.end r.last.json.items))) };
 }
 
 impl TextRoom {
@@ -95,7 +96,8 @@ impl TextRoom {
     ) -> Result<(), AllocError>
         requires wide { 0 < width }
         requires within { All (λ label. label < length texts.now) labels.now }
-        requires last { HasTextBut width changed.first changed.end (map (text_at texts.now) labels.now) texts.now self.old }
+        requires last { HasTextBut width changed.first changed.end
+            (map (text_at texts.now) labels.now) texts.now self.old }
         ensures written { OnOk result (HasTextOf width (map (text_at texts.now) labels.now) texts.now self.new) }
         ensures kept { OnErr result (self.new ≡ self.old) }
     {
@@ -128,7 +130,9 @@ impl TextRoom {
     ) -> Changed
         requires wide { 0 < width }
         requires within { All (λ label. label < length texts.now) labels.now }
-        requires last { (before : List (List ℕ)) × HasTextBut width changed.first changed.end before texts.now self.old × IsSameBut cell (cell + 1) before (map (text_at texts.now) labels.now) }
+        requires last { (before : List (List ℕ)) ×
+            HasTextBut width changed.first changed.end before texts.now self.old ×
+            IsSameBut cell (cell + 1) before (map (text_at texts.now) labels.now) }
         ensures { HasTextBut width result.first result.end (map (text_at texts.now) labels.now) texts.now self.new }
     {
         if patch(&mut self.last, texts, labels[cell], width, cell) {

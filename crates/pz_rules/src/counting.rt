@@ -42,7 +42,8 @@ fn has_empty(table: &[Denotation], choices: &[Choice]) -> bool
 /// The product of the start and the sizes, if it is at most the limit.
 fn product_within(start: u64, table: &[Denotation], choices: &[Choice], limit: u64) -> Option<u64>
     requires sizes { All (λ choice. 1 ≤ size_of table.now choice) choices.now }
-    ensures { SomeIff result (start * product_of (map (size_of table.now) choices.now) ≤ limit) (start * product_of (map (size_of table.now) choices.now)) }
+    ensures { SomeIff result (start * product_of (map (size_of table.now) choices.now) ≤ limit)
+        (start * product_of (map (size_of table.now) choices.now)) }
 {
     let mut count = start;
     'choices: for choice in choices {
@@ -59,7 +60,8 @@ fn product_within(start: u64, table: &[Denotation], choices: &[Choice], limit: u
 
 /// The product of the start and the sizes, if it is at most the limit, even if a choice is empty.
 fn pairs_within(table: &[Denotation], start: u64, choices: &[Choice], limit: u64) -> Option<u64>
-    ensures { SomeIff result (start * product_of (map (size_of table.now) choices.now) ≤ limit) (start * product_of (map (size_of table.now) choices.now)) }
+    ensures { SomeIff result (start * product_of (map (size_of table.now) choices.now) ≤ limit)
+        (start * product_of (map (size_of table.now) choices.now)) }
 {
     if has_empty(table, choices) {
         return Some(0);

@@ -275,7 +275,8 @@ fn add_line(
     words: &[Name],
 ) -> Result<(), RuleFault>
     ensures draft { OnOk result (line_added game.now draft.old below.now words.now ≡ Ok draft.new) }
-    ensures fault { IfErr result (λ fault. fault ≢ Memory → line_added game.now draft.old below.now words.now ≡ Err fault) }
+    ensures fault { IfErr result
+        (λ fault. fault ≢ Memory → line_added game.now draft.old below.now words.now ≡ Err fault) }
 {
     let alloc = patterns.alloc();
     if let Some(word) = loop_word(words) {

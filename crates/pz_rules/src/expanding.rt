@@ -84,7 +84,8 @@ pub fn expand(alloc: Global, game: &Game) -> Result<Program, SourceFault>
     ensures owned { IfOk result (λ program. IsProgramOf game.now.layers program) }
     ensures refused { IfErr result (λ fault. fault.code ≢ Memory → program_of game.now ≡ Err fault) }
     ensures whole { IfErr result (λ fault. fault.code ≡ Memory → fault.line ≡ 0) }
-    ensures lined { IfErr result (λ fault. fault.code ≢ Memory → Contains (map (λ line. line.number) game.now.rules) fault.line) }
+    ensures lined { IfErr result
+        (λ fault. fault.code ≢ Memory → Contains (map (λ line. line.number) game.now.rules) fault.line) }
 {
     // (brings the proof the law of games)
     let _layers = game.layers();

@@ -69,8 +69,12 @@ fn expansion_within(
 ) -> Result<Expansion, RuleFault>
     requires left { AreShaped plan.now.left }
     requires right { AreShaped plan.now.right }
-    ensures more { IfOk result (λ more. expansion_within table.now layers.now below (pairs + pair_count table.now plan.now) plan.now ≡ Ok more) }
-    ensures fault { IfErr result (λ fault. fault ≢ Memory → expansion_within table.now layers.now below (pairs + pair_count table.now plan.now) plan.now ≡ Err fault) }
+    ensures more { IfOk result
+        (λ more. expansion_within table.now layers.now below (pairs + pair_count table.now plan.now) plan.now ≡
+        Ok more) }
+    ensures fault { IfErr result
+        (λ fault. fault ≢ Memory →
+        expansion_within table.now layers.now below (pairs + pair_count table.now plan.now) plan.now ≡ Err fault) }
 {
     let Some(total) = total_within(table, pairs, plan) else {
         return Err(RuleFault::TooManyRules);
@@ -90,7 +94,8 @@ pub fn expanded(
 ) -> Result<Expansion, RuleFault>
     requires whole { is_whole rule.now ≡ true }
     ensures more { IfOk result (λ more. expanded table.now layers.now below pairs is_late rule.now ≡ Ok more) }
-    ensures fault { IfErr result (λ fault. fault ≢ Memory → expanded table.now layers.now below pairs is_late rule.now ≡ Err fault) }
+    ensures fault { IfErr result
+        (λ fault. fault ≢ Memory → expanded table.now layers.now below pairs is_late rule.now ≡ Err fault) }
 {
     let plan = plan_of(patterns.alloc(), table, is_late, rule)?;
     expansion_within(patterns, table, layers, below, pairs, &plan)

@@ -134,7 +134,8 @@ fn add_items(
     terms: &[Term],
 ) -> Result<(), AllocError>
     requires { items.old.items ≡ [] }
-    ensures { OnOk result (items.new.items ≡ map (item_of directed.now.layers.now directed.now.direction picks.now) terms.now) }
+    ensures { OnOk result (items.new.items ≡
+        map (item_of directed.now.layers.now directed.now.direction picks.now) terms.now) }
 {
     for term in terms {
         items.push(item_of(directed, picks, term))?;
@@ -161,7 +162,8 @@ fn cells_of(
     picks: &[Pick],
     cells: &[Listed<Term>],
 ) -> Result<Vec<Pattern>, AllocError>
-    ensures { IfOk result (λ out. out.items ≡ map (cell_of directed.now.layers.now directed.now.direction picks.now) cells.now) }
+    ensures { IfOk result (λ out. out.items ≡
+        map (cell_of directed.now.layers.now directed.now.direction picks.now) cells.now) }
 {
     let mut out = Vec::with_capacity(patterns.alloc(), cells.len())?;
     for terms in cells {
@@ -232,7 +234,9 @@ fn consider(
 ) -> Result<(), AllocError>
     requires left { AreShaped directed.now.plan.now.left }
     requires right { AreShaped directed.now.plan.now.right }
-    ensures { OnOk result (kept.new ≡ considered directed.now.layers.now directed.now.below directed.now.plan.now directed.now.direction kept.old picks.now) }
+    ensures { OnOk result (kept.new ≡ considered directed.now.layers.now directed.now.below directed.now.plan.now
+        directed.now.direction
+        kept.old picks.now) }
 {
     let plan = directed.plan;
     let left = rows_of(patterns, directed, picks, plan.left.items())?;
@@ -259,7 +263,8 @@ fn consider_all(
     requires left { AreShaped directed.now.plan.now.left }
     requires right { AreShaped directed.now.plan.now.right }
     ensures kept { OnOk result
-        (kept.new ≡ fold (considered directed.now.layers.now directed.now.below directed.now.plan.now directed.now.direction) kept.old
+        (kept.new ≡ fold (considered directed.now.layers.now directed.now.below directed.now.plan.now
+        directed.now.direction) kept.old
         (map (λ rest. picks.old.items ++ rest) (product options.now))) }
     ensures picks { OnOk result (picks.new.items ≡ picks.old.items) }
 {
@@ -300,7 +305,8 @@ fn consider_direction(
     requires left { AreShaped directed.now.plan.now.left }
     requires right { AreShaped directed.now.plan.now.right }
     ensures { OnOk result
-        (kept.new ≡ fold (considered directed.now.layers.now directed.now.below directed.now.plan.now directed.now.direction) kept.old
+        (kept.new ≡ fold (considered directed.now.layers.now directed.now.below directed.now.plan.now
+        directed.now.direction) kept.old
         (picks_of table.now directed.now.plan.now directed.now.direction)) }
 {
     let alloc = patterns.alloc();

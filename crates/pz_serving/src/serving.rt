@@ -56,7 +56,8 @@ fn read_job<T: Threads + Sync, R: Read>(
     ensures called { input.new.calls ≤ MOST_BYTES + 1 }
     ensures job { IfOk result (IsJobOf options.order input.old.remaining input.new) }
     ensures reads { IfErr result (λ failure. ReadsFor (Err failure) input.new) }
-    ensures refused { IfErr result (λ failure. (output : Writes) → Serves options.order input.old.remaining output output (Err failure)) }
+    ensures refused { IfErr result
+        (λ failure. (output : Writes) → Serves options.order input.old.remaining output output (Err failure)) }
 {
     let bytes = match read_input(alloc, input) {
         Ok(bytes) => bytes,

@@ -226,7 +226,8 @@ impl<'a> Board<'a> {
     fn enter(&mut self, next: usize) -> Result<(), AllocError>
         requires playable { is_playable (entry_at self.old.game next) ≡ true }
         requires within { next < length self.old.game.levels }
-        ensures { OnOk result (self.new ≡ loaded_at self.old.game self.old.program self.old.order self.old.recorded next) }
+        ensures { OnOk result (self.new ≡
+            loaded_at self.old.game self.old.program self.old.order self.old.recorded next) }
     {
         let (level, target) = opened(self.alloc, self.game, next)?;
         self.entry = next;
@@ -241,7 +242,8 @@ impl<'a> Board<'a> {
 
     /// Shows the frame of the step that wins. Then the next level is loaded and shown, or play is over. Rule `play.win`.
     fn win(&mut self, won: Frame) -> Result<Shown, PlayFault>
-        ensures { GivesLink (Ok (won_link won self.old (level_from self.old.game (self.old.entry + 1)))) self.new result }
+        ensures { GivesLink (Ok (won_link won self.old
+            (level_from self.old.game (self.old.entry + 1)))) self.new result }
     {
         match level_after(self.game, self.entry) {
             Some(next) => {
@@ -266,7 +268,8 @@ impl<'a> Board<'a> {
 
     /// Makes the level the target, if the commands have `checkpoint`.
     fn set_target(&mut self, commands: Commands) -> Result<(), AllocError>
-        ensures { OnOk result (self.new ≡ record self.old { target = if has commands checkpoint then self.old.level else self.old.target }) }
+        ensures { OnOk result (self.new ≡
+            record self.old { target = if has commands checkpoint then self.old.level else self.old.target }) }
     {
         if !commands.contains(Commands::CHECKPOINT) {
             return Ok(());
@@ -297,7 +300,8 @@ impl<'a> Board<'a> {
         commands: Commands,
         changed: bool,
     ) -> Result<Shown, PlayFault>
-        ensures { GivesLink (Ok (effect kind self.old (record { level = self.old.level; commands = commands; changed = changed }))) self.new result }
+        ensures { GivesLink (Ok (effect kind self.old
+            (record { level = self.old.level; commands = commands; changed = changed }))) self.new result }
     {
         if commands.contains(Commands::CANCEL) {
             return self.show(kind, false);
@@ -314,10 +318,13 @@ impl<'a> Board<'a> {
 
     /// Plays a step from the level, which stays as it is. A cancelled step ends with an equal level.
     fn turn(&mut self, input: Option<Dir>) -> Result<StepEnd, StepFault>
-        ensures end { IfOk result (λ end. step_of self.old.game self.old.program self.old.level input ≡ Ok (record { level = end.level.grid; commands = end.commands; changed = end.changed })) }
+        ensures end { IfOk result
+            (λ end. step_of self.old.game self.old.program self.old.level input ≡
+            Ok (record { level = end.level.grid; commands = end.commands; changed = end.changed })) }
         ensures cancelled { IfOk result (λ end. has end.commands cancel ≡ true → end.level.grid ≡ self.old.level) }
         ensures game { IfOk result (λ end. IsOfGame self.old.game end.level.grid) }
-        ensures fault { IfErr result (λ fault. fault ≢ Memory → step_of self.old.game self.old.program self.old.level input ≡ Err fault) }
+        ensures fault { IfErr result
+            (λ fault. fault ≢ Memory → step_of self.old.game self.old.program self.old.level input ≡ Err fault) }
         ensures same { self.new ≡ self.old }
     {
         self.labelled = self.labelled.at_level_only();

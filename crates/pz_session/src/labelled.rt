@@ -22,7 +22,9 @@ impl Labelled {
         before: &'l Option<Level>,
         spare: &'l Option<Level>,
     ) -> Option<&'l Level>
-        ensures { option_map (λ level. level.now.grid) result ≡ labelled_of self level.now.grid (option_map (λ level. level.grid) before.now) (option_map (λ level. level.grid) spare.now) }
+        ensures { option_map (λ level. level.now.grid) result ≡
+            labelled_of self level.now.grid (option_map (λ level. level.grid) before.now)
+            (option_map (λ level. level.grid) spare.now) }
     {
         match self {
             Labelled::Level => Some(level),

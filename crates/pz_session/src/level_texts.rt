@@ -23,7 +23,8 @@ pub fn level_text(
     level: &Level,
 ) -> Result<String, AllocError>
     ensures text { IfOk result (λ text. string_bytes text ≡ text_of_level game.now order level.now.grid) }
-    ensures reads_back { IfOk result (λ text. HasNoComma game.now → reading (string_bytes text) ≡ Some (sets_in game.now order level.now.grid)) }
+    ensures reads_back { IfOk result
+        (λ text. HasNoComma game.now → reading (string_bytes text) ≡ Some (sets_in game.now order level.now.grid)) }
 {
     // (brings the proof the laws of games and of levels)
     let _objects = game.objects();

@@ -92,7 +92,8 @@ impl<'a> Player<'a> {
 
     /// A session whose first link has been played: it shows the start.
     pub fn start(board: Board<'a>, inputs: Tape<'a>) -> Result<Player<'a>, AllocError>
-        ensures left { IfOk result (λ player. left player ≡ left_with MOST_TICKS 0 0 inputs.entry (Ok (start_link board.entry))) }
+        ensures left { IfOk result
+            (λ player. left player ≡ left_with MOST_TICKS 0 0 inputs.entry (Ok (start_link board.entry))) }
         ensures number { IfOk result (λ player. player.number ≡ 0) }
     {
         let mut player = Player {
@@ -130,7 +131,8 @@ impl<'a> Player<'a> {
         requires room { self.old.number + 1 < 2 ^ 64 }
         ensures item { Yields (left self.old) result
             (left self.new) }
-        ensures number { MatchOption result (self.new.number ≡ self.old.number) (λ _. self.new.number ≤ self.old.number + 1) }
+        ensures number { MatchOption result (self.new.number ≡ self.old.number)
+            (λ _. self.new.number ≤ self.old.number + 1) }
     {
         if let Some(frame) = self.first.take() {
             return Some(numbered(&mut self.number, self.taken, frame));
@@ -220,7 +222,9 @@ impl<'a> Player<'a> {
         requires room { self.old.number + 1 < 2 ^ 64 }
         ensures item { IfOk result (λ answer. Yields (left self.old) answer
             (left self.new)) }
-        ensures number { IfOk result (λ answer. MatchOption answer (self.new.number ≡ self.old.number) (λ _. self.new.number ≤ self.old.number + 1)) }
+        ensures number { IfOk result
+            (λ answer. MatchOption answer (self.new.number ≡ self.old.number)
+            (λ _. self.new.number ≤ self.old.number + 1)) }
     {
         'links: while self.is_waiting() {
             self.advance()?;

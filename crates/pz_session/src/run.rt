@@ -89,7 +89,8 @@ impl<'a> Run<'a> {
     /// The next item, or `None` after the close. Err: memory was refused; then every later call fails too.
     pub fn next(&mut self) -> Result<Option<Item>, AllocError>
         ensures item { MatchResult result
-            (λ answer. (self.old.has_failed ≡ false) × (self.new.has_failed ≡ false) × Yields self.old.items answer self.new.items)
+            (λ answer. (self.old.has_failed ≡ false) × (self.new.has_failed ≡ false) × Yields self.old.items answer
+            self.new.items)
             (λ _. self.new.has_failed ≡ true) }
         ensures failed { self.old.has_failed ≡ true → IsErr result }
     {

@@ -23,7 +23,13 @@ impl Model for Standing {
 
     ghost Value = { Stood };
 
-    ghost view = { λ s. record { entry = s.entry; level = s.level.grid; target = s.target.grid; past = s.past; is_over = s.is_over } };
+    ghost view = { λ s. record {
+      entry = s.entry;
+      level = s.level.grid;
+      target = s.target.grid;
+      past = s.past;
+      is_over = s.is_over;
+    } };
 }
 
 impl Standing {

@@ -27,7 +27,8 @@ impl From<StepFault> for PlayFault {
 
 /// Whether the end of a tick is idle: it shows nothing and takes no effect. Rule `play.idle`.
 pub(crate) fn is_idle(end: &StepEnd) -> bool
-    ensures { result ≡ is_idle (record { level = end.now.level.grid; commands = end.now.commands; changed = end.now.changed }) }
+    ensures { result ≡ is_idle
+        (record { level = end.now.level.grid; commands = end.now.commands; changed = end.now.changed }) }
 {
     let commands = end.commands;
     commands.contains(Commands::CANCEL)

@@ -65,7 +65,8 @@ pub fn is_empty(word: u128) -> bool
 
 /// The bits that exactly one of two words has.
 pub fn differing(word: u128, other: u128) -> u128
-    ensures { (bit : ℕ) → in_word result bit ≡ (if in_word word bit then not (in_word other bit) else in_word other bit) }
+    ensures { (bit : ℕ) → in_word result bit ≡
+        (if in_word word bit then not (in_word other bit) else in_word other bit) }
 {
     word ^ other
 }
@@ -73,7 +74,9 @@ pub fn differing(word: u128, other: u128) -> u128
 /// Whether a word has each bit of a second and none of a third: no bit that it has is unwanted, and no bit that it lacks is
 /// wanted.
 pub fn meets(word: u128, wanted: u128, unwanted: u128) -> bool
-    ensures { IsTrue result ↔ (((bit : ℕ) → bit < 128 → in_word wanted bit ≡ true → in_word word bit ≡ true) × ((bit : ℕ) → bit < 128 → in_word unwanted bit ≡ true → in_word word bit ≡ false)) }
+    ensures { IsTrue result ↔
+        (((bit : ℕ) → bit < 128 → in_word wanted bit ≡ true → in_word word bit ≡ true) ×
+        ((bit : ℕ) → bit < 128 → in_word unwanted bit ≡ true → in_word word bit ≡ false)) }
 {
     // (picks for each bit which of the two must be 0; written so that a loop computes `apart` once)
     let apart = differing(wanted, unwanted);
@@ -89,7 +92,9 @@ pub fn same(word: u128, other: u128) -> bool
 
 /// Whether two words are the same and two others are the same, in one test of all four.
 pub fn both_same(word: u128, other: u128, second: u128, second_other: u128) -> bool
-    ensures { IsTrue result ↔ (((bit : ℕ) → bit < 128 → in_word word bit ≡ in_word other bit) × ((bit : ℕ) → bit < 128 → in_word second bit ≡ in_word second_other bit)) }
+    ensures { IsTrue result ↔
+        (((bit : ℕ) → bit < 128 → in_word word bit ≡ in_word other bit) ×
+        ((bit : ℕ) → bit < 128 → in_word second bit ≡ in_word second_other bit)) }
 {
     let first_differing = differing(word, other);
     let second_differing = differing(second, second_other);
@@ -109,7 +114,9 @@ pub fn lowest(word: u128) -> usize
 /// The lowest bit of a word from a place on.
 pub fn lowest_from(word: u128, start: usize) -> Option<usize>
     requires { start < 128 }
-    ensures { MatchOption result ((bit : ℕ) → start ≤ bit → bit < 128 → in_word word bit ≡ false) (λ found. (start ≤ found) × (found < 128) × (in_word word found ≡ true) × ((bit : ℕ) → start ≤ bit → bit < found → in_word word bit ≡ false)) }
+    ensures { MatchOption result ((bit : ℕ) → start ≤ bit → bit < 128 → in_word word bit ≡ false)
+        (λ found. (start ≤ found) × (found < 128) × (in_word word found ≡ true) ×
+        ((bit : ℕ) → start ≤ bit → bit < found → in_word word bit ≡ false)) }
 {
     let rest = word & u128::MAX << start;
     if rest == 0 { None } else { Some(lowest(rest)) }

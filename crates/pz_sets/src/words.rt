@@ -123,7 +123,9 @@ pub fn both_same(words: &[u128], others: &[u128], second: &[u128], second_others
 pub fn next(words: &[u128], start: usize) -> Option<usize>
     requires short { length words.now ≤ 4 }
     requires low { start ≤ CAPACITY }
-    ensures { MatchOption result ((number : ℕ) → start ≤ number → member words.now number ≡ false) (λ found. (start ≤ found) × (found / 128 < length words.now) × (member words.now found ≡ true) × ((number : ℕ) → start ≤ number → number < found → member words.now number ≡ false)) }
+    ensures { MatchOption result ((number : ℕ) → start ≤ number → member words.now number ≡ false)
+        (λ found. (start ≤ found) × (found / 128 < length words.now) × (member words.now found ≡ true) ×
+        ((number : ℕ) → start ≤ number → number < found → member words.now number ≡ false)) }
 {
     let mut number = start;
     while number / 128 < words.len() {
@@ -139,7 +141,12 @@ pub fn next(words: &[u128], start: usize) -> Option<usize>
 pub fn next_common(words: &[u128], others: &[u128], start: usize) -> Option<usize>
     requires short { length words.now ≤ 4 }
     requires low { start ≤ CAPACITY }
-    ensures { MatchOption result ((number : ℕ) → start ≤ number → (member words.now number && member others.now number) ≡ false) (λ found. (start ≤ found) × (found / 128 < length words.now) × ((member words.now found && member others.now found) ≡ true) × ((number : ℕ) → start ≤ number → number < found → (member words.now number && member others.now number) ≡ false)) }
+    ensures { MatchOption result
+        ((number : ℕ) → start ≤ number → (member words.now number && member others.now number) ≡ false)
+        (λ found. (start ≤ found) × (found / 128 < length words.now) ×
+        ((member words.now found && member others.now found) ≡ true) ×
+        ((number : ℕ) → start ≤ number → number < found →
+        (member words.now number && member others.now number) ≡ false)) }
 {
     let mut number = start;
     while number / 128 < words.len() {
@@ -156,7 +163,8 @@ pub fn next_common(words: &[u128], others: &[u128], start: usize) -> Option<usiz
 /// A number of both sets, if they have one in common.
 pub fn first_common(words: &[u128], others: &[u128]) -> Option<usize>
     requires short { length words.now ≤ 4 }
-    ensures { MatchOption result ((number : ℕ) → (member words.now number && member others.now number) ≡ false) (λ found. (found / 128 < length words.now) × ((member words.now found && member others.now found) ≡ true)) }
+    ensures { MatchOption result ((number : ℕ) → (member words.now number && member others.now number) ≡ false)
+        (λ found. (found / 128 < length words.now) × ((member words.now found && member others.now found) ≡ true)) }
 {
     for index in 0..words.len() {
         let both = word::common(words[index], word_at(others, index));
@@ -171,7 +179,9 @@ pub fn first_common(words: &[u128], others: &[u128]) -> Option<usize>
 fn replace_word(words: &mut [u128], index: usize, removed: u128, added: u128) -> bool
     requires within { index < length words.old }
     ensures others { (number : ℕ) → number / 128 ≢ index → member words.new number ≡ member words.old number }
-    ensures members { (number : ℕ) → number / 128 ≡ index → member words.new number ≡ ((member words.old number && not (in_word removed (number % 128))) || in_word added (number % 128)) }
+    ensures members { (number : ℕ) → number / 128 ≡ index →
+        member words.new number ≡
+        ((member words.old number && not (in_word removed (number % 128))) || in_word added (number % 128)) }
     ensures changed { (result ≡ false) ↔ AreSame words.new words.old }
 {
     let old = words[index];
@@ -184,7 +194,9 @@ fn replace_word(words: &mut [u128], index: usize, removed: u128, added: u128) ->
 /// Takes numbers away, adds others, and says whether the set changed.
 pub fn replace(words: &mut [u128], removed: &[u128], added: &[u128]) -> bool
     requires { (number : ℕ) → member added.now number ≡ true → number / 128 < length words.old }
-    ensures members { (number : ℕ) → member words.new number ≡ ((member words.old number && not (member removed.now number)) || member added.now number) }
+    ensures members { (number : ℕ) →
+        member words.new number ≡
+        ((member words.old number && not (member removed.now number)) || member added.now number) }
     ensures changed { (result ≡ false) ↔ AreSame words.new words.old }
 {
     let mut changed = false;

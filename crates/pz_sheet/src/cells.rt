@@ -50,7 +50,8 @@ impl<const N: usize> Sheet<N> {
     pub(crate) fn set_cell(&mut self, index: usize, cell: Cell<N>)
         requires within { index < length self.old.grid.cells }
         requires sound { IsSound (layers_in self.old.grid) cell }
-        ensures { self.new.grid ≡ with_cell self.old.grid (record { number = index; cell = seen (layers_in self.old.grid) cell.entry }) }
+        ensures { self.new.grid ≡
+            with_cell self.old.grid (record { number = index; cell = seen (layers_in self.old.grid) cell.entry }) }
     {
         let before = self.cells[index];
         self.cells[index] = cell;
@@ -91,8 +92,10 @@ fn note_objects<const N: usize>(planes: &mut Planes, index: usize, before: &Cell
     requires within { index < planes.old.columns.count * planes.old.rows.count }
     requires known_before { AreKnown planes.old before.now.objects }
     requires known { AreKnown planes.old cell.now.objects }
-    requires there { AreThere planes.old (index % planes.old.columns.count) (index / planes.old.columns.count) (member before.now.objects) }
-    ensures { AreChanged planes.old planes.new (index % planes.old.columns.count) (index / planes.old.columns.count) (λ object was. member cell.now.objects object) }
+    requires there { AreThere planes.old (index % planes.old.columns.count) (index / planes.old.columns.count)
+        (member before.now.objects) }
+    ensures { AreChanged planes.old planes.new (index % planes.old.columns.count) (index / planes.old.columns.count)
+        (λ object was. member cell.now.objects object) }
 {
     if same(&before.objects, &cell.objects) {
         return;

@@ -47,7 +47,8 @@ impl KnownChanges {
     /// The first cell, from number `from` on, that differs, if it is one of these. Err: from there on no cell before this number
     /// differs.
     pub fn next(&self, from: usize) -> Result<usize, usize>
-        ensures { (test : ℕ → Bool) (end : ℕ) → TellsOf test end self.now → MatchResult result (λ index. IsNext test from end (Some index)) (λ behind. IsClear test from behind) }
+        ensures { (test : ℕ → Bool) (end : ℕ) → TellsOf test end self.now →
+            MatchResult result (λ index. IsNext test from end (Some index)) (λ behind. IsClear test from behind) }
     {
         if from < self.first || from - self.first >= self.count as usize {
             return Err(from);
@@ -70,9 +71,11 @@ impl<const N: usize> Sheet<N> {
         requires size { SameSize newer.now.grid self.old.grid }
         ensures newer { OnOk result (self.new.grid ≡ newer.now.grid) }
         ensures kept { OnErr result (self.new.grid ≡ self.old.grid) }
-        ensures changes { IfOk result (λ changes. changes_seen newer.now.grid changes.items ≡ changed_cells newer.now.grid self.old.grid) }
+        ensures changes { IfOk result
+            (λ changes. changes_seen newer.now.grid changes.items ≡ changed_cells newer.now.grid self.old.grid) }
         ensures of_level { IfOk result (λ changes. All (IsChangeOf newer.now.grid) changes.items) }
-        ensures way_back { IfOk result (λ changes. restored (changes_seen newer.now.grid changes.items) newer.now.grid ≡ self.old.grid) }
+        ensures way_back { IfOk result
+            (λ changes. restored (changes_seen newer.now.grid changes.items) newer.now.grid ≡ self.old.grid) }
     {
         let changes = newer.changes_to(self)?;
         for change in &changes {
@@ -84,9 +87,11 @@ impl<const N: usize> Sheet<N> {
     /// The way back to an older level of the same size: exactly the cells in which it differs. Err: memory was refused.
     fn changes_to(&self, older: &Sheet<N>) -> Result<Vec<Change<N>>, AllocError>
         requires size { SameSize self.now.grid older.now.grid }
-        ensures changes { IfOk result (λ changes. changes_seen self.now.grid changes.items ≡ changed_cells self.now.grid older.now.grid) }
+        ensures changes { IfOk result
+            (λ changes. changes_seen self.now.grid changes.items ≡ changed_cells self.now.grid older.now.grid) }
         ensures of_level { IfOk result (λ changes. All (IsChangeOf self.now.grid) changes.items) }
-        ensures way_back { IfOk result (λ changes. restored (changes_seen self.now.grid changes.items) self.now.grid ≡ older.now.grid) }
+        ensures way_back { IfOk result
+            (λ changes. restored (changes_seen self.now.grid changes.items) self.now.grid ≡ older.now.grid) }
         ensures as_many { length self.now.grid.cells ≡ length older.now.grid.cells }
     {
         let mut changes = Vec::new(*self.cells.allocator());
@@ -191,7 +196,8 @@ impl<const N: usize> Sheet<N> {
         requires size { SameSize self.old.grid other.now.grid }
         requires within { index < length self.old.grid.cells }
         requires there { at < length other.now.grid.cells }
-        ensures { self.new.grid ≡ with_cell self.old.grid (record { number = index; cell = cell_of other.now.grid at }) }
+        ensures { self.new.grid ≡
+            with_cell self.old.grid (record { number = index; cell = cell_of other.now.grid at }) }
     {
         // (brings the proof the law of both levels)
         let _ = (self.width(), other.width(), other.layers().depth());

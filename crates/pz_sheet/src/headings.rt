@@ -24,7 +24,8 @@ impl<const N: usize> Sheet<N> {
     /// Whether the headings noted in the level allow a heading of the set `asked`. If false, cells that ask for one of these don't all hold
     /// somewhere.
     pub fn may_head_in(&self, asked: &[u128]) -> bool
-        ensures { (cells : List (List Item)) → All (AreOf self.now.grid.layers) cells → AsksAmong asked.now cells → All (HoldsSomewhere self.now.grid) cells → result ≡ true }
+        ensures { (cells : List (List Item)) → All (AreOf self.now.grid.layers) cells → AsksAmong asked.now cells →
+            All (HoldsSomewhere self.now.grid) cells → result ≡ true }
     {
         !is_disjoint(self.notes.whole().words(), asked)
     }

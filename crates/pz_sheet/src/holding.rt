@@ -62,7 +62,8 @@ pub(crate) fn set_of(objects: &[usize]) -> NumberSet
 }
 
 fn add(set: &mut NumberSet, object: usize)
-    ensures { (other : ℕ) → member set.new other ≡ ((nat_lt object CAPACITY && nat_eq other object) || member set.old other) }
+    ensures { (other : ℕ) → member set.new other ≡
+        ((nat_lt object CAPACITY && nat_eq other object) || member set.old other) }
 {
     if object < CAPACITY {
         set.insert(object);

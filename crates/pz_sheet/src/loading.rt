@@ -38,7 +38,8 @@ impl<const N: usize> Sheet<N> {
 
     /// Puts a piece on a layer, in each cell where nothing stands on it.
     pub fn fill(&mut self, layer: usize, piece: Piece)
-        requires on_layer { (piece.object < length self.old.grid.layers) × (slice_index self.old.grid.layers piece.object ≡ layer) }
+        requires on_layer { (piece.object < length self.old.grid.layers) ×
+            (slice_index self.old.grid.layers piece.object ≡ layer) }
         ensures filled { self.new.grid ≡ filled layer piece self.old.grid }
         ensures lawful { IsLawful self.new.grid }
     {

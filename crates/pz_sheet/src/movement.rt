@@ -31,7 +31,8 @@ impl<const N: usize> Sheet<N> {
     pub fn next_mover(&self, x: u32, y: u32, from: usize) -> Option<Mover>
         requires { IsOnMap self.now.grid x y }
         ensures next { IsNextMover (cell_at self.now.grid x y) from result }
-        ensures low { IfSome result (λ mover. (mover.layer < self.now.grid.depth) × (mover.layer < MOST_LAYERS) × (mover.object < CAPACITY)) }
+        ensures low { IfSome result
+            (λ mover. (mover.layer < self.now.grid.depth) × (mover.layer < MOST_LAYERS) × (mover.object < CAPACITY)) }
     {
         let layers = self.layers();
         self.cell(self.index(x, y)).next_mover(layers, from)
@@ -40,7 +41,8 @@ impl<const N: usize> Sheet<N> {
     /// The first column, from `from` on, in which something may head somewhere.
     #[tactic(auto, using(crate::proofs::SheetLemmas::lawful_here))]
     pub fn next_column(&self, from: u32) -> Option<u32>
-        ensures next { MatchOption result (AreColumnsStill self.now.grid from self.now.grid.width) (λ x. (from ≤ x) × (x < self.now.grid.width) × AreColumnsStill self.now.grid from x) }
+        ensures next { MatchOption result (AreColumnsStill self.now.grid from self.now.grid.width)
+            (λ x. (from ≤ x) × (x < self.now.grid.width) × AreColumnsStill self.now.grid from x) }
         ensures lawful { IsLawful self.now.grid }
     {
         match self.notes.next_column(from as usize) {
@@ -54,7 +56,8 @@ impl<const N: usize> Sheet<N> {
     #[inline(always)]
     fn next_noted(&self, x: u32, from: u32) -> Option<u32>
         requires { x < self.now.grid.width }
-        ensures next { MatchOption result (AreStill self.now.grid x from self.now.grid.height) (λ y. (from ≤ y) × (y < self.now.grid.height) × AreStill self.now.grid x from y) }
+        ensures next { MatchOption result (AreStill self.now.grid x from self.now.grid.height)
+            (λ y. (from ≤ y) × (y < self.now.grid.height) × AreStill self.now.grid x from y) }
         ensures lawful { IsLawful self.now.grid }
     {
         match self.notes.next_row(from as usize) {
@@ -66,7 +69,8 @@ impl<const N: usize> Sheet<N> {
     /// The first row, from `from` on, in which something in a column of the map may head somewhere.
     pub fn next_heading(&self, x: u32, from: u32) -> Option<u32>
         requires { x < self.now.grid.width }
-        ensures next { MatchOption result (AreStill self.now.grid x from self.now.grid.height) (λ y. (from ≤ y) × (y < self.now.grid.height) × AreStill self.now.grid x from y) }
+        ensures next { MatchOption result (AreStill self.now.grid x from self.now.grid.height)
+            (λ y. (from ≤ y) × (y < self.now.grid.height) × AreStill self.now.grid x from y) }
         ensures lawful { IsLawful self.now.grid }
     {
         let mut start = from;

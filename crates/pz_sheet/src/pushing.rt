@@ -38,7 +38,8 @@ impl<const N: usize> Sheet<N> {
     /// Whether the planes allow one of these objects to stand in a row. If false, none does.
     fn may_stand_in_row(&self, y: u32, objects: &[usize]) -> bool
         requires { y < self.now.grid.height }
-        ensures { result ≡ false → (x : ℕ) → x < self.now.grid.width → AreMissing objects.now (cell_at self.now.grid x y) }
+        ensures { result ≡ false → (x : ℕ) → x < self.now.grid.width →
+            AreMissing objects.now (cell_at self.now.grid x y) }
     {
         let rows = self.planes.lines(Axis::Horizontal);
         self.width > bits::ROOM || rows.may_have_one_of(y as usize, objects)

@@ -24,7 +24,8 @@ impl<const N: usize> Sheet<N> {
 
     /// The object's piece, if it stands at the position. Off the map, and for a number without an object, there is none.
     pub fn piece(&self, x: u32, y: u32, object: usize) -> Option<Piece>
-        ensures { MatchOption result (standing_at self.now.grid x y object ≡ None) (λ piece. standing_at self.now.grid x y object ≡ Some piece.heading) }
+        ensures { MatchOption result (standing_at self.now.grid x y object ≡ None)
+            (λ piece. standing_at self.now.grid x y object ≡ Some piece.heading) }
     {
         if x < self.width() && y < self.height() {
             let layers = self.layers();

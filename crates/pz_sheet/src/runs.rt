@@ -143,7 +143,8 @@ impl<'a, const N: usize> Model for RunSearch<'a, N> {
 
     ghost view = { λ s. record { grid = s.sheet.now.grid; line = s.line; way = s.way; patterns = s.patterns.now } };
 
-    ghost invariant = { λ s. IsRunSearch (record { grid = s.sheet.now.grid; line = s.line; way = s.way; patterns = s.patterns.now }) s.starts };
+    ghost invariant = { λ s. IsRunSearch
+        (record { grid = s.sheet.now.grid; line = s.line; way = s.way; patterns = s.patterns.now }) s.starts };
 }
 
 impl<'a, const N: usize> RunSearch<'a, N> {
@@ -230,7 +231,8 @@ impl<'a, const N: usize> RunSearch<'a, N> {
     /// planes leave, in a longer line all.
     #[tactic(auto, using(crate::proofs::CountLemmas::count_fewer, crate::proofs::CountLemmas::count_within))]
     pub fn tested(&self) -> u32
-        ensures low { count_by (run_holds_from self.now) (range_with_len 0 (line_length self.now.grid self.now.line.axis)) ≤ result }
+        ensures low { count_by (run_holds_from self.now)
+            (range_with_len 0 (line_length self.now.grid self.now.line.axis)) ≤ result }
         ensures high { result ≤ line_length self.now.grid self.now.line.axis }
     {
         let end = self.end();

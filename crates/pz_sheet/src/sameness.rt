@@ -7,7 +7,9 @@ use crate::Sheet;
 impl<const N: usize> Sheet<N> {
     /// Whether both have the same size and the same layers.
     pub fn same_size(&self, other: &Sheet<N>) -> bool
-        ensures { IsTrue result ↔ ((self.now.grid.width ≡ other.now.grid.width) × (self.now.grid.height ≡ other.now.grid.height) × (self.now.grid.depth ≡ other.now.grid.depth) × (self.now.grid.layers ≡ other.now.grid.layers)) }
+        ensures { IsTrue result ↔
+            ((self.now.grid.width ≡ other.now.grid.width) × (self.now.grid.height ≡ other.now.grid.height) ×
+            (self.now.grid.depth ≡ other.now.grid.depth) × (self.now.grid.layers ≡ other.now.grid.layers)) }
     {
         self.width == other.width
             && self.height == other.height

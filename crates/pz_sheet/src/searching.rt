@@ -18,7 +18,8 @@ impl<const N: usize> Sheet<N> {
         requires short { line_length self.now.grid line.axis ≤ 128 }
         requires line_in { line.number < line_count self.now.grid line.axis }
         requires of_game { AreOf self.now.grid.layers pattern.now }
-        ensures { (at : ℕ) → at < line_length self.now.grid line.axis → holds_in self.now.grid line pattern.now at ≡ true → in_word result at ≡ true }
+        ensures { (at : ℕ) → at < line_length self.now.grid line.axis →
+            holds_in self.now.grid line pattern.now at ≡ true → in_word result at ≡ true }
     {
         self.planes
             .lines(line.axis)

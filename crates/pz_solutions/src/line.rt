@@ -24,7 +24,8 @@ fn press_number(input: Dir) -> u64
 
 /// Adds the numbers of presses, each with a comma before it.
 fn put_numbers(texts: &mut Vec<u8>, inputs: &[Dir]) -> Result<(), AllocError>
-    ensures { OnOk result (texts.new.items ≡ texts.old.items ++ flat_map (λ input. codes "," ++ decimal (press_number input)) inputs.now) }
+    ensures { OnOk result (texts.new.items ≡
+        texts.old.items ++ flat_map (λ input. codes "," ++ decimal (press_number input)) inputs.now) }
 {
     for input in inputs {
         put_number(texts, b",", press_number(*input))?;

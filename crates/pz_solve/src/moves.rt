@@ -79,7 +79,9 @@ fn effect(game: &Game, end: StepEnd) -> Next
 fn tick(alloc: Global, game: &Game, program: &Program, level: Level) -> Result<Next, AllocError>
     requires level_of { IsOfGame game.now level.grid }
     requires program_of { IsProgramOf game.now.layers program.now }
-    ensures next { IfOk result (λ next. (tick : Grid → Reached) → reached_in tick next ≡ ticked tick game.now level.grid (step_of game.now program.now level.grid None)) }
+    ensures next { IfOk result
+        (λ next. (tick : Grid → Reached) →
+        reached_in tick next ≡ ticked tick game.now level.grid (step_of game.now program.now level.grid None)) }
     ensures game { IfOk result (IsNextIn game.now) }
     ensures size { IfOk result (NextKeepsSize level.grid) }
 {
@@ -128,7 +130,9 @@ fn press(
 ) -> Result<Next, AllocError>
     requires level_of { IsOfGame game.now level.now.grid }
     requires program_of { IsProgramOf game.now.layers program.now }
-    ensures next { IfOk result (λ next. (tick : Grid → Reached) → reached_in tick next ≡ pressed tick game.now (step_of game.now program.now level.now.grid (Some input))) }
+    ensures next { IfOk result
+        (λ next. (tick : Grid → Reached) →
+        reached_in tick next ≡ pressed tick game.now (step_of game.now program.now level.now.grid (Some input))) }
     ensures game { IfOk result (IsNextIn game.now) }
     ensures size { IfOk result (NextKeepsSize level.now.grid) }
 {

@@ -77,7 +77,8 @@ impl Model for Search {
 fn digest_if_new(levels: &Levels, index: &Index, numbers: &[u32]) -> Option<u64>
     requires indexed { index.now ≡ digests_of levels.now.objects levels.now.grids }
     requires row { IsRow levels.now.frame levels.now.cells numbers.now }
-    ensures { (grid : Grid) → SameSize levels.now.frame grid → AreNumbers levels.now.cells numbers.now grid → result ≡ digest_if_new levels.now.objects levels.now.grids grid }
+    ensures { (grid : Grid) → SameSize levels.now.frame grid → AreNumbers levels.now.cells numbers.now grid →
+        result ≡ digest_if_new levels.now.objects levels.now.grids grid }
 {
     let digest = levels.digest(numbers);
     let mut at = index.newest(digest);
@@ -145,7 +146,8 @@ impl Search {
     /// How a level is found by a press from the level of this number. Err: there is no number for its depth or for that level.
     pub(crate) fn link_behind(&self, index: usize, input: Dir) -> Result<Link, AllocError>
         requires { index < length self.now }
-        ensures depth { IfOk result (λ link. option_map (λ found. found.depth + 1) (slice_get self.now index) ≡ Some link.depth) }
+        ensures depth { IfOk result
+            (λ link. option_map (λ found. found.depth + 1) (slice_get self.now index) ≡ Some link.depth) }
         ensures parent { IfOk result (λ link. link.parent ≡ index) }
         ensures input { IfOk result (λ link. link.input ≡ input) }
         ensures low { IfOk result (λ link. link.depth ≤ length self.now) }

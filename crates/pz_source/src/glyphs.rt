@@ -38,7 +38,8 @@ impl<'a> Model for Glyphs<'a> {
 
     ghost view = { λ g. record { names = g.names.now; values = g.values.now } };
 
-    ghost invariant = { λ g. All (λ slot. IfSome slot (λ met. glyph_of g.names.now g.values.now met.character ≡ Some met.number)) g.met };
+    ghost invariant = { λ g. All
+        (λ slot. IfSome slot (λ met. glyph_of g.names.now g.values.now met.character ≡ Some met.number)) g.met };
 }
 
 impl<'a> Glyphs<'a> {

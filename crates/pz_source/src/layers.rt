@@ -113,7 +113,8 @@ fn members_of<'a>(names: &NameSet, values: &'a [Denotation], name: &Name) -> &'a
 }
 
 fn put_object(table: &mut [Option<usize>], object: usize, layer: usize)
-    ensures { (k : ℕ) → k < length table.old → entry_at table.new k ≡ (if object == k then Some layer else entry_at table.old k) }
+    ensures { (k : ℕ) → k < length table.old →
+        entry_at table.new k ≡ (if object == k then Some layer else entry_at table.old k) }
 {
     if object < table.len() {
         table[object] = Some(layer);
@@ -121,7 +122,9 @@ fn put_object(table: &mut [Option<usize>], object: usize, layer: usize)
 }
 
 fn put_objects(table: &mut [Option<usize>], objects: &[usize], layer: usize)
-    ensures { (k : ℕ) → k < length table.old → entry_at table.new k ≡ (if list_any (λ object. object == k) objects.now then Some layer else entry_at table.old k) }
+    ensures { (k : ℕ) → k < length table.old →
+        entry_at table.new k ≡ (if list_any
+        (λ object. object == k) objects.now then Some layer else entry_at table.old k) }
 {
     for object in objects {
         put_object(table, *object, layer);
@@ -136,7 +139,10 @@ fn put_layer(
     parts: &[Name],
     layer: usize,
 )
-    ensures { (k : ℕ) → k < length table.old → entry_at table.new k ≡ (if list_any (λ name. list_any (λ object. object == k) (members_of names.now values.now name)) parts.now then Some layer else entry_at table.old k) }
+    ensures { (k : ℕ) → k < length table.old →
+        entry_at table.new k ≡ (if list_any
+        (λ name. list_any (λ object. object == k)
+        (members_of names.now values.now name)) parts.now then Some layer else entry_at table.old k) }
 {
     for name in parts {
         put_objects(table, members_of(names, values, name), layer);
@@ -152,7 +158,8 @@ fn layer_table(
     layers: &[NameLine],
 ) -> Result<Vec<Option<usize>>, AllocError>
     ensures count { IfOk result (λ table. length table.items ≡ count) }
-    ensures each { IfOk result (λ table. (k : ℕ) → k < count → entry_at table.items k ≡ layer_of (holds names.now values.now) layers.now k) }
+    ensures each { IfOk result
+        (λ table. (k : ℕ) → k < count → entry_at table.items k ≡ layer_of (holds names.now values.now) layers.now k) }
 {
     let mut table = vec![in alloc; None; count]?;
     let entries = table.as_mut_slice();
@@ -203,7 +210,8 @@ pub fn read_layers(
     ensures sound { IfOk result (λ _. fault_of_layers objects.now names.now values.now lines.now ≡ None) }
     ensures layers { IfOk result (λ r. r.0.items ≡ layers_of objects.now names.now values.now lines.now) }
     ensures depth { IfOk result (λ r. r.1 ≡ length (layer_lines lines.now)) }
-    ensures refused { IfErr result (λ fault. fault.code ≢ code.Memory → fault_of_layers objects.now names.now values.now lines.now ≡ Some fault) }
+    ensures refused { IfErr result
+        (λ fault. fault.code ≢ code.Memory → fault_of_layers objects.now names.now values.now lines.now ≡ Some fault) }
     ensures whole { IfErr result (λ fault. fault.code ≡ code.Memory → fault.line ≡ 0) }
 {
     let layers = layer_lines(alloc, lines)?;

@@ -56,7 +56,11 @@ fn pass<'a>(
 ) -> Result<usize, AllocError>
     requires within { start ≤ place }
     requires below { place < length lines.now }
-    ensures after { IfOk result (λ next. map (λ entry. entry.now) entries.new.items ++ entries_of (slice_range lines.entry.now next (place + 1)) (drop (place + 1) lines.entry.now) ≡ map (λ entry. entry.now) entries.old.items ++ entries_of (slice_range lines.entry.now start place) (drop place lines.entry.now)) }
+    ensures after { IfOk result
+        (λ next. map (λ entry. entry.now) entries.new.items ++ entries_of (slice_range lines.entry.now next (place + 1))
+        (drop (place + 1) lines.entry.now) ≡
+        map (λ entry. entry.now) entries.old.items ++ entries_of (slice_range lines.entry.now start place)
+        (drop place lines.entry.now)) }
     ensures behind { IfOk result (λ next. next ≤ place + 1) }
 {
     let line = &lines[place];
@@ -73,7 +77,8 @@ fn pass<'a>(
 }
 
 fn close<'a>(entries: &mut Vec<&'a [Line]>, rows: &'a [Line]) -> Result<(), AllocError>
-    ensures { OnOk result (map (λ entry. entry.now) entries.new.items ≡ map (λ entry. entry.now) entries.old.items ++ closed rows.entry.now) }
+    ensures { OnOk result (map (λ entry. entry.now) entries.new.items ≡
+        map (λ entry. entry.now) entries.old.items ++ closed rows.entry.now) }
 {
     if !rows.is_empty() {
         entries.push(rows)?;
@@ -87,7 +92,8 @@ fn numbers_of(
     glyphs: &mut Glyphs,
     row: &[char],
 ) -> Result<Option<Vec<usize>>, AllocError>
-    ensures numbers { IfOk result (λ r. option_map (λ found. found.items) r ≡ glyphs_of (glyph_of glyphs.old.names glyphs.old.values) row.now) }
+    ensures numbers { IfOk result
+        (λ r. option_map (λ found. found.items) r ≡ glyphs_of (glyph_of glyphs.old.names glyphs.old.values) row.now) }
     ensures same { glyphs.new ≡ glyphs.old }
 {
     let mut found = Vec::new(alloc);
@@ -127,8 +133,11 @@ fn read_row(
     width: usize,
     line: &Line,
 ) -> Result<Vec<usize>, SourceFault>
-    ensures read { IfOk result (λ row. glyphs_of (glyph_of glyphs.old.names glyphs.old.values) (take width line.now.text) ≡ Some row.items) }
-    ensures refused { IfErr result (λ fault. fault.code ≢ code.Memory → row_of (glyph_of glyphs.old.names glyphs.old.values) width line.now ≡ Err fault) }
+    ensures read { IfOk result
+        (λ row. glyphs_of (glyph_of glyphs.old.names glyphs.old.values) (take width line.now.text) ≡ Some row.items) }
+    ensures refused { IfErr result
+        (λ fault. fault.code ≢ code.Memory →
+        row_of (glyph_of glyphs.old.names glyphs.old.values) width line.now ≡ Err fault) }
     ensures whole { IfErr result (λ fault. fault.code ≡ code.Memory → fault.line ≡ 0) }
     ensures same { glyphs.new ≡ glyphs.old }
 {
@@ -149,9 +158,12 @@ fn rows(
     lines: &[Line],
 ) -> Result<Vec<usize>, SourceFault>
     requires { width * length lines.now < 2 ^ 64 }
-    ensures read { IfOk result (λ cells. rows_of (glyph_of glyphs.old.names glyphs.old.values) width lines.now ≡ Ok cells.items) }
+    ensures read { IfOk result
+        (λ cells. rows_of (glyph_of glyphs.old.names glyphs.old.values) width lines.now ≡ Ok cells.items) }
     ensures count { IfOk result (λ cells. length cells.items ≡ width * length lines.now) }
-    ensures refused { IfErr result (λ fault. fault.code ≢ code.Memory → rows_of (glyph_of glyphs.old.names glyphs.old.values) width lines.now ≡ Err fault) }
+    ensures refused { IfErr result
+        (λ fault. fault.code ≢ code.Memory →
+        rows_of (glyph_of glyphs.old.names glyphs.old.values) width lines.now ≡ Err fault) }
     ensures whole { IfErr result (λ fault. fault.code ≡ code.Memory → fault.line ≡ 0) }
     ensures same { glyphs.new ≡ glyphs.old }
 {
@@ -188,8 +200,11 @@ fn read_entry(
     lines: &[Line],
 ) -> Result<LevelEntry, SourceFault>
     requires { is_entry lines.now ≡ true }
-    ensures read { IfOk result (λ entry. entry_of (glyph_of glyphs.old.names glyphs.old.values) above lines.now ≡ Ok entry) }
-    ensures refused { IfErr result (λ fault. fault.code ≢ code.Memory → entry_of (glyph_of glyphs.old.names glyphs.old.values) above lines.now ≡ Err fault) }
+    ensures read { IfOk result
+        (λ entry. entry_of (glyph_of glyphs.old.names glyphs.old.values) above lines.now ≡ Ok entry) }
+    ensures refused { IfErr result
+        (λ fault. fault.code ≢ code.Memory →
+        entry_of (glyph_of glyphs.old.names glyphs.old.values) above lines.now ≡ Err fault) }
     ensures whole { IfErr result (λ fault. fault.code ≡ code.Memory → fault.line ≡ 0) }
     ensures same { glyphs.new ≡ glyphs.old }
 {
@@ -226,7 +241,8 @@ pub fn read_levels(
     lines: &[Line],
 ) -> Result<Vec<LevelEntry>, SourceFault>
     ensures read { IfOk result (λ entries. levels_of (glyph_of names.now values.now) lines.now ≡ Ok entries.items) }
-    ensures refused { IfErr result (λ fault. fault.code ≢ code.Memory → levels_of (glyph_of names.now values.now) lines.now ≡ Err fault) }
+    ensures refused { IfErr result
+        (λ fault. fault.code ≢ code.Memory → levels_of (glyph_of names.now values.now) lines.now ≡ Err fault) }
     ensures whole { IfErr result (λ fault. fault.code ≡ code.Memory → fault.line ≡ 0) }
 {
     let blocks = entries(alloc, lines)?;

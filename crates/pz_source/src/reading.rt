@@ -78,8 +78,12 @@ fn wins_and_levels(
     values: &[Denotation],
 ) -> Result<(Vec<WinLine>, Vec<LevelEntry>), SourceFault>
     ensures wins { IfOk result (λ r. wins_of names.now (lines_in section.Wins lines.now) ≡ Ok r.0.items) }
-    ensures levels { IfOk result (λ r. levels_of (glyph_of names.now values.now) (lines_in section.Levels lines.now) ≡ Ok r.1.items) }
-    ensures refused { IfErr result (λ fault. fault.code ≢ code.Memory → and_then (λ wins. levels_of (glyph_of names.now values.now) (lines_in section.Levels lines.now)) (wins_of names.now (lines_in section.Wins lines.now)) ≡ Err fault) }
+    ensures levels { IfOk result
+        (λ r. levels_of (glyph_of names.now values.now) (lines_in section.Levels lines.now) ≡ Ok r.1.items) }
+    ensures refused { IfErr result
+        (λ fault. fault.code ≢ code.Memory →
+        and_then (λ wins. levels_of (glyph_of names.now values.now) (lines_in section.Levels lines.now))
+        (wins_of names.now (lines_in section.Wins lines.now)) ≡ Err fault) }
     ensures whole { IfErr result (λ fault. fault.code ≡ code.Memory → fault.line ≡ 0) }
 {
     let wins = read_wins(alloc, names, lines_in(Section::Wins, lines))?;
@@ -102,9 +106,12 @@ fn read_sections(
     requires all { length values.now ≡ length names.now }
     requires denoted { All (IsDenoted (length objects.now)) values.now }
     requires rules { rules.items ≡ rule_lines (lines_in section.Rules lines.now) }
-    ensures read { IfOk result (λ sections. game_over lines.now objects.now names.now values.now ≡ Ok (game_with names.now values.now sections)) }
+    ensures read { IfOk result
+        (λ sections. game_over lines.now objects.now names.now values.now ≡
+        Ok (game_with names.now values.now sections)) }
     ensures game { IfOk result (λ sections. IsGame (game_with names.now values.now sections)) }
-    ensures refused { IfErr result (λ fault. fault.code ≢ code.Memory → game_over lines.now objects.now names.now values.now ≡ Err fault) }
+    ensures refused { IfErr result
+        (λ fault. fault.code ≢ code.Memory → game_over lines.now objects.now names.now values.now ≡ Err fault) }
     ensures whole { IfErr result (λ fault. fault.code ≡ code.Memory → fault.line ≡ 0) }
 {
     if let Some(fault) = missing_name(names, values) {
@@ -170,7 +177,8 @@ fn read_over(
     requires denoted { All (IsDenoted (length objects.now)) values.items }
     requires rules { rules.items ≡ rule_lines (lines_in section.Rules lines.now) }
     ensures read { IfOk result (λ game. game_over lines.now objects.now names values.items ≡ Ok game) }
-    ensures refused { IfErr result (λ fault. fault.code ≢ code.Memory → game_over lines.now objects.now names values.items ≡ Err fault) }
+    ensures refused { IfErr result
+        (λ fault. fault.code ≢ code.Memory → game_over lines.now objects.now names values.items ≡ Err fault) }
     ensures whole { IfErr result (λ fault. fault.code ≡ code.Memory → fault.line ≡ 0) }
 {
     let sections = read_sections(alloc, lines, objects, &names, values.as_slice(), rules)?;
@@ -190,7 +198,8 @@ fn read_over_objects(
     requires names { names ≡ object_names objects.now }
     requires rules { rules.items ≡ rule_lines (lines_in section.Rules lines.now) }
     ensures read { IfOk result (λ game. game_of_objects lines.now objects.now ≡ Ok game) }
-    ensures refused { IfErr result (λ fault. fault.code ≢ code.Memory → game_of_objects lines.now objects.now ≡ Err fault) }
+    ensures refused { IfErr result
+        (λ fault. fault.code ≢ code.Memory → game_of_objects lines.now objects.now ≡ Err fault) }
     ensures whole { IfErr result (λ fault. fault.code ≡ code.Memory → fault.line ≡ 0) }
 {
     let values = read_legend(alloc, objects, &mut names, lines_in(Section::Legend, lines))?;

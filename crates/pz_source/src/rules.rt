@@ -65,7 +65,8 @@ fn push_message(
     rest: &[char],
 ) -> Result<(), AllocError>
     requires { 7 ≤ length word.now }
-    ensures { OnOk result (words.new.items ≡ words.old.items ++ map name_of (take 7 word.now ∷ closed (trimmed (drop 7 word.now ++ rest.now)))) }
+    ensures { OnOk result (words.new.items ≡
+        words.old.items ++ map name_of (take 7 word.now ∷ closed (trimmed (drop 7 word.now ++ rest.now)))) }
 {
     let (message, begun) = word.split_at(7);
     push_word(alloc, words, message)?;
@@ -81,9 +82,12 @@ fn pass(
     cursor: &mut Cursor,
     c: char,
 ) -> Result<(), AllocError>
-    ensures words { OnOk result (words.new.items ≡ words.old.items ++ map name_of (if ends_word Rules cursor.old.is_first cursor.old.word.items c then ended cursor.old.word.items c else [])) }
+    ensures words { OnOk result
+        (words.new.items ≡ words.old.items ++ map name_of
+        (if ends_word Rules cursor.old.is_first cursor.old.word.items c then ended cursor.old.word.items c else [])) }
     ensures word { OnOk result (cursor.new.word.items ≡ word_after Rules cursor.old.is_first cursor.old.word.items c) }
-    ensures first { OnOk result (cursor.new.is_first ≡ is_first_after Rules cursor.old.is_first cursor.old.word.items c) }
+    ensures first { OnOk result
+        (cursor.new.is_first ≡ is_first_after Rules cursor.old.is_first cursor.old.word.items c) }
 {
     if cursor.ends_word(Section::Rules, c) {
         push_ended(alloc, words, cursor, c)?;
@@ -98,7 +102,8 @@ fn push_words(
     cursor: &mut Cursor,
     text: &[char],
 ) -> Result<(), AllocError>
-    ensures { OnOk result (words.new.items ≡ words.old.items ++ map name_of (words_from cursor.old.is_first cursor.old.word.items text.now)) }
+    ensures { OnOk result (words.new.items ≡
+        words.old.items ++ map name_of (words_from cursor.old.is_first cursor.old.word.items text.now)) }
 {
     let mut rest = text;
     while let Some((c, others)) = rest.split_first() {

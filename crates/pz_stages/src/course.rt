@@ -41,7 +41,9 @@ fn put_told(
 ) -> Result<(), AllocError>
     requires { IsWriterOf place.board.now texts.old }
     ensures writer { IsWriterOf place.entry.board.now texts.new }
-    ensures line { OnOk result (lines.new.items ≡ lines.old.items ++ told_line place.entry.number place.entry.tick place.entry.board.now (with_level stage level.now.grid)) }
+    ensures line { OnOk result
+        (lines.new.items ≡ lines.old.items ++ told_line place.entry.number place.entry.tick place.entry.board.now
+        (with_level stage level.now.grid)) }
 {
     if is_told(stage, level) {
         put_stage(lines, texts, place, stage, level)?;
@@ -51,7 +53,8 @@ fn put_told(
 
 /// Puts the stop of a step behind its stages.
 fn put_fault(lines: &mut Vec<u8>, place: Place<'_, '_>, fault: StepFault) -> Result<(), AllocError>
-    ensures { OnOk result ((fault ≢ Memory) × (lines.new.items ≡ lines.old.items ++ stop_line place.entry.number place.entry.tick fault)) }
+    ensures { OnOk result ((fault ≢ Memory) ×
+        (lines.new.items ≡ lines.old.items ++ stop_line place.entry.number place.entry.tick fault)) }
 {
     match fault {
         StepFault::Memory => Err(AllocError),
@@ -74,9 +77,12 @@ fn put_next(
     requires level_of { IsOfGame place.board.now.game tracing.old.grid }
     ensures writer { IsWriterOf place.entry.board.now texts.new }
     ensures grid { tracing.new.grid ≡ tracing.old.grid }
-    ensures more { IfOk result (λ part. IfSome part (λ part. lines.new.items ++ course_lines detail place.entry.number place.entry.tick place.entry.board.now part tracing.new.level tracing.new.course ≡ lines.old.items ++ course_lines detail place.entry.number place.entry.tick place.entry.board.now last tracing.old.level tracing.old.course)) }
-    ensures over { IfOk result (λ part. part ≡ None → lines.new.items ≡ lines.old.items ++ course_lines detail place.entry.number place.entry.tick place.entry.board.now last tracing.old.level tracing.old.course) }
-    ensures fewer { IfOk result (λ part. IfSome part (λ part. length tracing.new.course.stages < length tracing.old.course.stages)) }
+    ensures more { IfOk result (λ part. IfSome part (λ part. lines.new.items ++
+        course_lines detail place.entry.number place.entry.tick place.entry.board.now part tracing.new.level tracing.new.course ≡ lines.old.items ++ course_lines detail place.entry.number place.entry.tick place.entry.board.now last tracing.old.level tracing.old.course)) }
+    ensures over { IfOk result (λ part. part ≡ None → lines.new.items ≡ lines.old.items ++
+        course_lines detail place.entry.number place.entry.tick place.entry.board.now last tracing.old.level tracing.old.course) }
+    ensures fewer { IfOk result
+        (λ part. IfSome part (λ part. length tracing.new.course.stages < length tracing.old.course.stages)) }
 {
     put_before(lines, texts, place, detail, last, tracing.level())?;
     match tracing.next() {
@@ -100,7 +106,8 @@ fn put_step(
     number: u64,
     tick: u64,
 ) -> Result<(), AllocError>
-    ensures { OnOk result (lines.new.items ≡ lines.old.items ++ step_lines detail number tick (taken step.now.board.now step.now.input)) }
+    ensures { OnOk result (lines.new.items ≡
+        lines.old.items ++ step_lines detail number tick (taken step.now.board.now step.now.input)) }
 {
     let alloc = *lines.allocator();
     let board = step.board;

@@ -63,7 +63,9 @@ fn put_firing(
 ) -> Result<(), AllocError>
     requires { IsWriterOf place.board.now texts.old }
     ensures writer { IsWriterOf place.entry.board.now texts.new }
-    ensures line { OnOk result (lines.new.items ≡ lines.old.items ++ firing_line place.entry.number place.entry.tick place.entry.board.now part (with_level firing.now level.now.grid)) }
+    ensures line { OnOk result
+        (lines.new.items ≡ lines.old.items ++ firing_line place.entry.number place.entry.tick place.entry.board.now part
+        (with_level firing.now level.now.grid)) }
 {
     let alloc = *lines.allocator();
     let moment = firing.moment;
@@ -103,9 +105,17 @@ fn put_next(
 ) -> Result<bool, AllocError>
     requires { IsWriterOf place.board.now texts.old }
     ensures writer { IsWriterOf place.entry.board.now texts.new }
-    ensures more { IfOk result (λ more. more ≡ true → lines.new.items ++ flat_map (firing_line place.entry.number place.entry.tick place.entry.board.now part) firings.new.sequence.firings ≡ lines.old.items ++ flat_map (firing_line place.entry.number place.entry.tick place.entry.board.now part) firings.old.sequence.firings) }
-    ensures over { IfOk result (λ more. more ≡ false → lines.new.items ≡ lines.old.items ++ flat_map (firing_line place.entry.number place.entry.tick place.entry.board.now part) firings.old.sequence.firings) }
-    ensures fewer { IfOk result (λ more. more ≡ true → length firings.new.sequence.firings < length firings.old.sequence.firings) }
+    ensures more { IfOk result
+        (λ more. more ≡ true → lines.new.items ++ flat_map
+        (firing_line place.entry.number place.entry.tick place.entry.board.now part) firings.new.sequence.firings ≡
+        lines.old.items ++ flat_map
+        (firing_line place.entry.number place.entry.tick place.entry.board.now part) firings.old.sequence.firings) }
+    ensures over { IfOk result
+        (λ more. more ≡ false → lines.new.items ≡
+        lines.old.items ++ flat_map
+        (firing_line place.entry.number place.entry.tick place.entry.board.now part) firings.old.sequence.firings) }
+    ensures fewer { IfOk result
+        (λ more. more ≡ true → length firings.new.sequence.firings < length firings.old.sequence.firings) }
 {
     match firings.next() {
         Ok(Some(firing)) => {
@@ -130,7 +140,8 @@ fn put_block_firings(
     requires level_of { IsOfGame place.board.now.game level.now.grid }
     requires block_of { IsBlockOf place.board.now.game.layers block.now }
     ensures writer { IsWriterOf place.entry.board.now texts.new }
-    ensures lines { OnOk result (lines.new.items ≡ lines.old.items ++ firing_lines place.entry.number place.entry.tick place.entry.board.now part (Some block.now) level.now.grid) }
+    ensures lines { OnOk result (lines.new.items ≡ lines.old.items ++
+        firing_lines place.entry.number place.entry.tick place.entry.board.now part (Some block.now) level.now.grid) }
 {
     let mut firings = Firings::new(*lines.allocator(), place.board.game(), block, level)?;
     'firings: while put_next(lines, texts, place, part, &mut firings)? {}
@@ -152,8 +163,10 @@ fn part_behind(program: &Program, last: Part) -> Option<Part>
 
 /// The block of a part, if there is one.
 fn block_at(program: &Program, part: Part) -> Option<&Block>
-    ensures block { MatchOption result (block_at program.now part ≡ None) (λ block. block_at program.now part ≡ Some block.now) }
-    ensures of_game { (layers : List ℕ) → IsProgramOf layers program.now → IfSome result (λ block. IsBlockOf layers block.now) }
+    ensures block { MatchOption result (block_at program.now part ≡ None)
+        (λ block. block_at program.now part ≡ Some block.now) }
+    ensures of_game { (layers : List ℕ) → IsProgramOf layers program.now →
+        IfSome result (λ block. IsBlockOf layers block.now) }
 {
     match part {
         Part::Early(number) => program.early().get(number),
@@ -173,7 +186,9 @@ fn put_behind(
     requires writer { IsWriterOf place.board.now texts.old }
     requires level_of { IsOfGame place.board.now.game level.now.grid }
     ensures writer { IsWriterOf place.entry.board.now texts.new }
-    ensures lines { OnOk result (lines.new.items ≡ lines.old.items ++ firing_lines place.entry.number place.entry.tick place.entry.board.now (behind_part last) (block_at place.entry.board.now.program (behind_part last)) level.now.grid) }
+    ensures lines { OnOk result
+        (lines.new.items ≡ lines.old.items ++ firing_lines place.entry.number place.entry.tick place.entry.board.now
+        (behind_part last) (block_at place.entry.board.now.program (behind_part last)) level.now.grid) }
 {
     // (brings the proof that the session has one game)
     let _level = place.board.level();
@@ -200,7 +215,8 @@ pub(crate) fn put_before(
     requires writer { IsWriterOf place.board.now texts.old }
     requires level_of { IsOfGame place.board.now.game level.now.grid }
     ensures writer { IsWriterOf place.entry.board.now texts.new }
-    ensures lines { OnOk result (lines.new.items ≡ lines.old.items ++ lines_before detail place.entry.number place.entry.tick place.entry.board.now last level.now.grid) }
+    ensures lines { OnOk result (lines.new.items ≡ lines.old.items ++
+        lines_before detail place.entry.number place.entry.tick place.entry.board.now last level.now.grid) }
 {
     match detail {
         Detail::Stages => Ok(()),

@@ -66,7 +66,8 @@ pub(crate) fn put_block(line: &mut Vec<u8>, part: Part) -> Result<(), AllocError
 
 /// Adds the lines of the source that a block comes from, each with a comma before it.
 fn put_numbers(texts: &mut Vec<u8>, lines: &[u32]) -> Result<(), AllocError>
-    ensures { OnOk result (texts.new.items ≡ texts.old.items ++ flat_map (λ line. codes "," ++ decimal line) lines.now) }
+    ensures { OnOk result (texts.new.items ≡
+        texts.old.items ++ flat_map (λ line. codes "," ++ decimal line) lines.now) }
 {
     for line in lines {
         put_number(texts, b",", *line as u64)?;
@@ -138,7 +139,9 @@ pub(crate) fn put_level(
     texts: &mut TextWriter<'_>,
     level: &Level,
 ) -> Result<(), AllocError>
-    ensures text { OnOk result (line.new.items ≡ line.old.items ++ (codes ",\"level\":" ++ quoted (text_of_level texts.old.table.game texts.old.order level.now.grid))) }
+    ensures text { OnOk result
+        (line.new.items ≡ line.old.items ++
+        (codes ",\"level\":" ++ quoted (text_of_level texts.old.table.game texts.old.order level.now.grid))) }
     ensures game { texts.new.table.game ≡ texts.old.table.game }
     ensures order { texts.new.order ≡ texts.old.order }
 {
@@ -156,7 +159,9 @@ pub(crate) fn put_stage(
 ) -> Result<(), AllocError>
     requires { IsWriterOf place.board.now texts.old }
     ensures writer { IsWriterOf place.entry.board.now texts.new }
-    ensures line { OnOk result (lines.new.items ≡ lines.old.items ++ stage_line place.entry.number place.entry.tick place.entry.board.now (with_level stage level.now.grid)) }
+    ensures line { OnOk result
+        (lines.new.items ≡ lines.old.items ++ stage_line place.entry.number place.entry.tick place.entry.board.now
+        (with_level stage level.now.grid)) }
 {
     let alloc = *lines.allocator();
     let board = place.board;
@@ -186,7 +191,8 @@ pub(crate) fn put_stop(
     place: Place<'_, '_>,
     stop: Stop,
 ) -> Result<(), AllocError>
-    ensures { OnOk result ((fault : StepFault) → stop_of fault ≡ stop → lines.new.items ≡ lines.old.items ++ stop_line place.entry.number place.entry.tick fault) }
+    ensures { OnOk result ((fault : StepFault) → stop_of fault ≡ stop →
+        lines.new.items ≡ lines.old.items ++ stop_line place.entry.number place.entry.tick fault) }
 {
     put_number(lines, b"{\"input\":", place.number)?;
     put_text(lines, b",\"stop\":", stop_name(stop))?;

@@ -183,7 +183,8 @@ impl<'a> Steps<'a> {
     /// The step that comes next.
     #[tactic(auto, using(crate::proofs::Stepping::some_tick, crate::proofs::Stepping::no_tick))]
     pub fn next(&self) -> Option<Step<'_, 'a>>
-        ensures { MatchOption result (self.now ≡ []) (λ step. slice_get self.now 0 ≡ Some (taken step.board.now step.input)) }
+        ensures { MatchOption result (self.now ≡ [])
+            (λ step. slice_get self.now 0 ≡ Some (taken step.board.now step.input)) }
     {
         let input = match self.next {
             Next::Press(dir) => Some(dir),

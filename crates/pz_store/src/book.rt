@@ -50,7 +50,11 @@ impl Model for Book {
 
     ghost Value = { BookState };
 
-    ghost view = { λ b. record { frame = b.frame.grid; objects = b.objects; cells = map (cell_in b.levels.items) b.places.items } };
+    ghost view = { λ b. record {
+      frame = b.frame.grid;
+      objects = b.objects;
+      cells = map (cell_in b.levels.items) b.places.items;
+    } };
 
     ghost invariant = { λ b. IsBook b.frame.grid b.levels.items b.places.items b.objects };
 }
@@ -97,7 +101,8 @@ impl Book {
     fn find(&self, level: &BareLevel, index: usize) -> Option<usize>
         requires size { SameSize self.now.frame level.now.grid }
         requires within { index < length self.now.frame.cells }
-        ensures { MatchOption result (IsUnknown self.now.cells (cell_of level.now.grid index)) (λ number. slice_get self.now.cells number ≡ Some (cell_of level.now.grid index)) }
+        ensures { MatchOption result (IsUnknown self.now.cells (cell_of level.now.grid index))
+            (λ number. slice_get self.now.cells number ≡ Some (cell_of level.now.grid index)) }
     {
         // (brings the proof the law of both levels)
         let _ = (self.frame.width(), level.width());
@@ -118,7 +123,8 @@ impl Book {
         ensures frame { self.new.frame ≡ self.old.frame }
         ensures objects { self.new.objects ≡ self.old.objects }
         ensures extends { Extends self.old.cells self.new.cells }
-        ensures added { OnOk result (slice_get self.new.cells (length self.old.cells) ≡ Some (cell_of level.now.grid index)) }
+        ensures added { OnOk result
+            (slice_get self.new.cells (length self.old.cells) ≡ Some (cell_of level.now.grid index)) }
     {
         // (brings the proof the law of both levels)
         let _ = (self.frame.width(), level.width());
@@ -159,7 +165,8 @@ impl Book {
         requires size { SameSize self.now.frame level.old.grid }
         requires within { index < length self.now.frame.cells }
         requires number { number < length self.now.cells }
-        ensures { option_map (λ cell. with_cell level.old.grid (record { number = index; cell = cell })) (slice_get self.now.cells number) ≡ Some level.new.grid }
+        ensures { option_map (λ cell. with_cell level.old.grid (record { number = index; cell = cell }))
+            (slice_get self.now.cells number) ≡ Some level.new.grid }
     {
         // (brings the proof the law of both levels)
         let _ = (self.frame.width(), level.width());

@@ -35,7 +35,12 @@ impl Model for Levels {
 
     ghost Value = { LevelsState };
 
-    ghost view = { λ l. record { frame = l.book.frame; objects = l.book.objects; cells = l.book.cells; grids = map (level_of l.book.frame l.book.cells) l.rows.rows } };
+    ghost view = { λ l. record {
+      frame = l.book.frame;
+      objects = l.book.objects;
+      cells = l.book.cells;
+      grids = map (level_of l.book.frame l.book.cells) l.rows.rows;
+    } };
 
     ghost invariant = { λ l. AreRows l.book l.rows };
 }
@@ -111,7 +116,8 @@ impl Levels {
     /// The digest of the level of these numbers.
     pub fn digest(&self, numbers: &[u32]) -> u64
         requires { IsRow self.now.frame self.now.cells numbers.now }
-        ensures { (grid : Grid) → AreNumbers self.now.cells numbers.now grid → result ≡ digest_of self.now.objects grid }
+        ensures { (grid : Grid) → AreNumbers self.now.cells numbers.now grid →
+            result ≡ digest_of self.now.objects grid }
     {
         let mut digest = 0;
         for number in numbers {
@@ -124,7 +130,8 @@ impl Levels {
     pub fn has_at(&self, place: usize, numbers: &[u32]) -> bool
         requires within { place < length self.now.grids }
         requires numbers { IsRow self.now.frame self.now.cells numbers.now }
-        ensures { (grid : Grid) → SameSize self.now.frame grid → AreNumbers self.now.cells numbers.now grid → IsTrue result ↔ (slice_get self.now.grids place ≡ Some grid) }
+        ensures { (grid : Grid) → SameSize self.now.frame grid → AreNumbers self.now.cells numbers.now grid →
+            IsTrue result ↔ (slice_get self.now.grids place ≡ Some grid) }
     {
         // (brings the proof that no cell has two numbers)
         let _ = self.book.frame();
@@ -137,7 +144,9 @@ impl Levels {
         ensures frame { self.new.frame ≡ self.old.frame }
         ensures objects { self.new.objects ≡ self.old.objects }
         ensures cells { self.new.cells ≡ self.old.cells }
-        ensures pushed { OnOk result ((grid : Grid) → SameSize self.old.frame grid → AreNumbers self.old.cells numbers.now grid → self.new.grids ≡ self.old.grids ++ grid ∷ []) }
+        ensures pushed { OnOk result
+            ((grid : Grid) → SameSize self.old.frame grid → AreNumbers self.old.cells numbers.now grid →
+            self.new.grids ≡ self.old.grids ++ grid ∷ []) }
         ensures kept { OnErr result (self.new.grids ≡ self.old.grids) }
     {
         self.rows.push(numbers)?;

@@ -87,7 +87,8 @@ impl Cursor {
     /// Takes a character.
     pub fn pass(&mut self, section: Section, c: char) -> Result<(), AllocError>
         ensures word { OnOk result (self.new.word.items ≡ word_after section self.old.is_first self.old.word.items c) }
-        ensures first { OnOk result (self.new.is_first ≡ is_first_after section self.old.is_first self.old.word.items c) }
+        ensures first { OnOk result
+            (self.new.is_first ≡ is_first_after section self.old.is_first self.old.word.items c) }
     {
         if self.ends_word(section, c) {
             self.is_first = self.is_first && self.word.is_empty() && c.is_whitespace();

@@ -62,7 +62,10 @@ fn line_of(
 ) -> Result<(Option<Line>, Standing), AllocError>
     requires left { left.now ≡ outside before.section true [] before.depth line.now }
     requires depth { depth ≡ depth_after before.section true [] before.depth line.now }
-    ensures lines { IfOk result (λ r. (raw : List ℕ) (more : List (List ℕ)) → line.now ≡ trimmed raw → lines_from before.section before.depth number (raw ∷ more) ≡ option_to_list r.0 ++ lines_from r.1.section r.1.depth (number + 1) more) }
+    ensures lines { IfOk result
+        (λ r. (raw : List ℕ) (more : List (List ℕ)) → line.now ≡ trimmed raw →
+        lines_from before.section before.depth number (raw ∷ more) ≡
+        option_to_list r.0 ++ lines_from r.1.section r.1.depth (number + 1) more) }
     ensures behind { IfOk result (λ r. r.1.depth ≡ depth) }
 {
     let text = trimmed(left);
@@ -88,7 +91,10 @@ fn read_line(
     raw: &[char],
 ) -> Result<(Option<Line>, Standing), AllocError>
     requires { before.depth + length raw.now < 2 ^ 64 }
-    ensures lines { IfOk result (λ r. (more : List (List ℕ)) → lines_from before.section before.depth number (raw.now ∷ more) ≡ option_to_list r.0 ++ lines_from r.1.section r.1.depth (number + 1) more) }
+    ensures lines { IfOk result
+        (λ r. (more : List (List ℕ)) →
+        lines_from before.section before.depth number (raw.now ∷ more) ≡
+        option_to_list r.0 ++ lines_from r.1.section r.1.depth (number + 1) more) }
     ensures bound { IfOk result (λ r. r.1.depth ≤ before.depth + length raw.now) }
 {
     let line = trimmed(raw);

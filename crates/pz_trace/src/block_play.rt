@@ -71,8 +71,12 @@ impl<'a> BlockPlay<'a> {
     /// Applies an instance, which is the next one.
     fn apply(&mut self, instance: &Instance) -> Result<Option<Firing>, StepFault>
         requires of_game { IsInstanceOf self.old.level.grid.layers instance.now }
-        ensures firing { IfOk result (λ firing. YieldsOrNot (λ later. told_instance self.old.rules.now self.old.spot.moment instance.now later self.old.level.grid) firing self.new.level.grid) }
-        ensures fault { IfErr result (λ fault. fault ≢ Memory → (later : Bool → Grid → Sequence) → told_instance self.old.rules.now self.old.spot.moment instance.now later self.old.level.grid ≡ stopped fault) }
+        ensures firing { IfOk result (λ firing. YieldsOrNot
+            (λ later. told_instance self.old.rules.now self.old.spot.moment instance.now later self.old.level.grid) firing self.new.level.grid) }
+        ensures fault { IfErr result
+            (λ fault. fault ≢ Memory → (later : Bool → Grid → Sequence) →
+            told_instance self.old.rules.now self.old.spot.moment instance.now later self.old.level.grid ≡
+            stopped fault) }
         ensures setting { setting_of self.new ≡ setting_of self.old }
         ensures spot { self.new.spot ≡ self.old.spot }
         ensures size { SameSize self.old.level.grid self.new.level.grid }
@@ -93,10 +97,15 @@ impl<'a> BlockPlay<'a> {
     fn next_in_pass(&mut self, group: &Group) -> Result<Option<Firing>, StepFault>
         requires played { IsPlayed self.old }
         requires group { slice_get self.old.groups.now self.old.spot.moment.group ≡ Some group.now }
-        ensures firing { IfOk result (λ firing. is_some firing ≡ true → Yields (left_in self.old) firing self.new.level.grid (left_in self.new)) }
+        ensures firing { IfOk result
+            (λ firing. is_some firing ≡ true →
+            Yields (left_in self.old) firing self.new.level.grid (left_in self.new)) }
         ensures none { IfOk result (λ firing. firing ≡ None → left_in self.new ≡ left_in self.old) }
-        ensures group { IfOk result (λ firing. firing ≡ None → self.new.spot.moment.group ≡ self.old.spot.moment.group) }
-        ensures fewer { IfOk result (λ firing. firing ≡ None → (length group.now ≤ self.new.spot.moment.instance) × (ends_left (setting_of self.new) self.new.spot ≡ ends_left (setting_of self.old) self.old.spot)) }
+        ensures group { IfOk result
+            (λ firing. firing ≡ None → self.new.spot.moment.group ≡ self.old.spot.moment.group) }
+        ensures fewer { IfOk result
+            (λ firing. firing ≡ None → (length group.now ≤ self.new.spot.moment.instance) ×
+            (ends_left (setting_of self.new) self.new.spot ≡ ends_left (setting_of self.old) self.old.spot)) }
         ensures fault { IfErr result (λ fault. fault ≢ Memory → left_in self.old ≡ stopped fault) }
         ensures setting { setting_of self.new ≡ setting_of self.old }
         ensures played { IsPlayed self.new }
@@ -192,7 +201,8 @@ impl<'a> BlockPlay<'a> {
         requires end { length group.now ≤ self.now.spot.moment.instance }
         requires allowed { IsAllowed self.now.spot }
         ensures left { IfOk result (λ spot. left (setting_of self.now) spot self.now.level.grid ≡ left_in self.now) }
-        ensures fewer { IfOk result (λ spot. ends_left (setting_of self.now) spot < ends_left (setting_of self.now) self.now.spot) }
+        ensures fewer { IfOk result
+            (λ spot. ends_left (setting_of self.now) spot < ends_left (setting_of self.now) self.now.spot) }
         ensures allowed { IfOk result IsAllowed }
         ensures fault { IfErr result (λ fault. left_in self.now ≡ stopped fault) }
     {
@@ -208,7 +218,8 @@ impl<'a> BlockPlay<'a> {
     /// The next firing, or `None` after the last. Err: why there is none. Rule `stages.firings`.
     pub fn advance(&mut self) -> Result<Option<Firing>, StepFault>
         requires played { IsPlayed self.old }
-        ensures firing { IfOk result (λ firing. Yields (left_in self.old) firing self.new.level.grid (left_in self.new)) }
+        ensures firing { IfOk result
+            (λ firing. Yields (left_in self.old) firing self.new.level.grid (left_in self.new)) }
         ensures fault { IfErr result (λ fault. fault ≢ Memory → left_in self.old ≡ stopped fault) }
         ensures played { IsPlayed self.new }
         ensures size { SameSize self.old.level.grid self.new.level.grid }

@@ -21,7 +21,8 @@ use std::alloc::{AllocError, Global};
 /// Tests again whether all rows of an instance hold at these places, and rewrites them if so. Whether a cell changed.
 fn rewrites_at(level: &mut Level, instance: &Instance, places: &[Place]) -> bool
     requires of_game { IsInstanceOf level.old.grid.layers instance.now }
-    ensures applied { in_rewrite level.new.grid result ≡ applied_at instance.now (in_rewrite level.old.grid false) places.now }
+    ensures applied { in_rewrite level.new.grid result ≡
+        applied_at instance.now (in_rewrite level.old.grid false) places.now }
     ensures size { SameSize level.old.grid level.new.grid }
 {
     still_matches(level, instance, places) && level.rewrite_all(instance, places, false)
@@ -36,7 +37,9 @@ fn fire_at(
     told: &mut Vec<Places>,
 ) -> Result<(), AllocError>
     requires of_game { IsInstanceOf level.old.grid.layers instance.now }
-    ensures told { OnOk result (record { level = level.new.grid; places = told.new.items } ≡ fired_at instance.now (record { level = level.old.grid; places = told.old.items }) places.now) }
+    ensures told { OnOk result
+        (record { level = level.new.grid; places = told.new.items } ≡
+        fired_at instance.now (record { level = level.old.grid; places = told.old.items }) places.now) }
     ensures size { SameSize level.old.grid level.new.grid }
 {
     if rewrites_at(level, instance, places) {
@@ -57,7 +60,10 @@ fn fire_all(
 ) -> Result<(), AllocError>
     requires room { length lists.now ≤ length chosen.old }
     requires of_game { IsInstanceOf level.old.grid.layers instance.now }
-    ensures told { OnOk result (record { level = level.new.grid; places = told.new.items } ≡ fold (fired_at instance.now) (record { level = level.old.grid; places = told.old.items }) (map (λ places. places ++ drop (length lists.now) chosen.old) (combinations lists.now))) }
+    ensures told { OnOk result
+        (record { level = level.new.grid; places = told.new.items } ≡
+        fold (fired_at instance.now) (record { level = level.old.grid; places = told.old.items })
+        (map (λ places. places ++ drop (length lists.now) chosen.old) (combinations lists.now))) }
     ensures size { SameSize level.old.grid level.new.grid }
     ensures chosen { OnOk result (drop (length lists.now) chosen.new ≡ drop (length lists.now) chosen.old) }
     ensures room { length chosen.new ≡ length chosen.old }
@@ -80,7 +86,9 @@ fn fire_lists(
     lists: &[Listed<Place>],
 ) -> Result<Vec<Places>, AllocError>
     requires of_game { IsInstanceOf level.old.grid.layers instance.now }
-    ensures told { IfOk result (λ told. record { level = level.new.grid; places = told.items } ≡ fold (fired_at instance.now) (record { level = level.old.grid; places = [] }) (combinations lists.now)) }
+    ensures told { IfOk result
+        (λ told. record { level = level.new.grid; places = told.items } ≡
+        fold (fired_at instance.now) (record { level = level.old.grid; places = [] }) (combinations lists.now)) }
     ensures size { SameSize level.old.grid level.new.grid }
 {
     let mut chosen = vec![in alloc; Place { x: 0, y: 0, gap: 0 }; lists.len()]?;
@@ -97,7 +105,8 @@ pub(crate) fn fire(
     instance: &Instance,
 ) -> Result<Vec<Places>, StepFault>
     requires of_game { IsInstanceOf level.old.grid.layers instance.now }
-    ensures fired { IfOk result (λ places. fired instance.now level.old.grid ≡ Ok (record { level = level.new.grid; places = places.items })) }
+    ensures fired { IfOk result
+        (λ places. fired instance.now level.old.grid ≡ Ok (record { level = level.new.grid; places = places.items })) }
     ensures fault { IfErr result (λ fault. fault ≢ Memory → fired instance.now level.old.grid ≡ Err fault) }
     ensures size { SameSize level.old.grid level.new.grid }
 {

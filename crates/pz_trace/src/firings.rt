@@ -89,7 +89,8 @@ impl<'a> Firings<'a> {
     ) -> Result<Firings<'a>, AllocError>
         requires level_of { IsOfGame game.now level.now.grid }
         requires block_of { IsBlockOf game.now.layers block.now }
-        ensures { IfOk result (λ firings. firings ≡ record { level = level.now.grid; sequence = firings_of game.now.rules block.now level.now.grid }) }
+        ensures { IfOk result (λ firings. firings ≡
+            record { level = level.now.grid; sequence = firings_of game.now.rules block.now level.now.grid }) }
     {
         let copy = level.copied()?;
         Ok(Firings {

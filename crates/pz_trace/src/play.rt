@@ -75,7 +75,9 @@ fn run_block(
 /// Leaves the level that a step ends with: the one before it, if the step is cancelled. Whether it differs from the one before.
 fn end_level(before: &Level, level: &mut Level, commands: Commands) -> Result<bool, StepFault>
     requires size { SameSize before.now.grid level.old.grid }
-    ensures end { IfOk result (λ changed. ended before.now.grid level.old.grid commands ≡ record { level = level.new.grid; commands = commands; changed = changed }) }
+    ensures end { IfOk result
+        (λ changed. ended before.now.grid level.old.grid commands ≡
+        record { level = level.new.grid; commands = commands; changed = changed }) }
     ensures fault { IfErr result (λ fault. fault ≡ Memory) }
     ensures size { SameSize before.now.grid level.new.grid }
 {
@@ -140,7 +142,8 @@ impl<'a> Play<'a> {
         ensures stage { result ≡ record { part = part; commands = commands; changed = changed } }
         ensures commands { self.new.commands ≡ either self.old.commands commands }
         ensures before { self.new.before.now ≡ self.old.before.now }
-        ensures rest { (asked_in self.new ≡ asked_in self.old) × (self.new.level.grid ≡ self.old.level.grid) × (self.new.phase ≡ self.old.phase) }
+        ensures rest { (asked_in self.new ≡ asked_in self.old) × (self.new.level.grid ≡ self.old.level.grid) ×
+            (self.new.phase ≡ self.old.phase) }
     {
         self.commands = either(self.commands, commands);
         Stage {
@@ -167,7 +170,10 @@ impl<'a> Play<'a> {
     fn block(&mut self, part: Part, block: &Block, next: Phase) -> Result<Stage, StepFault>
         requires block_of { IsBlockOf self.old.game.now.layers block.now }
         requires traced { IsTraced self.old }
-        ensures stage { IfOk result (λ stage. (later : Standing → Course) → going_on part (standing_in self.old) later (block_runs block.now self.old.level.grid) ≡ preceded (with_level stage self.new.level.grid) (later (standing_in self.new))) }
+        ensures stage { IfOk result
+            (λ stage. (later : Standing → Course) →
+            going_on part (standing_in self.old) later (block_runs block.now self.old.level.grid) ≡
+            preceded (with_level stage self.new.level.grid) (later (standing_in self.new))) }
         ensures phase { IfOk result (λ stage. self.new.phase ≡ next) }
         ensures asked { asked_in self.new ≡ asked_in self.old }
         ensures before { self.new.before.now ≡ self.old.before.now }
@@ -182,7 +188,9 @@ impl<'a> Play<'a> {
     /// The movement's stage. Rule `stages.movement`.
     fn movement(&mut self) -> Result<Stage, StepFault>
         requires traced { IsTraced self.old }
-        ensures stage { IfOk result (λ stage. movement_from (asked_in self.old) (standing_in self.old) ≡ preceded (with_level stage self.new.level.grid) (left self.new)) }
+        ensures stage { IfOk result
+            (λ stage. movement_from (asked_in self.old) (standing_in self.old) ≡
+            preceded (with_level stage self.new.level.grid) (left self.new)) }
         ensures before { self.new.before.now ≡ self.old.before.now }
         ensures traced { IsTraced self.new }
         ensures fault { IfErr result (λ fault. fault ≡ Memory) }
@@ -195,7 +203,9 @@ impl<'a> Play<'a> {
     /// The last stage. Rule `stages.end`.
     fn end(&mut self) -> Result<Stage, StepFault>
         requires traced { IsTraced self.old }
-        ensures stage { IfOk result (λ stage. end_from (asked_in self.old) (standing_in self.old) ≡ preceded (with_level stage self.new.level.grid) (left self.new)) }
+        ensures stage { IfOk result
+            (λ stage. end_from (asked_in self.old) (standing_in self.old) ≡
+            preceded (with_level stage self.new.level.grid) (left self.new)) }
         ensures before { self.new.before.now ≡ self.old.before.now }
         ensures traced { IsTraced self.new }
         ensures fault { IfErr result (λ fault. fault ≡ Memory) }

@@ -56,7 +56,11 @@ impl<'a> Tracing<'a> {
     ) -> Result<Tracing<'a>, AllocError>
         requires level_of { IsOfGame game.now level.now.grid }
         requires program_of { IsProgramOf game.now.layers program.now }
-        ensures { IfOk result (λ tracing. tracing ≡ record { grid = level.now.grid; level = level.now.grid; course = stages_of game.now program.now level.now.grid input }) }
+        ensures { IfOk result (λ tracing. tracing ≡ record {
+          grid = level.now.grid;
+          level = level.now.grid;
+          course = stages_of game.now program.now level.now.grid input;
+        }) }
     {
         let copy = level.copied()?;
         Ok(Tracing {

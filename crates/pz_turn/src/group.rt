@@ -20,7 +20,8 @@ use std::alloc::Global;
 fn is_left_out(level: &Level, group: &Group, segment: &Segment) -> bool
     requires of_game { IsGroupOf level.now.grid.layers group.now }
     requires of_group { IsSegmentOf group.now segment.now }
-    ensures { result ≡ true → pass_of applied (instances_in group.now segment.now) level.now.grid ≡ Ok (untouched level.now.grid) }
+    ensures { result ≡ true →
+        pass_of applied (instances_in group.now segment.now) level.now.grid ≡ Ok (untouched level.now.grid) }
 {
     // (brings the proof the law of levels)
     let _ = level.width();

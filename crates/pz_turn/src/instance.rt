@@ -53,7 +53,8 @@ impl From<GridFault> for StepFault {
 fn search(alloc: Global, level: &Level, row: &Row, dir: Dir) -> Result<Listed<Place>, StepFault>
     requires of_game { IsRowOf level.now.grid.layers row.now }
     ensures found { IfOk result (λ found. found_or_stop (searched level.now.grid row.now dir) ≡ Ok found) }
-    ensures fault { IfErr result (λ fault. fault ≢ Memory → found_or_stop (searched level.now.grid row.now dir) ≡ Err fault) }
+    ensures fault { IfErr result
+        (λ fault. fault ≢ Memory → found_or_stop (searched level.now.grid row.now dir) ≡ Err fault) }
 {
     let found = places(alloc, level, row, dir)?;
     Ok(Listed::new(found))
@@ -119,8 +120,11 @@ pub fn take_places(
     instance: &Instance,
 ) -> Result<Option<Vec<Listed<Place>>>, StepFault>
     requires of_game { AreRowsOf level.now.grid.layers instance.now.left }
-    ensures taken { IfOk result (λ found. MatchOption found (applied instance.now level.now.grid ≡ Ok (untouched level.now.grid)) (λ lists. taken level.now.grid instance.now.scan instance.now.left ≡ Ok lists.items)) }
-    ensures fault { IfErr result (λ fault. fault ≢ Memory → taken level.now.grid instance.now.scan instance.now.left ≡ Err fault) }
+    ensures taken { IfOk result
+        (λ found. MatchOption found (applied instance.now level.now.grid ≡ Ok (untouched level.now.grid))
+        (λ lists. taken level.now.grid instance.now.scan instance.now.left ≡ Ok lists.items)) }
+    ensures fault { IfErr result
+        (λ fault. fault ≢ Memory → taken level.now.grid instance.now.scan instance.now.left ≡ Err fault) }
 {
     let mut lists = Vec::new(alloc);
     for row in instance.left.items() {
@@ -151,7 +155,8 @@ pub fn combination_count(lists: &[Listed<Place>]) -> u64
 /// Tests again whether all rows of an instance hold at these places, and rewrites them if so. Rule `match.tested-again`.
 fn apply_at(level: &mut Level, instance: &Instance, places: &[Place], changed: bool) -> bool
     requires of_game { IsInstanceOf level.old.grid.layers instance.now }
-    ensures applied { in_rewrite level.new.grid result ≡ applied_at instance.now (in_rewrite level.old.grid changed) places.now }
+    ensures applied { in_rewrite level.new.grid result ≡
+        applied_at instance.now (in_rewrite level.old.grid changed) places.now }
     ensures size { SameSize level.old.grid level.new.grid }
 {
     if still_matches(level, instance, places) {
@@ -172,7 +177,9 @@ fn apply_all(
 ) -> bool
     requires room { length lists.now ≤ length chosen.old }
     requires of_game { IsInstanceOf level.old.grid.layers instance.now }
-    ensures applied { in_rewrite level.new.grid result ≡ fold (applied_at instance.now) (in_rewrite level.old.grid changed_before) (map (λ places. places ++ drop (length lists.now) chosen.old) (combinations lists.now)) }
+    ensures applied { in_rewrite level.new.grid result ≡
+        fold (applied_at instance.now) (in_rewrite level.old.grid changed_before)
+        (map (λ places. places ++ drop (length lists.now) chosen.old) (combinations lists.now)) }
     ensures size { SameSize level.old.grid level.new.grid }
     ensures chosen { drop (length lists.now) chosen.new ≡ drop (length lists.now) chosen.old }
     ensures room { length chosen.new ≡ length chosen.old }
@@ -237,7 +244,8 @@ fn apply_rows(alloc: Global, level: &mut Level, instance: &Instance) -> Result<G
 /// Applies an instance of one row at each of these places in order.
 fn apply_each(level: &mut Level, instance: &Instance, places: &[Place]) -> bool
     requires of_game { IsInstanceOf level.old.grid.layers instance.now }
-    ensures applied { in_rewrite level.new.grid result ≡ fold (applied_at instance.now) (in_rewrite level.old.grid false) (map (λ place. place ∷ []) places.now) }
+    ensures applied { in_rewrite level.new.grid result ≡
+        fold (applied_at instance.now) (in_rewrite level.old.grid false) (map (λ place. place ∷ []) places.now) }
     ensures size { SameSize level.old.grid level.new.grid }
 {
     let mut changed = false;
@@ -259,7 +267,8 @@ fn apply_row(
     requires of_game { IsInstanceOf level.old.grid.layers instance.now }
     requires only { instance.now.left ≡ row.now ∷ [] }
     ensures outcome { GivesOutcome (applied instance.now level.old.grid) level.new.grid result }
-    ensures calm { IfOk result (λ given. given.calm ≡ true → IsCalm applied given.commands level.new.grid instance.now) }
+    ensures calm { IfOk result
+        (λ given. given.calm ≡ true → IsCalm applied given.commands level.new.grid instance.now) }
     ensures size { SameSize level.old.grid level.new.grid }
 {
     let found = search(alloc, level, row, instance.scan)?;
@@ -290,7 +299,8 @@ fn apply_row(
 fn apply(alloc: Global, level: &mut Level, instance: &Instance) -> Result<Given, StepFault>
     requires of_game { IsInstanceOf level.old.grid.layers instance.now }
     ensures outcome { GivesOutcome (applied instance.now level.old.grid) level.new.grid result }
-    ensures calm { IfOk result (λ given. given.calm ≡ true → IsCalm applied given.commands level.new.grid instance.now) }
+    ensures calm { IfOk result
+        (λ given. given.calm ≡ true → IsCalm applied given.commands level.new.grid instance.now) }
     ensures size { SameSize level.old.grid level.new.grid }
 {
     if is_left_out(level, instance) {

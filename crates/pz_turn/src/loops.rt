@@ -24,7 +24,8 @@ pub fn rest_loop(
 ) -> Result<(Commands, bool), StepFault>
     requires level_of { IsOfGame game.now level.old.grid }
     requires groups_of { AreGroupsOf game.now.layers groups.now }
-    ensures outcome { GivesBoth (rest_of PASSES (pass_of (group_runs PASSES applied) groups.now) level.old.grid) level.new.grid result }
+    ensures outcome { GivesBoth
+        (rest_of PASSES (pass_of (group_runs PASSES applied) groups.now) level.old.grid) level.new.grid result }
     ensures size { SameSize level.old.grid level.new.grid }
     ensures lawful { IsLawful level.new.grid }
 {

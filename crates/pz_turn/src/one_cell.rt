@@ -52,7 +52,8 @@ pub(crate) fn rewrite_each(
 ) -> bool
     requires left_of { AreOf level.old.grid.layers left.now }
     requires right_of { AreOf level.old.grid.layers right.now }
-    ensures rewritten { in_rewrite level.new.grid result ≡ fold (one_rewritten dir left.now right.now) (in_rewrite level.old.grid false) places.now }
+    ensures rewritten { in_rewrite level.new.grid result ≡
+        fold (one_rewritten dir left.now right.now) (in_rewrite level.old.grid false) places.now }
     ensures size { SameSize level.old.grid level.new.grid }
 {
     let mut changed = false;

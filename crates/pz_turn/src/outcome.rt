@@ -38,7 +38,11 @@ impl Given {
 
     /// What two runs gave together. Whether the two are calm together is not known. (Joined without a branch.) Rule `step.commands`.
     pub(crate) fn and(self, more: Given) -> Given
-        ensures { result ≡ record { commands = either self.commands more.commands; changed = self.changed || more.changed; calm = false } }
+        ensures { result ≡ record {
+          commands = either self.commands more.commands;
+          changed = self.changed || more.changed;
+          calm = false;
+        } }
     {
         Given {
             commands: either(self.commands, more.commands),

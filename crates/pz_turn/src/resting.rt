@@ -39,7 +39,8 @@ pub(crate) trait Runnable {
         requires of_game { is_of level.old.grid.layers whole.now self.now }
         ensures outcome { GivesOutcome (runs whole.now self.now level.old.grid) level.new.grid result }
         ensures kept { IfOk result (λ given. given.changed ≡ false → level.new.grid ≡ level.old.grid) }
-        ensures calm { IfOk result (λ given. given.calm ≡ true → IsCalm (runs whole.now) given.commands level.new.grid self.now) }
+        ensures calm { IfOk result
+            (λ given. given.calm ≡ true → IsCalm (runs whole.now) given.commands level.new.grid self.now) }
         ensures size { SameSize level.old.grid level.new.grid };
 }
 
@@ -52,7 +53,8 @@ pub(crate) fn pass<T: Runnable>(
 ) -> Result<Given, StepFault>
     requires of_game { All (T.is_of level.old.grid.layers whole.now) items.now }
     ensures outcome { GivesOutcome (pass_of (T.runs whole.now) items.now level.old.grid) level.new.grid result }
-    ensures calm { IfOk result (λ given. given.calm ≡ true → IsCalm (pass_of (T.runs whole.now)) given.commands level.new.grid items.now) }
+    ensures calm { IfOk result
+        (λ given. given.calm ≡ true → IsCalm (pass_of (T.runs whole.now)) given.commands level.new.grid items.now) }
     ensures size { SameSize level.old.grid level.new.grid }
 {
     let mut so_far = Given::nothing();
@@ -86,10 +88,16 @@ fn pass_after<T: Runnable>(
     calm_from: usize,
 ) -> Result<Passed, StepFault>
     requires of_game { All (T.is_of level.old.grid.layers whole.now) items.now }
-    ensures outcome { IfOk result (λ passed. pass_of (T.runs whole.now) (cond passed.given.changed items.now (take calm_from items.now)) level.old.grid ≡ Ok (record { level = level.new.grid; commands = passed.given.commands; changed = passed.given.changed })) }
-    ensures fault { IfErr result (λ fault. fault ≢ Memory → pass_of (T.runs whole.now) items.now level.old.grid ≡ Err fault) }
+    ensures outcome { IfOk result
+        (λ passed. pass_of (T.runs whole.now)
+        (cond passed.given.changed items.now (take calm_from items.now)) level.old.grid ≡
+        Ok (record { level = level.new.grid; commands = passed.given.commands; changed = passed.given.changed })) }
+    ensures fault { IfErr result
+        (λ fault. fault ≢ Memory → pass_of (T.runs whole.now) items.now level.old.grid ≡ Err fault) }
     ensures kept { IfOk result (λ passed. passed.given.changed ≡ false → level.new.grid ≡ level.old.grid) }
-    ensures calm { IfOk result (λ passed. passed.given.changed ≡ true → AreCalmFrom (T.runs whole.now) passed.given.commands level.new.grid items.now passed.calm_from) }
+    ensures calm { IfOk result
+        (λ passed. passed.given.changed ≡ true →
+        AreCalmFrom (T.runs whole.now) passed.given.commands level.new.grid items.now passed.calm_from) }
     ensures size { SameSize level.old.grid level.new.grid }
 {
     let mut so_far = Given::nothing();
@@ -119,7 +127,8 @@ pub(crate) fn to_rest<T: Runnable>(
     items: &[T],
 ) -> Result<Given, StepFault>
     requires of_game { All (T.is_of level.old.grid.layers whole.now) items.now }
-    ensures outcome { GivesOutcome (rest_of PASSES (pass_of (T.runs whole.now) items.now) level.old.grid) level.new.grid result }
+    ensures outcome { GivesOutcome
+        (rest_of PASSES (pass_of (T.runs whole.now) items.now) level.old.grid) level.new.grid result }
     ensures kept { IfOk result (λ given. given.changed ≡ false → level.new.grid ≡ level.old.grid) }
     ensures calm { IfOk result (λ given. given.calm ≡ false) }
     ensures size { SameSize level.old.grid level.new.grid }
@@ -142,7 +151,8 @@ pub(crate) fn as_pair(
     given: Result<Given, StepFault>,
     level: &Level,
 ) -> Result<(Commands, bool), StepFault>
-    ensures both { (outcome : Result (Outcome Grid) StepFault) → GivesOutcome outcome level.now.grid given → GivesBoth outcome level.now.grid result }
+    ensures both { (outcome : Result (Outcome Grid) StepFault) → GivesOutcome outcome level.now.grid given →
+        GivesBoth outcome level.now.grid result }
     ensures lawful { IsLawful level.now.grid }
 {
     // (brings the proof the law of levels)

@@ -175,7 +175,9 @@ pub fn with_cancel(cancelled: bool, commands: Commands) -> Commands
 /// How a step ends that leads from one level to another. A cancelled step ends with the level before it. Rule `play.cancel`.
 fn end_of(before: &Level, after: Level, commands: Commands) -> Result<StepEnd, StepFault>
     requires size { SameSize before.now.grid after.grid }
-    ensures end { IfOk result (λ end. ended before.now.grid after.grid commands ≡ record { level = end.level.grid; commands = end.commands; changed = end.changed }) }
+    ensures end { IfOk result
+        (λ end. ended before.now.grid after.grid commands ≡
+        record { level = end.level.grid; commands = end.commands; changed = end.changed }) }
     ensures size { IfOk result (λ end. SameSize before.now.grid end.level.grid) }
     ensures lawful { IfOk result (λ end. IsLawful end.level.grid) }
     ensures fault { IfErr result (λ fault. fault ≡ Memory) }
@@ -212,10 +214,13 @@ pub fn step_in(
 ) -> Result<StepEnd, StepFault>
     requires level_of { IsOfGame game.now level.now.grid }
     requires program_of { IsProgramOf game.now.layers program.now }
-    ensures end { IfOk result (λ end. step_of game.now program.now level.now.grid input ≡ Ok (record { level = end.level.grid; commands = end.commands; changed = end.changed })) }
+    ensures end { IfOk result
+        (λ end. step_of game.now program.now level.now.grid input ≡
+        Ok (record { level = end.level.grid; commands = end.commands; changed = end.changed })) }
     ensures size { IfOk result (λ end. SameSize level.now.grid end.level.grid) }
     ensures lawful { IfOk result (λ end. IsLawful end.level.grid) }
-    ensures fault { IfErr result (λ fault. fault ≢ Memory → step_of game.now program.now level.now.grid input ≡ Err fault) }
+    ensures fault { IfErr result
+        (λ fault. fault ≢ Memory → step_of game.now program.now level.now.grid input ≡ Err fault) }
 {
     let mut work = with_input(game, level, spare, input)?;
     let given = run_rules(alloc, game, &mut work, program)?;
@@ -235,10 +240,13 @@ pub fn step(
 ) -> Result<StepEnd, StepFault>
     requires level_of { IsOfGame game.now level.now.grid }
     requires program_of { IsProgramOf game.now.layers program.now }
-    ensures end { IfOk result (λ end. step_of game.now program.now level.now.grid input ≡ Ok (record { level = end.level.grid; commands = end.commands; changed = end.changed })) }
+    ensures end { IfOk result
+        (λ end. step_of game.now program.now level.now.grid input ≡
+        Ok (record { level = end.level.grid; commands = end.commands; changed = end.changed })) }
     ensures size { IfOk result (λ end. SameSize level.now.grid end.level.grid) }
     ensures lawful { IfOk result (λ end. IsLawful end.level.grid) }
-    ensures fault { IfErr result (λ fault. fault ≢ Memory → step_of game.now program.now level.now.grid input ≡ Err fault) }
+    ensures fault { IfErr result
+        (λ fault. fault ≢ Memory → step_of game.now program.now level.now.grid input ≡ Err fault) }
 {
     step_in(alloc, game, program, level, None, input)
 }

@@ -94,7 +94,8 @@ fn line_holds_by_cell(game: &Game, level: &Level, line: WinLine) -> bool
 /// The members of the name of this number, if a cell fits the name by holding one of them. `None`: it is an aggregate, or there is no such
 /// name.
 fn members_of(game: &Game, number: usize) -> Option<&[usize]>
-    ensures { IfSome result (λ members. (cell : List (Option Piece)) → fits game.now number cell ≡ holds_one members.now cell) }
+    ensures { IfSome result (λ members. (cell : List (Option Piece)) →
+        fits game.now number cell ≡ holds_one members.now cell) }
 {
     match game.values().get(number) {
         None => None,
