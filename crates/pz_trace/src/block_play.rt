@@ -72,7 +72,8 @@ impl<'a> BlockPlay<'a> {
     fn apply(&mut self, instance: &Instance) -> Result<Option<Firing>, StepFault>
         requires of_game { IsInstanceOf self.old.level.grid.layers instance.now }
         ensures firing { IfOk result (λ firing. YieldsOrNot
-            (λ later. told_instance self.old.rules.now self.old.spot.moment instance.now later self.old.level.grid) firing self.new.level.grid) }
+            (λ later. told_instance self.old.rules.now self.old.spot.moment instance.now
+            later self.old.level.grid) firing self.new.level.grid) }
         ensures fault { IfErr result
             (λ fault. fault ≢ Memory → (later : Bool → Grid → Sequence) →
             told_instance self.old.rules.now self.old.spot.moment instance.now later self.old.level.grid ≡
