@@ -48,6 +48,7 @@ impl Packed {
         }
     }
 
+    /// How many numbers there are.
     pub fn len(&self) -> usize
         ensures { result ≡ length self.now }
     {
@@ -58,6 +59,7 @@ impl Packed {
         }
     }
 
+    /// The number at a place, counted from 0.
     pub fn get(&self, index: usize) -> u32
         requires { index < length self.now }
         ensures { slice_get self.now index ≡ Some result }
