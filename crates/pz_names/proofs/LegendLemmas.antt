@@ -6,7 +6,7 @@ use Rattle.std.specs.Char.{is_whitespace}
 use Rattle.std.proofs.lemmas.Bool.{eqb-true}
 use Rattle.pz_names.specs.Objects.{is_blank}
 use Rattle.std.proofs.lemmas.List.Elements.{filter_map-append}
-use Rattle.pz_names.specs.Legend.{definition_of, definitions_of, misnames, misnames_by, defined, sides}
+use Rattle.pz_names.specs.Legend.{definition_of, definitions_of, misnames, misnames_by, defined_names, sides}
 use Rattle.pz_base.proofs.ListLemmas.{take-next}
 use Rattle.pz_text.specs.declared.line.Line.{Line}
 
@@ -14,7 +14,7 @@ pub definitions_of-more : (lines : List Line) (i : ℕ) (x : Line) → i < lengt
     → definitions_of (take (i + 1) lines) ≡ definitions_of (take i lines) ++ definitions_of (x ∷ [])
 definitions_of-more lines i x lt is = ap (filter_map definition_of) (take-next lines i x lt is) ∙ filter_map-append definition_of (take i lines) (x ∷ [])
 
-pub misnames-there : (objects names : List (List ℕ)) (before : List Line) (x : Line) → names ≡ objects ++ defined before
+pub misnames-there : (objects names : List (List ℕ)) (before : List Line) (x : Line) → names ≡ objects ++ defined_names before
     → misnames objects before x ≡ (if is_blank x then None else misnames_by names (definition_of x))
 misnames-there objects names before x there = ap (λ t. if is_blank x then None else misnames_by t (definition_of x)) (sym there)
 

@@ -8,7 +8,7 @@ use Rattle.pz_base.proofs.FaultLemmas.{unless-pass, unless-hit}
 use Rattle.pz_base.specs.declared.fault.Code.{Code}
 use Rattle.pz_base.specs.declared.fault.SourceFault.{SourceFault}
 use Rattle.pz_text.specs.declared.line.Line.{Line}
-use Rattle.pz_names.specs.Objects.{object_names, is_blank, paragraph_of, behind_paragraph, paragraphs_within, paragraphs_of, name_line_of, has_repeat, paragraph_at, misnamed, misnames, objects_of, IsNamed}
+use Rattle.pz_names.specs.Objects.{object_names, is_blank, paragraph_of, behind_paragraph, paragraphs_within, paragraphs_of, name_line_of, has_repeat, paragraph_at, fault_below, misnames, objects_of, IsNamed}
 use Rattle.pz_names.specs.declared.objects.Paragraph.{Paragraph}
 use Rattle.pz_names.specs.declared.name_line.NameLine.{NameLine}
 use Rattle.pz_base.specs.declared.fault.Code.TheVariants as code
@@ -41,11 +41,11 @@ paragraphs_within-turn found more n i line others after lt read = read (n - (i +
 -- ---- one paragraph more
 
 -- what is wrong with it, by the names of those above
-pub misnamed-there : (xs : List Paragraph) (i : ℕ) (x : Paragraph) (names : List (List ℕ)) → i < length xs → names ≡ object_names (map name_line_of (take i xs))
-    → misnames (take i xs) x ≡ misnamed names i x
-misnamed-there xs i x names lt there =
+pub misnames-there : (xs : List Paragraph) (i : ℕ) (x : Paragraph) (names : List (List ℕ)) → i < length xs → names ≡ object_names (map name_line_of (take i xs))
+    → misnames (take i xs) x ≡ fault_below names i x
+misnames-there xs i x names lt there =
     let long : length (take i xs) ≡ i = omega (arith, length-take i xs) in
-    ap (λ ns. misnamed ns (length (take i xs)) x) (sym there) ∙ ap (λ n. misnamed names n x) long
+    ap (λ ns. fault_below ns (length (take i xs)) x) (sym there) ∙ ap (λ n. fault_below names n x) long
 
 pub object_names-next : (xs : List Paragraph) (i : ℕ) (x : Paragraph) (names : List (List ℕ)) → i < length xs → x ≡ get_or xs i x
     → names ≡ object_names (map name_line_of (take i xs)) → names ++ x.line.names ≡ object_names (map name_line_of (take (i + 1) xs))

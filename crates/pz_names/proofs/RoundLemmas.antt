@@ -7,7 +7,7 @@ use Rattle.std.proofs.lemmas.Bool.{eqb-true, eq-eqb}
 use Rattle.std.proofs.lemmas.Bool.Decides.{nat_tests}
 use Rattle.std.proofs.lemmas.Option.{slice_get_within}
 use Rattle.pz_names.specs.Meaning.{parts_of, StaysInside}
-use Rattle.pz_names.specs.Denotation.{AreMarked, value_at, gathered, with_mentions, denotation_of, denotation_next, known_at, IsBelow, settled, IsRound}
+use Rattle.pz_names.specs.Denotation.{AreMarked, value_at, gathered, with_mentions, denotation_of, denotation_next, known_at, IsBelow, known_after, IsRound}
 use Rattle.pz_names.specs.declared.meaning.Meaning.{Meaning}
 use Rattle.pz_names.specs.declared.meaning.Meaning.TheVariants.{Itself, Same, AllOf, AnyOf}
 use Rattle.pz_game.specs.declared.denotation.Denotation.{Denotation}
@@ -37,19 +37,19 @@ unknown-part known number (AnyOf parts) h = rw (gathered-unknown known [] parts 
 
 -- where a line is not looked at, or a part is not known, nothing is noted
 pub nothing-settled : (known : ℕ → Option Denotation) (number : ℕ) (meaning : Meaning) → (is_some (known number) || not (list_all (λ part. is_some (known part)) (parts_of meaning))) ≡ true
-    → settled known number meaning ≡ known number
+    → known_after known number meaning ≡ known number
 nothing-settled known number meaning h = by (known number) refl (list_all (λ part. is_some (known part)) (parts_of meaning)) refl h
   where
-    by : (o : Option Denotation) → known number ≡ o → (b : Bool) → list_all (λ part. is_some (known part)) (parts_of meaning) ≡ b → (is_some o || not b) ≡ true → settled known number meaning ≡ known number
+    by : (o : Option Denotation) → known number ≡ o → (b : Bool) → list_all (λ part. is_some (known part)) (parts_of meaning) ≡ b → (is_some o || not b) ≡ true → known_after known number meaning ≡ known number
     by (Some d) q b e h = rw q refl
     by None q true e h = cc
     by None q false e h = rw q (unknown-part known number meaning e)
 
 pub something-settled : (known : ℕ → Option Denotation) (number : ℕ) (meaning : Meaning) → (is_some (known number) || not (list_all (λ part. is_some (known part)) (parts_of meaning))) ≡ false
-    → settled known number meaning ≡ denotation_of known number meaning
+    → known_after known number meaning ≡ denotation_of known number meaning
 something-settled known number meaning h = by (known number) refl h
   where
-    by : (o : Option Denotation) → known number ≡ o → (is_some o || not (list_all (λ part. is_some (known part)) (parts_of meaning))) ≡ false → settled known number meaning ≡ denotation_of known number meaning
+    by : (o : Option Denotation) → known number ≡ o → (is_some o || not (list_all (λ part. is_some (known part)) (parts_of meaning))) ≡ false → known_after known number meaning ≡ denotation_of known number meaning
     by (Some d) q h = cc
     by None q h = rw q refl
 
@@ -90,7 +90,7 @@ module _ (meanings : List Meaning) where
 
   -- one line more
   pub round-step : (old f new : ℕ → Option Denotation) (i : ℕ) (x : Meaning) (found noted : Bool) → IsRound meanings old f i found → slice_get meanings i ≡ Some x
-      → ((k : ℕ) → new k ≡ (if k == i then settled f i x else f k)) → (noted ≡ false → (k : ℕ) → new k ≡ f k) → IsRound meanings old new (i + 1) (noted || found)
+      → ((k : ℕ) → new k ≡ (if k == i then known_after f i x else f k)) → (noted ≡ false → (k : ℕ) → new k ≡ f k) → IsRound meanings old new (i + 1) (noted || found)
   round-step old f new i x found noted r at each quiet = record {
     kept = λ k d e. keep k d (r.kept k d e);
     sound = λ g s le k d e. from g s (r.sound g s le) k d e (k == i) refl;
@@ -109,7 +109,7 @@ module _ (meanings : List Meaning) where
       line : (h : ℕ → Option Denotation) → denotation_next h meanings i ≡ denotation_of h i x
       line h = rw at refl
 
-      here : (k : ℕ) → (k == i) ≡ true → new k ≡ settled f i x
+      here : (k : ℕ) → (k == i) ≡ true → new k ≡ known_after f i x
       here k e = each k ∙ rw e refl
 
       away : (k : ℕ) → (k == i) ≡ false → new k ≡ f k

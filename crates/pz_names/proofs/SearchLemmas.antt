@@ -10,7 +10,7 @@ use Rattle.std.proofs.lemmas.List.Folds.{list_any-append}
 use Rattle.std.proofs.lemmas.Map.Steps.{length-le_from_distinct_below}
 use Rattle.pz_names.specs.Meaning.{parts_at, StaysInside}
 use Rattle.pz_names.specs.Denotation.{with_mention, with_mentions}
-use Rattle.pz_names.specs.Cycles.{reaches, is_on_cycle, IsChain, LeadsTo, looked}
+use Rattle.pz_names.specs.Cycles.{reaches, is_on_cycle, IsChain, LeadsTo, found_after}
 use Rattle.pz_names.specs.declared.meaning.Meaning.{Meaning}
 use Rattle.pz_names.proofs.CycleLemmas.{same_self, or_true}
 use Rattle.pz_names.proofs.ChainLemmas.{Witness, witness, reaches_from_leads}
@@ -184,7 +184,7 @@ module _ (meanings : List Meaning) (inside : StaysInside meanings) (start : ℕ)
       joined [] = refl
       joined (w ∷ ws) = ap (λ t. w ∷ t) (joined ws)
 
-  pub search-step : (found : List ℕ) (i : ℕ) → IsSearch meanings start found i → IsSearch meanings start (looked meanings i found) (i + 1)
+  pub search-step : (found : List ℕ) (i : ℕ) → IsSearch meanings start found i → IsSearch meanings start (found_after meanings i found) (i + 1)
   search-step found i s = by (slice_get found i) refl
     where
       at_end : slice_get found i ≡ None → (j x y : ℕ) → j < i + 1 → slice_get found j ≡ Some x → Has (parts_at meanings x) y → (b : Bool) → (j == i) ≡ b → Has found y

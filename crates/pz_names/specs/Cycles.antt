@@ -33,5 +33,5 @@ abbrev pub reaches_itself : ℕ → List Meaning → List Definition → Definit
 reaches_itself first meanings before definition = if is_on_cycle meanings (first + length before) then Some code.BadLegend else None
 
 -- the names found after a look at the one found at this place: its parts are added, and repeats dropped
-abbrev pub looked : List Meaning → ℕ → List ℕ → List ℕ
-looked meanings place found = option_map_or (λ next. with_mentions found (parts_at meanings next)) (slice_get found place) found
+abbrev pub found_after : List Meaning → ℕ → List ℕ → List ℕ
+found_after meanings place found = option_map_or (λ next. with_mentions found (parts_at meanings next)) (slice_get found place) found

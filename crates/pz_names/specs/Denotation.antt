@@ -54,8 +54,8 @@ abbrev pub IsBelow : (ℕ → Option Denotation) → (ℕ → Option Denotation)
 IsBelow f g = (k : ℕ) (d : Denotation) → f k ≡ Some d → g k ≡ Some d
 
 -- what is known of a name after its line was looked at
-abbrev pub settled : (ℕ → Option Denotation) → ℕ → Meaning → Option Denotation
-settled known number meaning = if is_some (known number) then known number else denotation_of known number meaning
+abbrev pub known_after : (ℕ → Option Denotation) → ℕ → Meaning → Option Denotation
+known_after known number meaning = if is_some (known number) then known number else denotation_of known number meaning
 
 -- What is known after a look at the lines of the names below `count`, in order. It has all that was known before, only what the
 -- lines say, and at least what they said before the look. If nothing was found, these lines say nothing new.

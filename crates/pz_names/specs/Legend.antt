@@ -53,8 +53,8 @@ abbrev pub line_at : Definition → ℕ
 line_at definition = definition.number
 
 -- the names that the lines define
-abbrev pub defined : List Line → List (List ℕ)
-defined lines = map (λ d. d.name) (definitions_of lines)
+abbrev pub defined_names : List Line → List (List ℕ)
+defined_names lines = map (λ d. d.name) (definitions_of lines)
 
 -- the names on the right of a line
 abbrev pub names_in : Said → List (List ℕ)
@@ -75,7 +75,7 @@ misnames_by there (Some definition) =
 
 -- checks.legend: the same of any line: blank lines are skipped, and the names come from OBJECTS and from the lines above
 abbrev pub misnames : List (List ℕ) → List Line → Line → Option Code
-misnames objects before line = if is_blank line then None else misnames_by (objects ++ defined before) (definition_of line)
+misnames objects before line = if is_blank line then None else misnames_by (objects ++ defined_names before) (definition_of line)
 
 -- the fault of a line with an unknown name on its right
 abbrev pub speaks_of_unknown : List (List ℕ) → List Definition → Definition → Option Code

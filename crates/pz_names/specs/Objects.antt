@@ -81,16 +81,20 @@ has_repeat above [] = false
 has_repeat above (name ∷ names) = is_name_of above name || has_repeat (above ++ name ∷ []) names
 
 -- checks.objects: what is wrong with a paragraph: its form, a name that is there already, or too many objects or names; `count`
--- paragraphs stand above it, and `above` are their names
-abbrev pub misnamed : List (List ℕ) → ℕ → Paragraph → Option Code
-misnamed above count paragraph =
+-- paragraphs stand above it, and with its own there are `total` names
+abbrev pub paragraph_fault : Paragraph → Bool → ℕ → ℕ → Option Code
+paragraph_fault paragraph repeats count total =
     if not paragraph.is_whole then Some code.BadObject
-    else (if has_repeat above paragraph.line.names then Some code.Duplicate
-    else (if nat_le MOST_OBJECTS count || nat_lt MOST_NAMES (length (above ++ paragraph.line.names)) then Some code.TooLarge
+    else (if repeats then Some code.Duplicate
+    else (if nat_le MOST_OBJECTS count || nat_lt MOST_NAMES total then Some code.TooLarge
     else None))
 
+-- the same, below `count` paragraphs with these names
+abbrev pub fault_below : List (List ℕ) → ℕ → Paragraph → Option Code
+fault_below above count paragraph = paragraph_fault paragraph (has_repeat above paragraph.line.names) count (length (above ++ paragraph.line.names))
+
 abbrev pub misnames : List Paragraph → Paragraph → Option Code
-misnames before paragraph = misnamed (object_names (map name_line_of before)) (length before) paragraph
+misnames before paragraph = fault_below (object_names (map name_line_of before)) (length before) paragraph
 
 -- the name line of each object, or the first fault of OBJECTS
 abbrev pub objects_of : List Line → Result (List NameLine) SourceFault

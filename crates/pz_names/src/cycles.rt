@@ -6,7 +6,7 @@ ghost use Rattle.pz_base.specs.declared.fault.Code.TheVariants as code;
 ghost use Rattle.pz_names.specs.Legend.{line_at};
 ghost use Rattle.pz_names.specs.Meaning.{parts_at, StaysInside};
 ghost use Rattle.pz_names.specs.Denotation.{AreMarked, known_at, value_at};
-ghost use Rattle.pz_names.specs.Cycles.{looked, is_on_cycle, LeadsTo, reaches_itself};
+ghost use Rattle.pz_names.specs.Cycles.{found_after, is_on_cycle, LeadsTo, reaches_itself};
 
 use crate::denotation::{add_mentions, entry, is_mentioned, no_marks};
 use crate::legend::Definition;
@@ -33,7 +33,7 @@ fn look(
     place: usize,
 ) -> Result<(), AllocError>
     requires { AreMarked marks.old found.old.items }
-    ensures found { OnOk result (found.new.items ≡ looked meanings.now place found.old.items) }
+    ensures found { OnOk result (found.new.items ≡ found_after meanings.now place found.old.items) }
     ensures marked { OnOk result (AreMarked marks.new found.new.items) }
 {
     let Some(next) = found.get(place).copied() else {

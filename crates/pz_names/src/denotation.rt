@@ -3,7 +3,7 @@
 ghost use Rattle.std.specs.Prelude.{Option, ◌≡◌, ◌<◌, ◌==◌, ◌||◌, not, ℕ, length, [], OnOk, IfOk, option_copied, option_map, is_some, None, Some, false, if◌then◌else◌};
 ghost use Rattle.std.specs.List.{list_all, list_any};
 ghost use Rattle.pz_names.specs.Meaning.{parts_of, StaysInside};
-ghost use Rattle.pz_names.specs.Denotation.{AreMarked, with_mention, with_mentions, gathered, known_at, IsBelow, denotation_of, denotation_next, value_at, settled, IsRound};
+ghost use Rattle.pz_names.specs.Denotation.{AreMarked, with_mention, with_mentions, gathered, known_at, IsBelow, denotation_of, denotation_next, value_at, known_after, IsRound};
 
 use crate::meaning::Meaning;
 use pz_base::listed::Listed;
@@ -189,7 +189,7 @@ fn settle(
     requires { number < length known.old }
     ensures each { IfOk result
         (λ _. (k : ℕ) → known_at known.new k ≡
-        (if k == number then settled (known_at known.old) number meaning.now else known_at known.old k)) }
+        (if k == number then known_after (known_at known.old) number meaning.now else known_at known.old k)) }
     ensures same { IfOk result (λ found. found ≡ false → (k : ℕ) → known_at known.new k ≡ known_at known.old k) }
 {
     if is_settled(number, meaning, known) {

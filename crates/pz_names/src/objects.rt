@@ -4,7 +4,7 @@ ghost use Rattle.std.specs.Prelude.{◌≡◌, ◌≢◌, ◌≤◌, ◌++◌, �
 ghost use Rattle.std.specs.List.{list_all};
 ghost use Rattle.pz_base.specs.Fault.{first_fault};
 ghost use Rattle.pz_base.specs.declared.fault.Code.TheVariants as code;
-ghost use Rattle.pz_names.specs.Objects.{object_names, is_blank, is_pixel, is_sprite_row, sprite_rows, is_wide, is_sprite, is_whole, behind_paragraph, paragraphs_within, paragraphs_of, name_line_of, has_repeat, paragraph_at, misnamed, misnames, objects_of, IsNamed};
+ghost use Rattle.pz_names.specs.Objects.{object_names, is_blank, is_pixel, is_sprite_row, sprite_rows, is_wide, is_sprite, is_whole, behind_paragraph, paragraphs_within, paragraphs_of, name_line_of, has_repeat, paragraph_at, paragraph_fault, fault_below, misnames, objects_of, IsNamed};
 
 use crate::name_line::NameLine;
 use pz_base::fault::{Code, SourceFault};
@@ -161,28 +161,21 @@ fn note_names(alloc: Global, above: &mut NameSet, names: &[Name]) -> Result<bool
     Ok(false)
 }
 
-/// What is wrong with a paragraph, if anything: `BadObject`, `Duplicate` or `TooLarge`. `count` paragraphs stand above it, with the names
-/// in `above`. If nothing is wrong, its names are added. Rule `checks.objects`.
-fn misnamed(
-    alloc: Global,
-    above: &mut NameSet,
-    count: usize,
-    paragraph: &Paragraph,
-) -> Result<Option<Code>, AllocError>
-    ensures code { IfOk result (λ r. r ≡ misnamed above.old count paragraph.now) }
-    ensures noted { IfOk result (λ r. (r ≡ None) → above.new ≡ above.old ++ paragraph.now.line.names) }
-    ensures other { IfOk result (λ r. IfSome r (λ c. c ≢ code.Memory)) }
+/// What is wrong with a paragraph, if anything: `BadObject`, `Duplicate` or `TooLarge`. `count` paragraphs stand above it. `repeats`: one of
+/// its names is there already. With its own there are `total` names. Rule `checks.objects`.
+fn paragraph_fault(paragraph: &Paragraph, repeats: bool, count: usize, total: usize) -> Option<Code>
+    ensures { result ≡ paragraph_fault paragraph.now repeats count total }
 {
     if !paragraph.is_whole {
-        return Ok(Some(Code::BadObject));
+        return Some(Code::BadObject);
     }
-    if note_names(alloc, above, paragraph.line.names.items())? {
-        return Ok(Some(Code::Duplicate));
+    if repeats {
+        return Some(Code::Duplicate);
     }
-    if count >= MOST_OBJECTS || above.len() > MOST_NAMES {
-        return Ok(Some(Code::TooLarge));
+    if count >= MOST_OBJECTS || total > MOST_NAMES {
+        return Some(Code::TooLarge);
     }
-    Ok(None)
+    None
 }
 
 /// Adds the names of a paragraph with `count` others above it, or gives its fault.
@@ -193,13 +186,14 @@ fn note_paragraph(
     paragraph: &Paragraph,
 ) -> Result<(), SourceFault>
     ensures refused { IfErr result
-        (λ fault. fault.code ≢ code.Memory → misnamed above.old count paragraph.now ≡ Some fault.code) }
+        (λ fault. fault.code ≢ code.Memory → fault_below above.old count paragraph.now ≡ Some fault.code) }
     ensures there { IfErr result (λ fault. fault.code ≢ code.Memory → fault.line ≡ paragraph_at paragraph.now) }
     ensures whole { IfErr result (λ fault. fault.code ≡ code.Memory → fault.line ≡ 0) }
-    ensures sound { OnOk result (misnamed above.old count paragraph.now ≡ None) }
+    ensures sound { OnOk result (fault_below above.old count paragraph.now ≡ None) }
     ensures noted { OnOk result (above.new ≡ above.old ++ paragraph.now.line.names) }
 {
-    if let Some(code) = misnamed(alloc, above, count, paragraph)? {
+    let repeats = note_names(alloc, above, paragraph.line.names.items())?;
+    if let Some(code) = paragraph_fault(paragraph, repeats, count, above.len()) {
         return Err(SourceFault {
             code,
             line: paragraph.line.number,

@@ -3,7 +3,7 @@ use Rattle.std.specs.Prelude.{Some, None}
 use Rattle.std.proofs.lemmas.List.{map-append, append-nil, take_all, drop_all}
 use Rattle.std.proofs.lemmas.Result.{err_from_is_err_and}
 use Rattle.pz_names.proofs.LegendLemmas.{definitions_of-more, misnames-there}
-use Rattle.pz_names.specs.Legend.{line_number, misnames, definitions_of, defined}
+use Rattle.pz_names.specs.Legend.{line_number, misnames, definitions_of, defined_names}
 use Rattle.pz_base.specs.Fault.{first_fault}
 use Rattle.pz_base.proofs.FaultLemmas.{first_fault-hit, first_fault-pass}
 use Rattle.pz_names.specs.declared.legend.Definition.{Definition}
@@ -23,7 +23,7 @@ loop-line-preserved c =
     let more = definitions_of (x ∷ []) in
     let name = λ (d : Definition). d.name in
     let before = c.loop-line.invariant in
-    let named : names ≡ there ++ defined (take i xs) = before.noted ∙ ap (λ ds. there ++ map name ds) before.read in
+    let named : names ≡ there ++ defined_names (take i xs) = before.noted ∙ ap (λ ds. there ++ map name ds) before.read in
     let passed : misnames there (take i xs) x ≡ None = misnames-there there names (take i xs) x named ∙ c.in_ok-define.ensures.sound in
     let pushed : c.define.new.definitions.items ≡ items ++ more = c.in_ok-define.ensures.definitions in
     record {
@@ -40,7 +40,7 @@ returns-in_err-define-clause-refused c =
     let there = c.args.names.now in
     let names = c.loop-line.names in
     let before = c.loop-line.invariant in
-    let named : names ≡ there ++ defined (take i xs) = before.noted ∙ ap (λ ds. there ++ map (λ (d : Definition). d.name) ds) before.read in
+    let named : names ≡ there ++ defined_names (take i xs) = before.noted ∙ ap (λ ds. there ++ map (λ (d : Definition). d.name) ds) before.read in
     let fault = c.in_err-define.field-0.0 in
     let p = err_from_is_err_and c.from_residual.result c.from_residual.ensures.1 in
     rw (p.1, p.2) (λ other.
