@@ -24,7 +24,7 @@ pub use Rattle.pz_sets.specs.Sets.{IsWithin, member}
 pub use Rattle.pz_sheet.proofs.CountLemmas.{count_fewer, count_more, count_no, count_within, count_yes, sum_more}
 pub use Rattle.pz_sheet.proofs.RunLemmas.{action_leads_nowhere, enumerate_all, enumerate_fails, enumerate_more, numbered_at}
 pub use Rattle.pz_sheet.specs.Grid.{Grid, IsLawful, LevelState, SameSize, cell_at, place_at, with_place}
-pub use Rattle.pz_sheet.specs.Line.{column_of, row_of, x_at, y_at}
+pub use Rattle.pz_sheet.specs.Line.{column_of, dir_of, row_of, x_at, y_at}
 pub use Rattle.pz_sheet.specs.Movement.{AreColumnsStill, AreStill, IsStillAt, carried, stilled}
 pub use Rattle.pz_sheet.specs.Presence.{cell_of, in_column, in_line, in_row, is_in, stands_in_line}
 pub use Rattle.pz_sheet.specs.Runs.{holds_along, run_holds}

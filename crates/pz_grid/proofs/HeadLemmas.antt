@@ -21,7 +21,7 @@ head_from_row grid row dir place h = by_gap row.gap_at refl where
       grind (arith, e, length-take at row.cells, get_or-take at row.cells k [], leb-true at k, holds_each_cell grid row dir place k))
 
 -- where the cells before a gap hold and so does the one behind it, what is left is the rest
-pub begun_with_gap : (grid : Grid) (row : RuleRow) (dir : Dir) (place : Place) (at : ℕ) (behind : List Item) → IsRow row → row.gap_at ≡ Some at → behind ≡ get_or row.cells at behind → run_holds grid dir place.x place.y (head_of row) ≡ true → holds_behind grid dir place.x place.y behind at place.gap ≡ true
+pub begun_with_gap : (grid : Grid) (row : RuleRow) (dir : Dir) (place : Place) (at : ℕ) (behind : List Item) → IsRow row → row.gap_at ≡ Some at → behind ≡ get_or row.cells at behind → run_holds grid dir place.x place.y (head_of row) ≡ true → holds_behind grid dir behind at place ≡ true
     → list_all (cell_holds grid row dir place) (take (at + 1) (enumerate_from 0 row.cells)) ≡ true
 begun_with_gap grid row dir place at behind law has is head here =
     let within = (rw has at law.between).1 in

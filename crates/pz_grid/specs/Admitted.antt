@@ -10,15 +10,13 @@ use Rattle.pz_game.specs.Pattern.{RuleRow}
 use Rattle.pz_grid.specs.declared.placing.Place.{Place}
 use Rattle.pz_sheet.specs.Grid.{Grid, LevelState}
 use Rattle.pz_sheet.specs.declared.line.Line.{Line}
-use Rattle.pz_sheet.specs.Line.{row_of, column_of}
+use Rattle.pz_sheet.specs.Line.{axis_of}
 use Rattle.pz_game.specs.Items.{names}
 use Rattle.pz_grid.specs.Places.{line_count, line_length, row_holds}
 
 -- the line of this number, as it lies on the map: a column for up and down, else a row
 abbrev pub line_at : Dir → ℕ → Line
-line_at Up number = column_of number
-line_at Down number = column_of number
-line_at _ number = row_of number
+line_at dir number = record { axis = axis_of dir; number = number }
 
 -- the marks of a line: of a column for up and down, else of a row
 abbrev pub marks_of : LevelState → Dir → ℕ → List ℕ

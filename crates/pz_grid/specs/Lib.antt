@@ -4,7 +4,6 @@ pub mod Rewriting
 pub mod Marks
 pub mod Staying
 pub mod Admitted
-pub mod Starting
 pub use Rattle.pz_bare.specs.Loading
 pub use Rattle.pz_game.specs.Pattern
 pub use Rattle.pz_program.specs.Instance

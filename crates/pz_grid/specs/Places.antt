@@ -4,7 +4,6 @@
 use Rattle.std.specs.Prelude.{ℕ, ◌+◌, List, [], ◌∷◌, take, map, filter, length, Bool, Option, Some, None, Result, Ok, Err, nat_lt, nat_le, nat_eq, ◌&&◌, ◌||◌, if◌then◌else◌, is_some}
 use Rattle.std.specs.List.{list_all, enumerate_from, flat_map, range_with_len, zip}
 use Rattle.pz_game.specs.declared.direction.Dir.{Dir}
-use Rattle.pz_game.specs.declared.direction.Dir.TheVariants.{Up, Down}
 use Rattle.pz_program.specs.declared.instance.Instance.{Instance}
 use Rattle.pz_game.specs.declared.pattern.Item.{Item}
 use Rattle.pz_game.specs.Pattern.{RuleRow}
@@ -13,6 +12,8 @@ use Rattle.pz_grid.specs.declared.placing.GridFault.TheVariants.{MatchLimit}
 use Rattle.pz_grid.specs.declared.placing.Place.{Place}
 use Rattle.pz_grid.specs.declared.placing.TheConstants.{MATCH_LIMIT}
 use Rattle.pz_sheet.specs.Grid.{Grid}
+use Rattle.pz_sheet.specs.Line as lines
+use Rattle.pz_sheet.specs.Line.{axis_of, x_at, y_at}
 use Rattle.pz_sheet.specs.Runs.{run_holds}
 pub use Rattle.pz_sheet.specs.Runs.{on_map, along, holds_at}
 
@@ -39,19 +40,13 @@ row_of_one cell = record { cells = cell ∷ []; gap_at = None }
 
 -- how many lines are scanned: columns for up and down, else rows
 abbrev pub line_count : Grid → Dir → ℕ
-line_count grid Up = grid.width
-line_count grid Down = grid.width
-line_count grid _ = grid.height
+line_count grid dir = lines.line_count grid (axis_of dir)
 
 abbrev pub line_length : Grid → Dir → ℕ
-line_length grid Up = grid.height
-line_length grid Down = grid.height
-line_length grid _ = grid.width
+line_length grid dir = lines.line_length grid (axis_of dir)
 
 abbrev pub place_in : Dir → ℕ → ℕ → ℕ → Place
-place_in Up line start gap = record { x = line; y = start; gap = gap }
-place_in Down line start gap = record { x = line; y = start; gap = gap }
-place_in _ line start gap = record { x = start; y = line; gap = gap }
+place_in dir line start gap = record { x = x_at (axis_of dir) line start; y = y_at (axis_of dir) line start; gap = gap }
 
 -- the cells of a row before its gap, or all
 abbrev pub cells_before : Option ℕ → List (List Item) → List (List Item)
@@ -63,13 +58,11 @@ head_of row = cells_before row.gap_at row.cells
 
 -- these cells of a row hold one after another, from a start in a line on
 abbrev pub starts_with : Grid → Dir → ℕ → List (List Item) → ℕ → Bool
-starts_with grid Up line head start = run_holds grid Up line start head
-starts_with grid Down line head start = run_holds grid Down line start head
-starts_with grid dir line head start = run_holds grid dir start line head
+starts_with grid dir line head start = run_holds grid dir (x_at (axis_of dir) line start) (y_at (axis_of dir) line start) head
 
--- the row's first cell behind its gap holds if the gap spans this many cells
-abbrev pub holds_behind : Grid → Dir → ℕ → ℕ → List Item → ℕ → ℕ → Bool
-holds_behind grid dir x y behind at gap = holds_at grid behind (along grid dir x y (at + gap))
+-- the row's first cell behind its gap, the one of the number `at`, holds
+abbrev pub holds_behind : Grid → Dir → List Item → ℕ → Place → Bool
+holds_behind grid dir behind at place = holds_at grid behind (along grid dir place.x place.y (at + place.gap))
 
 -- how many gaps are tried: a greater one leads off the map
 abbrev pub gap_count : Grid → RuleRow → Dir → ℕ

@@ -1,13 +1,12 @@
 //! The lines in which a row of a rule may start, as far as marks and headings show. The search skips the others.
 
-ghost use Rattle.std.specs.Prelude.{◌≡◌, ◌<◌, true, false, []};
+ghost use Rattle.std.specs.Prelude.{◌≡◌, ◌<◌, IfSome, MatchOption, true, false, []};
 ghost use Rattle.std.specs.List.{list_all};
 ghost use Rattle.pz_game.specs.Pattern.{IsRowOf};
-ghost use Rattle.pz_grid.specs.Admitted.{line_at, marks_of, marks_item, marks_cell, admits, admits_line, searches_level, searches_line, StartsNowhere};
+ghost use Rattle.pz_grid.specs.Admitted.{marks_of, marks_item, marks_cell, admits, admits_line, searches_level, searches_line, StartsNowhere};
 ghost use Rattle.pz_grid.specs.Marks.{IsMarked};
 ghost use Rattle.pz_grid.specs.Places.{line_count, places};
-ghost use Rattle.pz_sheet.specs.Grid.{Grid};
-ghost use Rattle.pz_sheet.specs.Line.{line_count as lines_along};
+ghost use Rattle.pz_sheet.specs.Line.{IsWalk};
 ghost use Rattle.pz_game.specs.declared.direction.Dir.{Dir};
 
 use crate::Level;
@@ -18,7 +17,7 @@ use pz_game::pattern::{Item, Pattern, Row};
 use pz_sets::set::NumberSet;
 use pz_sets::words::has_subset;
 use pz_sheet::Sheet;
-use pz_sheet::line::{Line, column, row};
+use pz_sheet::line::{Axis, Walk, axis_of, walk_in};
 
 /// Whether a set has an item's object, if the item names it as present.
 fn marks_item(marks: &NumberSet, item: Item) -> bool
@@ -52,9 +51,9 @@ impl Level {
         requires { line < line_count self.now.grid dir }
         ensures { result.now ≡ marks_of self.now dir line }
     {
-        match dir {
-            Dir::Up | Dir::Down => &self.column_marks[line as usize],
-            Dir::Left | Dir::Right | Dir::Action => &self.row_marks[line as usize],
+        match axis_of(dir) {
+            Axis::Horizontal => &self.row_marks[line as usize],
+            Axis::Vertical => &self.column_marks[line as usize],
         }
     }
 
@@ -105,40 +104,40 @@ impl Level {
         self.marks_all(self.marks_of(dir, line), row)
     }
 
-    /// Whether the line's marks and headings allow a place of the row to start there. If false, none does.
-    pub(crate) fn may_start(&self, row: &Row, dir: Dir, line: u32) -> bool
+    /// The walk along a line, if the line's marks and headings allow a place of the row to start there. `None`: none does.
+    pub(crate) fn walk_for(&self, row: &Row, dir: Dir, line: u32) -> Option<Walk>
         requires of_game { IsRowOf self.now.grid.layers row.now }
         requires line_in { line < line_count self.now.grid dir }
-        ensures searched { result ≡ true → searches_line self.now row.now dir line ≡ true }
-        ensures none { result ≡ false → StartsNowhere self.now.grid row.now dir line }
+        ensures searched { IfSome result (λ _. searches_line self.now row.now dir line ≡ true) }
+        ensures walk { MatchOption result (StartsNowhere self.now.grid row.now dir line) (IsWalk dir line) }
     {
         if !self.searches_line(row, dir, line) {
-            return false;
+            return None;
         }
         match self.bare().sheet() {
-            AnySheet::Small(sheet) => may_head(sheet, row, dir, line),
-            AnySheet::Middle(sheet) => may_head(sheet, row, dir, line),
-            AnySheet::Large(sheet) => may_head(sheet, row, dir, line),
+            AnySheet::Small(sheet) => walk_by_headings(sheet, row, dir, line),
+            AnySheet::Middle(sheet) => walk_by_headings(sheet, row, dir, line),
+            AnySheet::Large(sheet) => walk_by_headings(sheet, row, dir, line),
         }
     }
 }
 
-/// The line of this number, as it lies on the map: a column for up and down, else a row.
-fn line_at(dir: Dir, number: u32) -> Line
-    ensures line { result ≡ line_at dir number }
-    ensures count { (grid : Grid) → lines_along grid result.axis ≡ line_count grid dir }
-{
-    match dir {
-        Dir::Up | Dir::Down => column(number),
-        Dir::Left | Dir::Right | Dir::Action => row(number),
-    }
-}
-
-/// Whether the headings noted in a line allow a place of the row to start there. If false, none does.
-fn may_head<const N: usize>(sheet: &Sheet<N>, row: &Row, dir: Dir, line: u32) -> bool
+/// The walk along a line, if the headings noted there allow a place of the row to start there. `None`: none does.
+#[tactic(auto, using(crate::proofs::SomewhereLemmas::action_nowhere, crate::proofs::SomewhereLemmas::nowhere_along))]
+fn walk_by_headings<const N: usize>(
+    sheet: &Sheet<N>,
+    row: &Row,
+    dir: Dir,
+    line: u32,
+) -> Option<Walk>
     requires of_game { IsRowOf sheet.now.grid.layers row.now }
     requires line_in { line < line_count sheet.now.grid dir }
-    ensures none { result ≡ false → StartsNowhere sheet.now.grid row.now dir line }
+    ensures { MatchOption result (StartsNowhere sheet.now.grid row.now dir line) (IsWalk dir line) }
 {
-    sheet.may_hold_in_line(line_at(dir, line), row)
+    // (brings the proof that a row has a cell)
+    let _ = row.cells();
+    match walk_in(dir, line) {
+        Some(walk) if sheet.may_hold_in_line(walk.line, row) => Some(walk),
+        _ => None,
+    }
 }

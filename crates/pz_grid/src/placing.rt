@@ -5,10 +5,10 @@ ghost use Rattle.std.specs.Prelude.{◌≡◌, ◌≢◌, take, true, ◌+◌, �
 ghost use Rattle.pz_game.specs.declared.limits.TheConstants.{MOST_SIDE};
 ghost use Rattle.pz_game.specs.Pattern.{AreOf, IsRowOf, AreRowsOf};
 ghost use Rattle.pz_grid.specs.Admitted.{admitted, searches_line, starts_in, start_count};
-ghost use Rattle.pz_grid.specs.Places.{on_map, along, position_of, distance, cell_holds, row_holds, line_count, line_length, place_in, holds_behind, pairs_at, head_of, pairs_in, places, searched, starts_with, still_holds, still_matches};
-ghost use Rattle.pz_grid.specs.Starting.{StartsNowhere, IsSearchFor};
+ghost use Rattle.pz_grid.specs.Places.{position_of, distance, cell_holds, row_holds, line_count, line_length, place_in, holds_behind, pairs_at, head_of, pairs_in, places, searched, starts_with, still_holds, still_matches};
 ghost use Rattle.pz_sets.specs.Next.{IsNext};
-ghost use Rattle.pz_sheet.specs.Grid.{IsOnMap, IsLawful};
+ghost use Rattle.pz_sheet.specs.Grid.{IsLawful};
+ghost use Rattle.pz_sheet.specs.Line.{IsOnLine, dir_of, line_count as lines_along};
 
 use crate::Level;
 use pz_bare::AnySheet;
@@ -16,7 +16,7 @@ use pz_game::direction::Dir;
 use pz_game::pattern::{Pattern, Row};
 use pz_program::instance::Instance;
 use pz_sheet::Sheet;
-use pz_sheet::line::{self, Axis, Way};
+use pz_sheet::line::{Axis, Walk, Way, axis_of};
 use pz_sheet::runs::RunSearch;
 use std::alloc::Global;
 use std::marker::Model;
@@ -33,13 +33,6 @@ pub struct Place {
     pub x: u32,
     pub y: u32,
     pub gap: u32,
-}
-
-/// A line of the map that is searched in a direction: a column for up and down, else a row.
-#[derive(Clone, Copy)]
-struct Line {
-    dir: Dir,
-    number: u32,
 }
 
 /// The places that a search has found so far, at most `MATCH_LIMIT`.
@@ -68,41 +61,6 @@ pub enum GridFault {
 }
 
 impl Level {
-    fn on_map(&self, x: usize, y: usize) -> Option<(u32, u32)>
-        ensures position { result ≡ on_map self.now.grid x y }
-        ensures inside { IfSome result (λ at. IsOnMap self.now.grid at.0 at.1) }
-    {
-        if x < self.width() as usize && y < self.height() as usize {
-            Some((x as u32, y as u32))
-        } else {
-            None
-        }
-    }
-
-    fn along(&self, dir: Dir, x: u32, y: u32, steps: usize) -> Option<(u32, u32)>
-        requires near { steps < 2 ^ 33 }
-        ensures position { result ≡ along self.now.grid dir x y steps }
-        ensures inside { IfSome result (λ at. IsOnMap self.now.grid at.0 at.1) }
-    {
-        let x = x as usize;
-        let y = y as usize;
-        match dir {
-            Dir::Right => self.on_map(x + steps, y),
-            Dir::Left => if steps <= x {
-                self.on_map(x - steps, y)
-            } else {
-                None
-            },
-            Dir::Down => self.on_map(x, y + steps),
-            Dir::Up => if steps <= y {
-                self.on_map(x, y - steps)
-            } else {
-                None
-            },
-            Dir::Action => None,
-        }
-    }
-
     /// The position of the row's cell of this number, for a row that starts at the place. `None`: it is off the map. Cells are numbered
     /// from 0. `gap_at` is how many cells the row has before its gap.
     pub fn position_of(
@@ -116,7 +74,12 @@ impl Level {
         ensures position { result ≡ position_of self.now.grid dir gap_at place index }
         ensures inside { IfSome result (λ at. (at.0 < self.now.grid.width) × (at.1 < self.now.grid.height)) }
     {
-        self.along(dir, place.x, place.y, distance(gap_at, place.gap, index))
+        let steps = distance(gap_at, place.gap, index);
+        match self.bare().sheet() {
+            AnySheet::Small(sheet) => sheet.along(dir, place.x, place.y, steps),
+            AnySheet::Middle(sheet) => sheet.along(dir, place.x, place.y, steps),
+            AnySheet::Large(sheet) => sheet.along(dir, place.x, place.y, steps),
+        }
     }
 }
 
@@ -166,31 +129,28 @@ fn holds_in<const N: usize>(sheet: &Sheet<N>, row: &Row, dir: Dir, place: Place)
     }
 }
 
-fn line_length<const N: usize>(sheet: &Sheet<N>, dir: Dir) -> u32
-    ensures value { result ≡ line_length sheet.now.grid dir }
-    ensures small { result ≤ MOST_SIDE }
+/// The direction of a walk.
+fn dir_of(walk: Walk) -> Dir
+    ensures { result ≡ dir_of walk }
 {
-    match dir {
-        Dir::Up | Dir::Down => sheet.height(),
-        Dir::Left | Dir::Right | Dir::Action => sheet.width(),
+    match (walk.line.axis, walk.way) {
+        (Axis::Horizontal, Way::Ahead) => Dir::Right,
+        (Axis::Horizontal, Way::Back) => Dir::Left,
+        (Axis::Vertical, Way::Ahead) => Dir::Down,
+        (Axis::Vertical, Way::Back) => Dir::Up,
     }
 }
 
-fn place_in(line: Line, start: u32, gap: u32) -> Place
-    ensures { result ≡ place_in line.dir line.number start gap }
+#[tactic(auto, using(crate::proofs::StartLemmas::axis_back))]
+fn place_in(walk: Walk, start: u32, gap: u32) -> Place
+    ensures { result ≡ place_in (dir_of walk) walk.line.number start gap }
 {
-    match line.dir {
-        Dir::Up | Dir::Down => Place {
-            x: line.number,
-            y: start,
-            gap,
-        },
-        Dir::Left | Dir::Right | Dir::Action => Place {
-            x: start,
-            y: line.number,
-            gap,
-        },
-    }
+    let number = walk.line.number;
+    let (x, y) = match walk.line.axis {
+        Axis::Horizontal => (start, number),
+        Axis::Vertical => (number, start),
+    };
+    Place { x, y, gap }
 }
 
 /// The cells of a row before its gap, or all its cells if it has none.
@@ -205,27 +165,13 @@ fn head_of(row: &Row) -> &[Pattern]
     }
 }
 
-/// The search of a line for the starts of a row: those from which its cells before its gap hold one after another. `None`: there are none,
-/// since the action leads nowhere.
-fn search_in<'a, const N: usize>(
-    sheet: &'a Sheet<N>,
-    row: &'a Row,
-    line: Line,
-) -> Option<RunSearch<'a, N>>
+/// The search of a line for the starts of a row: those from which its cells before its gap hold one after another.
+fn search_in<'a, const N: usize>(sheet: &'a Sheet<N>, row: &'a Row, walk: Walk) -> RunSearch<'a, N>
     requires of_game { IsRowOf sheet.now.grid.layers row.now }
-    requires line_in { line.number < line_count sheet.now.grid line.dir }
-    ensures { MatchOption result (StartsNowhere sheet.now.grid row.now line.dir line.number)
-        (IsSearchFor sheet.now.grid row.now line.dir line.number) }
+    requires line_in { walk.line.number < lines_along sheet.now.grid walk.line.axis }
+    ensures { result ≡ record { grid = sheet.now.grid; walk = walk; patterns = head_of row.now } }
 {
-    let head = head_of(row);
-    let number = line.number;
-    match line.dir {
-        Dir::Right => Some(RunSearch::new(sheet, line::row(number), Way::Ahead, head)),
-        Dir::Left => Some(RunSearch::new(sheet, line::row(number), Way::Back, head)),
-        Dir::Down => Some(RunSearch::new(sheet, line::column(number), Way::Ahead, head)),
-        Dir::Up => Some(RunSearch::new(sheet, line::column(number), Way::Back, head)),
-        Dir::Action => None,
-    }
+    RunSearch::new(sheet, walk, head_of(row))
 }
 
 impl Found {
@@ -279,58 +225,41 @@ fn add_place<const N: usize>(
     }
 }
 
-/// The first gap, not smaller than that of the place `from`, for which the row's first cell behind its gap holds. That cell has the number
-/// `at`.
+/// The first gap, from `from` on, for which the row's first cell behind its gap holds where the row starts in a cell. That cell has the
+/// number `at`.
+#[tactic(auto, using(crate::proofs::StartLemmas::axis_back))]
 fn next_gap<const N: usize>(
     sheet: &Sheet<N>,
-    dir: Dir,
-    from: Place,
+    walk: Walk,
+    start: u32,
+    from: u32,
     at: u32,
     behind: &Pattern,
 ) -> Option<u32>
-    requires on_map { IsOnMap sheet.now.grid from.x from.y }
+    requires on_line { IsOnLine sheet.now.grid walk.line start }
     requires of_game { AreOf sheet.now.grid.layers behind.now }
-    ensures next { IsNext (holds_behind sheet.now.grid dir from.x from.y behind.now at) from.gap
-        (line_length sheet.now.grid dir) result }
+    ensures next { IsNext (λ gap.
+        holds_behind sheet.now.grid (dir_of walk) behind.now at
+        (place_in (dir_of walk) walk.line.number start gap)) from (line_length sheet.now.grid (dir_of walk)) result }
     ensures short { IfSome result (λ gap. gap < MOST_SIDE) }
 {
-    let steps = at as usize + from.gap as usize;
-    if steps >= line_length(sheet, dir) as usize {
+    let steps = at as usize + from as usize;
+    if steps >= sheet.line_length(walk.line.axis) as usize {
         return None;
     }
     let ahead = steps as u32;
-    let along_row = line::Line {
-        axis: Axis::Horizontal,
-        number: from.y,
-    };
-    let along_column = line::Line {
-        axis: Axis::Vertical,
-        number: from.x,
-    };
-    match dir {
-        Dir::Right => match sheet.next_in_line(along_row, from.x + ahead, behind) {
-            Some(x) => Some(x - from.x - at),
+    match walk.way {
+        Way::Ahead => match sheet.next_in_line(walk.line, start + ahead, behind) {
+            Some(there) => Some(there - start - at),
             None => None,
         },
-        Dir::Left => {
-            let end = (from.x + 1).saturating_sub(ahead);
-            match sheet.last_in_line(along_row, end, behind) {
-                Some(x) => Some(from.x - at - x),
+        Way::Back => {
+            let end = (start + 1).saturating_sub(ahead);
+            match sheet.last_in_line(walk.line, end, behind) {
+                Some(there) => Some(start - at - there),
                 None => None,
             }
         }
-        Dir::Down => match sheet.next_in_line(along_column, from.y + ahead, behind) {
-            Some(y) => Some(y - from.y - at),
-            None => None,
-        },
-        Dir::Up => {
-            let end = (from.y + 1).saturating_sub(ahead);
-            match sheet.last_in_line(along_column, end, behind) {
-                Some(y) => Some(from.y - at - y),
-                None => None,
-            }
-        }
-        Dir::Action => None,
     }
 }
 
@@ -339,34 +268,27 @@ fn next_gap<const N: usize>(
 fn add_places_with_gaps<const N: usize>(
     sheet: &Sheet<N>,
     row: &Row,
-    line: Line,
+    walk: Walk,
     start: u32,
     at: u32,
     found: &mut Found,
 ) -> Result<(), GridFault>
     requires of_game { IsRowOf sheet.now.grid.layers row.now }
-    requires line_in { line.number < line_count sheet.now.grid line.dir }
-    requires start_in { start < line_length sheet.now.grid line.dir }
+    requires on_line { IsOnLine sheet.now.grid walk.line start }
     requires gap_at { row.now.gap_at ≡ Some at }
-    requires starts { starts_with sheet.now.grid line.dir line.number (head_of row.now) start ≡ true }
+    requires starts { starts_with sheet.now.grid (dir_of walk) walk.line.number (head_of row.now) start ≡ true }
     ensures added { OnOk result
-        (found.new ≡ found.old ++ filter (row_holds sheet.now.grid row.now line.dir)
-        (pairs_at sheet.now.grid row.now line.dir line.number start)) }
+        (found.new ≡ found.old ++ filter (row_holds sheet.now.grid row.now (dir_of walk))
+        (pairs_at sheet.now.grid row.now (dir_of walk) walk.line.number start)) }
     ensures limit { result ≡ Err GridFault.MatchLimit →
-        MATCH_LIMIT < length (found.old ++ filter (row_holds sheet.now.grid row.now line.dir)
-        (pairs_at sheet.now.grid row.now line.dir line.number start)) }
+        MATCH_LIMIT < length (found.old ++ filter (row_holds sheet.now.grid row.now (dir_of walk))
+        (pairs_at sheet.now.grid row.now (dir_of walk) walk.line.number start)) }
 {
     let behind = &row.cells()[at as usize];
     let mut from = 0;
-    'gaps: while let Some(gap) = next_gap(
-        sheet,
-        line.dir,
-        place_in(line, start, from),
-        at,
-        behind,
-    ) {
-        let place = place_in(line, start, gap);
-        add_place(sheet, row, line.dir, place, at as usize + 1, found)?;
+    'gaps: while let Some(gap) = next_gap(sheet, walk, start, from, at, behind) {
+        let place = place_in(walk, start, gap);
+        add_place(sheet, row, dir_of(walk), place, at as usize + 1, found)?;
         from = gap + 1;
     }
     Ok(())
@@ -376,68 +298,64 @@ fn add_places_with_gaps<const N: usize>(
 fn add_places_at<const N: usize>(
     sheet: &Sheet<N>,
     row: &Row,
-    line: Line,
+    walk: Walk,
     start: u32,
     found: &mut Found,
 ) -> Result<(), GridFault>
     requires of_game { IsRowOf sheet.now.grid.layers row.now }
-    requires line_in { line.number < line_count sheet.now.grid line.dir }
-    requires start_in { start < line_length sheet.now.grid line.dir }
-    requires starts { starts_with sheet.now.grid line.dir line.number (head_of row.now) start ≡ true }
+    requires on_line { IsOnLine sheet.now.grid walk.line start }
+    requires starts { starts_with sheet.now.grid (dir_of walk) walk.line.number (head_of row.now) start ≡ true }
     ensures added { OnOk result
-        (found.new ≡ found.old ++ filter (row_holds sheet.now.grid row.now line.dir)
-        (pairs_at sheet.now.grid row.now line.dir line.number start)) }
+        (found.new ≡ found.old ++ filter (row_holds sheet.now.grid row.now (dir_of walk))
+        (pairs_at sheet.now.grid row.now (dir_of walk) walk.line.number start)) }
     ensures limit { result ≡ Err GridFault.MatchLimit →
-        MATCH_LIMIT < length (found.old ++ filter (row_holds sheet.now.grid row.now line.dir)
-        (pairs_at sheet.now.grid row.now line.dir line.number start)) }
+        MATCH_LIMIT < length (found.old ++ filter (row_holds sheet.now.grid row.now (dir_of walk))
+        (pairs_at sheet.now.grid row.now (dir_of walk) walk.line.number start)) }
 {
     match row.gap_at() {
-        None => found.add(place_in(line, start, 0)),
-        Some(at) => add_places_with_gaps(sheet, row, line, start, at, found),
+        None => found.add(place_in(walk, start, 0)),
+        Some(at) => add_places_with_gaps(sheet, row, walk, start, at, found),
     }
 }
 
 /// Adds the places that start in a line. Gaps are tried only where the row's cells before its gap hold.
+#[tactic(auto, using(crate::proofs::StartLemmas::axis_back, crate::proofs::StartLemmas::starts_alike))]
 fn add_places_in<const N: usize>(
     sheet: &Sheet<N>,
     row: &Row,
-    line: Line,
+    walk: Walk,
     found: &mut Found,
 ) -> Result<(), GridFault>
     requires of_game { IsRowOf sheet.now.grid.layers row.now }
-    requires line_in { line.number < line_count sheet.now.grid line.dir }
+    requires line_in { walk.line.number < lines_along sheet.now.grid walk.line.axis }
     ensures added { OnOk result
-        (found.new ≡ found.old ++ filter (row_holds sheet.now.grid row.now line.dir)
-        (pairs_in sheet.now.grid row.now line.dir line.number)) }
+        (found.new ≡ found.old ++ filter (row_holds sheet.now.grid row.now (dir_of walk))
+        (pairs_in sheet.now.grid row.now (dir_of walk) walk.line.number)) }
     ensures limit { result ≡ Err GridFault.MatchLimit →
-        MATCH_LIMIT < length (found.old ++ filter (row_holds sheet.now.grid row.now line.dir)
-        (pairs_in sheet.now.grid row.now line.dir line.number)) }
+        MATCH_LIMIT < length (found.old ++ filter (row_holds sheet.now.grid row.now (dir_of walk))
+        (pairs_in sheet.now.grid row.now (dir_of walk) walk.line.number)) }
 {
     // (brings the proof how short a line is)
-    let _ = line_length(sheet, line.dir);
-    let Some(search) = search_in(sheet, row, line) else {
-        return Ok(());
-    };
+    let _ = sheet.line_length(walk.line.axis);
+    let search = search_in(sheet, row, walk);
     let mut from = 0;
     'starts: while let Some(start) = search.next(from) {
-        add_places_at(sheet, row, line, start, found)?;
+        add_places_at(sheet, row, walk, start, found)?;
         from = start + 1;
     }
     Ok(())
 }
 
 /// In how many cells of a line the search tests whether a row starts there, if it doesn't skip the line.
-fn tested_for<const N: usize>(sheet: &Sheet<N>, row: &Row, line: Line) -> u32
+#[tactic(auto, using(crate::proofs::StartLemmas::axis_back))]
+fn tested_for<const N: usize>(sheet: &Sheet<N>, row: &Row, walk: Walk) -> u32
     requires of_game { IsRowOf sheet.now.grid.layers row.now }
-    requires line_in { line.number < line_count sheet.now.grid line.dir }
-    ensures low { starts_in line.dir (places sheet.now.grid row.now line.dir)
-        (line_length sheet.now.grid line.dir) line.number ≤ result }
-    ensures high { result ≤ line_length sheet.now.grid line.dir }
+    requires line_in { walk.line.number < lines_along sheet.now.grid walk.line.axis }
+    ensures low { starts_in (dir_of walk) (places sheet.now.grid row.now (dir_of walk))
+        (line_length sheet.now.grid (dir_of walk)) walk.line.number ≤ result }
+    ensures high { result ≤ line_length sheet.now.grid (dir_of walk) }
 {
-    match search_in(sheet, row, line) {
-        Some(search) => search.tested(),
-        None => 0,
-    }
+    search_in(sheet, row, walk).tested()
 }
 
 impl Level {
@@ -445,9 +363,9 @@ impl Level {
         ensures value { result ≡ line_count self.now.grid dir }
         ensures lawful { IsLawful self.now.grid }
     {
-        match dir {
-            Dir::Up | Dir::Down => self.width(),
-            Dir::Left | Dir::Right | Dir::Action => self.height(),
+        match axis_of(dir) {
+            Axis::Horizontal => self.height(),
+            Axis::Vertical => self.width(),
         }
     }
 
@@ -468,14 +386,13 @@ impl Level {
             MATCH_LIMIT < length (found.old ++ filter (row_holds self.now.grid row.now dir)
             (pairs_in self.now.grid row.now dir line)) }
     {
-        if !self.may_start(row, dir, line) {
+        let Some(walk) = self.walk_for(row, dir, line) else {
             return Ok(());
-        }
-        let line = Line { dir, number: line };
+        };
         match self.bare().sheet() {
-            AnySheet::Small(sheet) => add_places_in(sheet, row, line, found),
-            AnySheet::Middle(sheet) => add_places_in(sheet, row, line, found),
-            AnySheet::Large(sheet) => add_places_in(sheet, row, line, found),
+            AnySheet::Small(sheet) => add_places_in(sheet, row, walk, found),
+            AnySheet::Middle(sheet) => add_places_in(sheet, row, walk, found),
+            AnySheet::Large(sheet) => add_places_in(sheet, row, walk, found),
         }
     }
 
@@ -487,14 +404,13 @@ impl Level {
         ensures high { result ≤ cond (searches_line self.now row.now dir line) (line_length self.now.grid dir) 0 }
         ensures short { result ≤ line_length self.now.grid dir }
     {
-        if !self.may_start(row, dir, line) {
+        let Some(walk) = self.walk_for(row, dir, line) else {
             return 0;
-        }
-        let line = Line { dir, number: line };
+        };
         match self.bare().sheet() {
-            AnySheet::Small(sheet) => tested_for(sheet, row, line),
-            AnySheet::Middle(sheet) => tested_for(sheet, row, line),
-            AnySheet::Large(sheet) => tested_for(sheet, row, line),
+            AnySheet::Small(sheet) => tested_for(sheet, row, walk),
+            AnySheet::Middle(sheet) => tested_for(sheet, row, walk),
+            AnySheet::Large(sheet) => tested_for(sheet, row, walk),
         }
     }
 

@@ -46,7 +46,7 @@ pub use Rattle.pz_sets.specs.Next.{IsNext}
 pub use Rattle.pz_sheet.specs.Changes.{CellChange, IsChangeOf, cell_there, changed_cells, changed_from, changes_seen, differ_in, restored, with_cell}
 pub use Rattle.pz_sheet.specs.Grid.{BareState, Grid, IsLawful, SameSize, cell_at, layers_in, place_at, with_place}
 pub use Rattle.pz_sheet.specs.Holding.{IsSetFor}
-pub use Rattle.pz_sheet.specs.Line.{dir_of, holds_in, line_count, line_length, runs_in, x_at, y_at}
+pub use Rattle.pz_sheet.specs.Line.{dir_along, dir_of, holds_in, line_count, line_length, runs_in, x_at, y_at}
 pub use Rattle.pz_sheet.specs.Noting.{AreAllThere, ArePlaced, EndWithin}
 pub use Rattle.pz_sheet.specs.Presence.{AreMissing, cell_of, holds_both, holds_if, in_line, is_in, stands_in_line}
 pub use Rattle.pz_sheet.specs.Pushing.{is_one_of, pushed_at, pushed_place}
@@ -54,4 +54,5 @@ pub use Rattle.pz_sheet.specs.Runs.{holds_along, holds_at, on_map, run_holds}
 pub use Rattle.pz_sheet.specs.Searching.{HoldsInLine, HoldsSomewhere, run_holds_from}
 pub use Rattle.pz_sheet.specs.Seen.{AreNoted, HeadsWithin, IsNoted, IsStored, grid_of}
 pub use Rattle.pz_sheet.specs.declared.line.Line.{Line}
+pub use Rattle.pz_sheet.specs.declared.line.Walk.{Walk}
 pub use Rattle.pz_sheet.specs.declared.changes.Change.{Change}

@@ -1,6 +1,6 @@
 -- What is noted in a line is what stands there. So where rules' cells hold one after another, the objects that they name as present are
 -- noted, and those that they name as absent are not.
-use Rattle.pz_sheet.proofs.Common.{common_steps, ◌≡◌, inl, inr, ℕ, ◌+◌, ◌*◌, ◌<◌, ◌≤◌, List, [], Option, Bool, true, false, length, get_or, arith, ap, sym, ◌∙◌, ◌↔◌, All, list_all, list_any, enumerate_from, range_with_len, cases_lt, false≢true, true_from_ne_false, get_or-map, get_or_default, list_any_none, list_any_at, length-range_with_len, get_or-range_with_len, member, Cell, Item, Piece, Layering, no_cell, member_seen, Axis, Horizontal, Vertical, Way, step_to, room_from, AreMarks, HeadingSets, PlaneSets, IsMissingIn, MayHold, MayRun, stands_in, lines_of, Grid, Line, cell_at, x_at, y_at, dir_of, holds_in, holds_along, runs_in, line_length, line_count, ArePlaced, AreMissing, is_in, stands_in_line, grid_of, IsStored, seen}
+use Rattle.pz_sheet.proofs.Common.{common_steps, ◌≡◌, inl, inr, ℕ, ◌+◌, ◌*◌, ◌<◌, ◌≤◌, List, [], Option, Bool, true, false, length, get_or, arith, ap, sym, ◌∙◌, ◌↔◌, All, list_all, list_any, enumerate_from, range_with_len, cases_lt, false≢true, true_from_ne_false, get_or-map, get_or_default, list_any_none, list_any_at, length-range_with_len, get_or-range_with_len, member, Cell, Item, Piece, Layering, no_cell, member_seen, Axis, Horizontal, Vertical, Way, step_to, room_from, AreMarks, HeadingSets, PlaneSets, IsMissingIn, MayHold, MayRun, stands_in, lines_of, Grid, Line, Walk, cell_at, x_at, y_at, dir_of, holds_in, holds_along, runs_in, line_length, line_count, ArePlaced, AreMissing, is_in, stands_in_line, grid_of, IsStored, seen}
 use Rattle.std.proofs.lemmas.List.Sums.{AllPass-from_list_all}
 use Rattle.pz_game.specs.Items.{names}
 use Rattle.pz_cells.specs.Pattern.{item_holds}
@@ -37,9 +37,10 @@ Admits planes line pattern grid =
     line.number < line_count grid line.axis → (at : ℕ) → at < line_length grid line.axis → at < 128 → holds_in grid line pattern at ≡ true → MayHold (lines_of planes line.axis) line.number at pattern
 
 -- the same of rules' cells one after another
-abbrev pub AdmitsRun : PlaneSets → Line → Way → List (List Item) → Grid → Type 0
-AdmitsRun planes line way patterns grid =
-    line.number < line_count grid line.axis → line_length grid line.axis ≤ 128 → 0 < length patterns → (at : ℕ) → at < line_length grid line.axis → runs_in grid line way patterns at ≡ true → MayRun (lines_of planes line.axis) line.number way patterns at
+abbrev pub AdmitsRun : PlaneSets → Walk → List (List Item) → Grid → Type 0
+AdmitsRun planes walk patterns grid =
+    let line = walk.line in
+    line.number < line_count grid line.axis → line_length grid line.axis ≤ 128 → 0 < length patterns → (at : ℕ) → at < line_length grid line.axis → runs_in grid walk patterns at ≡ true → MayRun (lines_of planes line.axis) line.number walk.way patterns at
 
 module _ (N width height : ℕ) (layering : Layering) (cells : List (Cell N)) (notes : HeadingSets) (planes : PlaneSets) (s : IsStored N width height layering cells notes) (p : ArePlaced N (length layering.layers) width height planes cells) where
   abbrev grid : Grid
@@ -102,11 +103,13 @@ module _ (N width height : ℕ) (layering : Layering) (cells : List (Cell N)) (n
       let here = cell_at grid (x_at line.axis line.number at) (y_at line.axis line.number at) in
       noted_at line.axis line.number at (get_or pattern k other).object line_in at_in small ∙ item_says here (get_or pattern k other) (AllPass-from_list_all (item_holds here) pattern holds k other within)
 
-  pub admits_run : (line : Line) (way : Way) (patterns : List (List Item)) → AdmitsRun planes line way patterns grid
-  admits_run line way patterns line_in short some at at_in holds =
+  pub admits_run : (walk : Walk) (patterns : List (List Item)) → AdmitsRun planes walk patterns grid
+  admits_run walk patterns line_in short some at at_in holds =
+      let line = walk.line in
+      let way = walk.way in
       let long = line_length grid line.axis in
       let inside : length patterns ≤ room_from long way at = (elim (cases_lt (room_from long way at) (length patterns)) [
-        | inl past ↦ absurd (false≢true (sym (run_past grid line way at patterns some at_in past) ∙ holds))
+        | inl past ↦ absurd (false≢true (sym (run_past grid walk at patterns some at_in past) ∙ holds))
         | inr fits ↦ fits
       ]) in
       record {
@@ -116,5 +119,5 @@ module _ (N width height : ℕ) (layering : Layering) (cells : List (Cell N)) (n
             let there : step_to way at index < long = step_within long way at index at_in room in
             admits line (get_or patterns index other) line_in (step_to way at index) there (omega (arith, there, short))
             (sym (along_in grid line.axis line.number way (get_or patterns index other) at index line_in at_in room)
-            ∙ each_passes (holds_along grid (dir_of line.axis way) (x_at line.axis line.number at) (y_at line.axis line.number at)) patterns holds index other h);
+            ∙ each_passes (holds_along grid (dir_of walk) (x_at line.axis line.number at) (y_at line.axis line.number at)) patterns holds index other h);
       }

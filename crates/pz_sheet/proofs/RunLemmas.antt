@@ -1,5 +1,5 @@
 -- Rules' cells one after another in a direction, and along a row or a column.
-use Rattle.pz_sheet.proofs.Common.{common_steps, ◌≡◌, ◌⊎◌, ℕ, ◌+◌, ◌-◌, ◌<◌, ◌≤◌, List, [], ◌∷◌, Bool, true, false, ◌&&◌, length, get_or, take, arith, ap, sym, ◌∙◌, refl, list_all, enumerate_from, take_all, get_or_default, length-enumerate_from, get_or-enumerate_from, list_all_more, list_all_at, Dir, Item, Axis, Way, step_to, room_from, Line, Grid, line_length, line_count, x_at, y_at, holds_in, dir_of, runs_in, holds_along, run_holds}
+use Rattle.pz_sheet.proofs.Common.{common_steps, ◌≡◌, ◌⊎◌, ℕ, ◌+◌, ◌-◌, ◌<◌, ◌≤◌, List, [], ◌∷◌, Bool, true, false, ◌&&◌, length, get_or, take, arith, ap, sym, ◌∙◌, refl, list_all, enumerate_from, take_all, get_or_default, length-enumerate_from, get_or-enumerate_from, list_all_more, list_all_at, Dir, Item, Axis, Way, step_to, room_from, Grid, line_length, line_count, x_at, y_at, holds_in, dir_along, runs_in, Walk, holds_along, run_holds}
 use Rattle.pz_game.specs.declared.direction.Dir.TheVariants.{Action}
 
 -- ---- tests of a list with its numbers
@@ -25,20 +25,20 @@ enumerate_all p xs i h e = ap (list_all p) (sym (take_all i (enumerate_from 0 xs
 
 -- ---- a rule's cell some steps on along a line
 pub along_in : (grid : Grid) (axis : Axis) (number : ℕ) (way : Way) (pattern : List Item) (at k : ℕ) → number < line_count grid axis → at < line_length grid axis → k < room_from (line_length grid axis) way at
-    → holds_along grid (dir_of axis way) (x_at axis number at) (y_at axis number at) (k, pattern) ≡ holds_in grid (record { axis = axis; number = number }) pattern (step_to way at k)
+    → holds_along grid (dir_along axis way) (x_at axis number at) (y_at axis number at) (k, pattern) ≡ holds_in grid (record { axis = axis; number = number }) pattern (step_to way at k)
 along_in grid axis number way pattern at k line_in at_in room = grind (arith, common_steps)
 
 -- where there is no room for it
-past_end : (grid : Grid) (axis : Axis) (number : ℕ) (way : Way) (pattern : List Item) (at k : ℕ) → at < line_length grid axis → room_from (line_length grid axis) way at ≤ k → holds_along grid (dir_of axis way) (x_at axis number at) (y_at axis number at) (k, pattern) ≡ false
+past_end : (grid : Grid) (axis : Axis) (number : ℕ) (way : Way) (pattern : List Item) (at k : ℕ) → at < line_length grid axis → room_from (line_length grid axis) way at ≤ k → holds_along grid (dir_along axis way) (x_at axis number at) (y_at axis number at) (k, pattern) ≡ false
 past_end grid axis number way pattern at k at_in past = grind (arith, common_steps)
 
 -- a run for which there is no room
-pub run_past : (grid : Grid) (line : Line) (way : Way) (at : ℕ) (patterns : List (List Item)) → 0 < length patterns → at < line_length grid line.axis → room_from (line_length grid line.axis) way at < length patterns → runs_in grid line way patterns at ≡ false
-run_past grid line way at patterns some at_in past =
+pub run_past : (grid : Grid) (walk : Walk) (at : ℕ) (patterns : List (List Item)) → 0 < length patterns → at < line_length grid walk.line.axis → room_from (line_length grid walk.line.axis) walk.way at < length patterns → runs_in grid walk patterns at ≡ false
+run_past grid walk at patterns some at_in past =
     let last = length patterns - 1 in
     let within : last < length patterns = omega (arith, some) in
     let pattern = get_or patterns last [] in
-    enumerate_fails _ patterns last pattern within (get_or_default patterns last [] pattern within) (past_end grid line.axis line.number way pattern at last at_in (omega (arith, past)))
+    enumerate_fails _ patterns last pattern within (get_or_default patterns last [] pattern within) (past_end grid walk.line.axis walk.line.number walk.way pattern at last at_in (omega (arith, past)))
 
 -- a start off the map
 pub run_off : (grid : Grid) (dir : Dir) (x y : ℕ) (patterns : List (List Item)) → 0 < length patterns → (grid.width ≤ x) ⊎ (grid.height ≤ y) → run_holds grid dir x y patterns ≡ false

@@ -1,5 +1,5 @@
 -- The lines of a map: rows and columns, and their positions.
-use Rattle.std.specs.Prelude.{ℕ, ◌<◌, List, Bool}
+use Rattle.std.specs.Prelude.{◌≡◌, ℕ, ◌<◌, List, Bool}
 use Rattle.pz_game.specs.declared.direction.Dir.{Dir}
 use Rattle.pz_game.specs.declared.direction.Dir.TheVariants.{Up, Down, Left, Right}
 use Rattle.pz_game.specs.declared.pattern.Item.{Item}
@@ -9,6 +9,7 @@ use Rattle.pz_planes.specs.declared.line.Axis.TheVariants.{Horizontal, Vertical}
 use Rattle.pz_planes.specs.declared.line.Way.{Way}
 use Rattle.pz_planes.specs.declared.line.Way.TheVariants.{Ahead, Back}
 use Rattle.pz_sheet.specs.declared.line.Line.{Line}
+use Rattle.pz_sheet.specs.declared.line.Walk.{Walk}
 use Rattle.pz_sheet.specs.Grid.{Grid, cell_at}
 use Rattle.pz_sheet.specs.Runs.{run_holds}
 
@@ -46,13 +47,26 @@ y_at Vertical number at = at
 abbrev pub holds_in : Grid → Line → List Item → ℕ → Bool
 holds_in grid line pattern at = pattern_holds (cell_at grid (x_at line.axis line.number at) (y_at line.axis line.number at)) pattern
 
--- the direction of a way along a line
-abbrev pub dir_of : Axis → Way → Dir
-dir_of Horizontal Ahead = Right
-dir_of Horizontal Back = Left
-dir_of Vertical Ahead = Down
-dir_of Vertical Back = Up
+-- how the lines lie that a direction leads along: columns for up and down, else rows
+abbrev pub axis_of : Dir → Axis
+axis_of Up = Vertical
+axis_of Down = Vertical
+axis_of _ = Horizontal
 
--- rules' cells hold one after another from a position of a line on
-abbrev pub runs_in : Grid → Line → Way → List (List Item) → ℕ → Bool
-runs_in grid line way patterns at = run_holds grid (dir_of line.axis way) (x_at line.axis line.number at) (y_at line.axis line.number at) patterns
+-- the direction of a way along a line, and of a walk
+abbrev pub dir_along : Axis → Way → Dir
+dir_along Horizontal Ahead = Right
+dir_along Horizontal Back = Left
+dir_along Vertical Ahead = Down
+dir_along Vertical Back = Up
+
+abbrev pub dir_of : Walk → Dir
+dir_of walk = dir_along walk.line.axis walk.way
+
+-- the walk along the line of this number in a direction
+abbrev pub IsWalk : Dir → ℕ → Walk → Type 0
+IsWalk dir number walk = (dir_of walk ≡ dir) × (walk.line ≡ record { axis = axis_of dir; number = number })
+
+-- rules' cells hold one after another from a position of a line on, as it is walked
+abbrev pub runs_in : Grid → Walk → List (List Item) → ℕ → Bool
+runs_in grid walk patterns at = run_holds grid (dir_of walk) (x_at walk.line.axis walk.line.number at) (y_at walk.line.axis walk.line.number at) patterns

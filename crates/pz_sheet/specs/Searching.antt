@@ -3,8 +3,8 @@ use Rattle.std.specs.Prelude.{◌≡◌, ℕ, ◌<◌, List, Bool, true, false, 
 use Rattle.pz_game.specs.declared.pattern.Item.{Item}
 use Rattle.pz_cells.specs.Pattern.{pattern_holds}
 use Rattle.pz_sheet.specs.declared.line.Line.{Line}
+use Rattle.pz_sheet.specs.declared.line.Walk.{Walk}
 use Rattle.pz_sheet.specs.Grid.{Grid, cell_at}
-use Rattle.pz_planes.specs.declared.line.Way.{Way}
 use Rattle.pz_sets.specs.Sets.{in_word}
 use Rattle.pz_sheet.specs.Line.{line_length, line_count, holds_in, runs_in}
 use Rattle.pz_sheet.specs.Runs.{IsRunOf}
@@ -30,22 +30,21 @@ pub record HoldsInLine (grid : Grid) (line : Line) (pattern : List Item) : Type 
   pub holds : holds_in grid line pattern at ≡ true
 
 -- rules' cells may hold from these positions of a line, of the first 128, and from no other of these
-abbrev pub MayStartAt : Grid → Line → Way → List (List Item) → ℕ → Type 0
-MayStartAt grid line way patterns starts = (at : ℕ) → at < line_length grid line.axis → at < 128 → runs_in grid line way patterns at ≡ true → in_word starts at ≡ true
+abbrev pub MayStartAt : Grid → Walk → List (List Item) → ℕ → Type 0
+MayStartAt grid walk patterns starts = (at : ℕ) → at < line_length grid walk.line.axis → at < 128 → runs_in grid walk patterns at ≡ true → in_word starts at ≡ true
 
 -- a run that is looked for along a line of a level
 pub record SoughtRun : Type 0 where
   pub grid : Grid
-  pub line : Line
-  pub way : Way
+  pub walk : Walk
   pub patterns : List (List Item)
 
 -- the run holds from a position of its line on
 abbrev pub run_holds_from : SoughtRun → ℕ → Bool
-run_holds_from run at = runs_in run.grid run.line run.way run.patterns at
+run_holds_from run at = runs_in run.grid run.walk run.patterns at
 
 -- the line is on the map, and the run is of the level's game; it starts, in the first 128 positions, only at those of a set
 pub record IsRunSearch (run : SoughtRun) (starts : ℕ) : Type 0 where
-  pub line_in : run.line.number < line_count run.grid run.line.axis
+  pub line_in : run.walk.line.number < line_count run.grid run.walk.line.axis
   pub of_game : IsRunOf run.grid.layers run.patterns
-  pub nowhere_else : MayStartAt run.grid run.line run.way run.patterns starts
+  pub nowhere_else : MayStartAt run.grid run.walk run.patterns starts

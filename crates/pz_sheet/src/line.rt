@@ -1,14 +1,16 @@
 //! The lines of the map: rows and columns, each walked ahead or back.
 
-ghost use Rattle.std.specs.Prelude.{◌≡◌, ◌+◌, ◌*◌, ◌<◌, length};
+ghost use Rattle.std.specs.Prelude.{◌≡◌, ◌+◌, ◌*◌, ◌<◌, length, MatchOption};
+ghost use Rattle.pz_game.specs.declared.direction.Dir.TheVariants.{Action};
 ghost use Rattle.pz_game.specs.Pattern.{AreOf};
 ghost use Rattle.pz_cells.specs.Pattern.{pattern_holds};
 ghost use Rattle.pz_planes.specs.Line.{room_from};
 ghost use Rattle.pz_sheet.specs.Grid.{IsLawful};
-ghost use Rattle.pz_sheet.specs.Line.{row_of, column_of, IsOnLine, line_length, x_at, y_at, holds_in};
+ghost use Rattle.pz_sheet.specs.Line.{row_of, column_of, axis_of, IsOnLine, IsWalk, line_length, x_at, y_at, holds_in};
 ghost use Rattle.pz_sheet.specs.Presence.{cell_of};
 
 use crate::Sheet;
+use pz_game::direction::Dir;
 use pz_game::pattern::Pattern;
 pub use pz_planes::line::{Axis, Way};
 
@@ -17,6 +19,13 @@ pub use pz_planes::line::{Axis, Way};
 pub struct Line {
     pub axis: Axis,
     pub number: u32,
+}
+
+/// A line as it is walked, ahead or back.
+#[derive(Clone, Copy)]
+pub struct Walk {
+    pub line: Line,
+    pub way: Way,
 }
 
 /// The row of this number.
@@ -37,6 +46,30 @@ pub fn column(number: u32) -> Line
         axis: Axis::Vertical,
         number,
     }
+}
+
+/// How the lines lie that a direction leads along: columns for up and down, else rows.
+pub fn axis_of(dir: Dir) -> Axis
+    ensures { result ≡ axis_of dir }
+{
+    match dir {
+        Dir::Up | Dir::Down => Axis::Vertical,
+        Dir::Left | Dir::Right | Dir::Action => Axis::Horizontal,
+    }
+}
+
+/// The walk along the line of this number in a direction. `None`: the action leads nowhere.
+pub fn walk_in(dir: Dir, number: u32) -> Option<Walk>
+    ensures { MatchOption result (dir ≡ Action) (IsWalk dir number) }
+{
+    let way = match dir {
+        Dir::Right | Dir::Down => Way::Ahead,
+        Dir::Left | Dir::Up => Way::Back,
+        Dir::Action => return None,
+    };
+    let axis = axis_of(dir);
+    let line = Line { axis, number };
+    Some(Walk { line, way })
 }
 
 impl<const N: usize> Sheet<N> {

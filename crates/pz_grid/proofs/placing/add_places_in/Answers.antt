@@ -1,4 +1,4 @@
-use Rattle.pz_grid.proofs.Common.{Dir, Err, Grid, List, MATCH_LIMIT, None, Place, RuleRow, Some, ap, append-nil, arith, err_from_is_err_and, false, gather, gather_skip, gather_step, gather_too_long, head_of, line_length, starts_with, sym, ℕ, ◌++◌, ◌<◌, ◌∙◌, ◌≡◌, ◌≤◌}
+use Rattle.pz_grid.proofs.Common.{Dir, Err, Grid, List, MATCH_LIMIT, None, Place, RuleRow, Some, ap, arith, dir_of, err_from_is_err_and, false, gather, gather_skip, gather_step, gather_too_long, head_of, line_length, starts_with, sym, ℕ, ◌++◌, ◌<◌, ◌∙◌, ◌≡◌, ◌≤◌}
 use Rattle.pz_grid.proofs.FoundLemmas.{found_at, found_in_all}
 use Rattle.pz_grid.proofs.StartLemmas.{next_in, none_at}
 use Rattle.pz_grid.proofs.placing.add_places_in.Goals as goal
@@ -14,35 +14,31 @@ returns-in_err-add_places_at-clause-limit g c is =
     let p = err_from_is_err_and c.from_residual.result c.from_residual.ensures.1 in
     let grid = c.args.sheet.now.grid in
     let row = c.args.row.now in
-    let line = c.args.line in
-    let next = next_in grid row line.dir line.number _ c.starts.from (Some c.in-Some-next.start) c.in-Some.ensures c.in-Some-next.ensures in
-    let added = passed_over grid row line.dir line.number _ _ _ _ c.starts.invariant.added next.0 next.3 in
+    let dir = dir_of c.args.walk in
+    let line = c.args.walk.line.number in
+    let next = next_in grid row c.args.walk c.starts.from (Some c.in-Some.start) (rw c.search_in-search.ensures at c.in-Some.ensures) in
+    let added = passed_over grid row dir line _ _ _ _ c.starts.invariant.added next.0 next.3 in
     let too_long = c.in_err-add_places_at.ensures.limit (ap Err (sym p.2) ∙ sym p.1 ∙ is) in
-    rw (← found_in_all grid row line.dir line.number) (gather_too_long (found_at grid row line.dir line.number) c.in-Some-next.start (line_length grid line.dir) MATCH_LIMIT c.args.found.now c.starts.found added next.1 too_long)
+    rw (← found_in_all grid row dir line) (gather_too_long (found_at grid row dir line) c.in-Some.start (line_length grid dir) MATCH_LIMIT c.args.found.now c.starts.found added next.1 too_long)
 
 pub starts-preserved : goal.starts-preserved
 starts-preserved g c =
     let grid = c.args.sheet.now.grid in
     let row = c.args.row.now in
-    let line = c.args.line in
-    let next = next_in grid row line.dir line.number _ c.starts.from (Some c.in-Some-next.start) c.in-Some.ensures c.in-Some-next.ensures in
-    let added = passed_over grid row line.dir line.number _ _ _ _ c.starts.invariant.added next.0 next.3 in
+    let dir = dir_of c.args.walk in
+    let line = c.args.walk.line.number in
+    let next = next_in grid row c.args.walk c.starts.from (Some c.in-Some.start) (rw c.search_in-search.ensures at c.in-Some.ensures) in
+    let added = passed_over grid row dir line _ _ _ _ c.starts.invariant.added next.0 next.3 in
     record {
-      added = gather_step (found_at grid row line.dir line.number) c.in-Some-next.start c.args.found.now c.starts.found c.add_places_at.new.found added c.in_ok-add_places_at.ensures.added;
+      added = gather_step (found_at grid row dir line) c.in-Some.start c.args.found.now c.starts.found c.add_places_at.new.found added c.in_ok-add_places_at.ensures.added;
       within = omega (arith, next.1);
     }
-
-pub returns-in_default-clause-added : goal.returns-in_default-clause-added
-returns-in_default-clause-added g c =
-    let line = c.args.line in
-    let found = c.args.found.now in
-    let none = passed_over c.args.sheet.now.grid c.args.row.now line.dir line.number 0 (line_length c.args.sheet.now.grid line.dir) found found (sym (append-nil found)) (omega arith) (λ start low high. c.in_default.ensures start) in
-    rw (← found_in_all c.args.sheet.now.grid c.args.row.now line.dir line.number) none
 
 pub returns-clause-added : goal.returns-clause-added
 returns-clause-added g c =
     let grid = c.args.sheet.now.grid in
     let row = c.args.row.now in
-    let line = c.args.line in
-    let none = next_in grid row line.dir line.number _ c.starts.from None c.in-Some.ensures c.in_default-next.ensures in
-    rw (← found_in_all grid row line.dir line.number) (passed_over grid row line.dir line.number _ _ _ _ c.starts.invariant.added c.starts.invariant.within none)
+    let dir = dir_of c.args.walk in
+    let line = c.args.walk.line.number in
+    let none = next_in grid row c.args.walk c.starts.from None (rw c.search_in-search.ensures at c.in_default.ensures) in
+    rw (← found_in_all grid row dir line) (passed_over grid row dir line _ _ _ _ c.starts.invariant.added c.starts.invariant.within none)

@@ -1,4 +1,4 @@
-use Rattle.pz_grid.proofs.Common.{Err, MATCH_LIMIT, ap, arith, err_from_is_err_and, gather_step, gather_too_long, holds_behind, line_length, place_in, sym, true, ◌∙◌, ◌≡◌}
+use Rattle.pz_grid.proofs.Common.{Err, MATCH_LIMIT, ap, arith, dir_of, err_from_is_err_and, gather_step, gather_too_long, line_length, place_in, sym, ◌∙◌}
 use Rattle.pz_grid.proofs.HeadLemmas.{begun_with_gap}
 use Rattle.pz_grid.proofs.FoundLemmas.{found_with}
 use Rattle.pz_grid.proofs.StartLemmas.{found_with_gaps, gaps_passed}
@@ -9,20 +9,22 @@ returns-in_err-add_place-clause-limit g c is =
     let p = err_from_is_err_and c.from_residual.result c.from_residual.ensures.1 in
     let grid = c.args.sheet.now.grid in
     let row = c.args.row.now in
-    let line = c.args.line in
-    let added = gaps_passed grid row line.dir line.number c.args.start c.args.at _ _ _ _ _ _ c.cells.ensures.row c.requires.gap_at (rw c.cells.ensures.cells at c.index-cells-at.is) c.place_in.ensures c.in-Some.ensures.next.0 c.in-Some.ensures.next.3 c.gaps.invariant.added in
-    let too_long = rw c.place_in-place.ensures at (c.in_err-add_place.ensures.limit (ap Err (sym p.2) ∙ sym p.1 ∙ is)) in
-    rw (← found_with_gaps grid row line.dir line.number c.args.start c.args.at c.requires.gap_at)
-    (gather_too_long (found_with grid row line.dir line.number c.args.start) c.in-Some.gap (line_length grid line.dir) MATCH_LIMIT c.args.found.now c.gaps.found added c.in-Some.ensures.next.1 too_long)
+    let dir = dir_of c.args.walk in
+    let line = c.args.walk.line.number in
+    let added = gaps_passed grid row dir line c.args.start c.args.at _ _ _ _ _ c.cells.ensures.row c.requires.gap_at (rw c.cells.ensures.cells at c.index-cells-at.is) c.in-Some.ensures.next.0 c.in-Some.ensures.next.3 c.gaps.invariant.added in
+    let too_long = rw (c.place_in-place.ensures, c.dir_of.ensures) at (c.in_err-add_place.ensures.limit (ap Err (sym p.2) ∙ sym p.1 ∙ is)) in
+    rw (← found_with_gaps grid row dir line c.args.start c.args.at c.requires.gap_at)
+    (gather_too_long (found_with grid row dir line c.args.start) c.in-Some.gap (line_length grid dir) MATCH_LIMIT c.args.found.now c.gaps.found added c.in-Some.ensures.next.1 too_long)
 
 pub gaps-preserved : goal.gaps-preserved
 gaps-preserved g c =
     let grid = c.args.sheet.now.grid in
     let row = c.args.row.now in
-    let line = c.args.line in
-    let added = gaps_passed grid row line.dir line.number c.args.start c.args.at _ _ _ _ _ _ c.cells.ensures.row c.requires.gap_at (rw c.cells.ensures.cells at c.index-cells-at.is) c.place_in.ensures c.in-Some.ensures.next.0 c.in-Some.ensures.next.3 c.gaps.invariant.added in
+    let dir = dir_of c.args.walk in
+    let line = c.args.walk.line.number in
+    let added = gaps_passed grid row dir line c.args.start c.args.at _ _ _ _ _ c.cells.ensures.row c.requires.gap_at (rw c.cells.ensures.cells at c.index-cells-at.is) c.in-Some.ensures.next.0 c.in-Some.ensures.next.3 c.gaps.invariant.added in
     record {
-      added = gather_step (found_with grid row line.dir line.number c.args.start) c.in-Some.gap c.args.found.now c.gaps.found c.add_place.new.found added (rw c.place_in-place.ensures at c.in_ok-add_place.ensures.added);
+      added = gather_step (found_with grid row dir line c.args.start) c.in-Some.gap c.args.found.now c.gaps.found c.add_place.new.found added (rw (c.place_in-place.ensures, c.dir_of.ensures) at c.in_ok-add_place.ensures.added);
       within = omega (arith, c.in-Some.ensures.next.1);
     }
 
@@ -30,17 +32,18 @@ pub returns-clause-added : goal.returns-clause-added
 returns-clause-added g c =
     let grid = c.args.sheet.now.grid in
     let row = c.args.row.now in
-    let line = c.args.line in
-    rw (← found_with_gaps grid row line.dir line.number c.args.start c.args.at c.requires.gap_at)
-    (gaps_passed grid row line.dir line.number c.args.start c.args.at _ (line_length grid line.dir) _ _ _ _ c.cells.ensures.row c.requires.gap_at (rw c.cells.ensures.cells at c.index-cells-at.is) c.place_in.ensures (grind (arith, c.gaps.invariant.within, c.place_in.ensures)) c.in_default.ensures.next c.gaps.invariant.added)
+    let dir = dir_of c.args.walk in
+    let line = c.args.walk.line.number in
+    rw (← found_with_gaps grid row dir line c.args.start c.args.at c.requires.gap_at)
+    (gaps_passed grid row dir line c.args.start c.args.at _ (line_length grid dir) _ _ _ c.cells.ensures.row c.requires.gap_at (rw c.cells.ensures.cells at c.index-cells-at.is) c.gaps.invariant.within c.in_default.ensures.next c.gaps.invariant.added)
 
 pub add_place-requires : goal.add_place-requires
 add_place-requires g c =
     let grid = c.args.sheet.now.grid in
     let row = c.args.row.now in
-    let line = c.args.line in
+    let dir = dir_of c.args.walk in
+    let line = c.args.walk.line.number in
     let gap = c.in-Some.gap in
-    let place = place_in line.dir line.number c.args.start gap in
-    let here : holds_behind grid line.dir place.x place.y c.index-cells-at.result c.args.at place.gap ≡ true = grind (arith, c.place_in.ensures, c.in-Some.ensures.next.2) in
-    let begun = begun_with_gap grid row line.dir place c.args.at c.index-cells-at.result c.cells.ensures.row c.requires.gap_at (rw c.cells.ensures.cells at c.index-cells-at.is) (grind (arith, c.requires.starts)) here in
-    (omega arith, (c.requires.of_game, rw c.place_in-place.ensures begun))
+    let place = place_in dir line c.args.start gap in
+    let begun = begun_with_gap grid row dir place c.args.at c.index-cells-at.result c.cells.ensures.row c.requires.gap_at (rw c.cells.ensures.cells at c.index-cells-at.is) c.requires.starts c.in-Some.ensures.next.2 in
+    (omega arith, (c.requires.of_game, rw (c.place_in-place.ensures, c.dir_of.ensures) begun))

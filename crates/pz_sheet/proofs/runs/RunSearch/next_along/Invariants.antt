@@ -8,4 +8,4 @@ invariant-starts g l = record {
 }
 
 abbrev pub decreases-starts : goal.decreases-starts
-decreases-starts g l = line_length l.self.grid l.self.line.axis - l.at
+decreases-starts g l = line_length l.self.grid l.self.walk.line.axis - l.at
