@@ -7,8 +7,8 @@ use Rattle.pz_game.specs.declared.denotation.Denotation.{Denotation}
 use Rattle.pz_game.specs.declared.direction.Dir.{Dir}
 use Rattle.pz_plan.specs.declared.fault.RuleFault.{RuleFault}
 use Rattle.pz_program.specs.declared.instance.Instance.{Instance}
-use Rattle.pz_rules.specs.declared.instances.Pick.{Pick}
-use Rattle.pz_rules.specs.declared.instances.Pick.TheVariants as pick
+use Rattle.pz_rules.specs.declared.plan_instances.Pick.{Pick}
+use Rattle.pz_rules.specs.declared.plan_instances.Pick.TheVariants as pick
 use Rattle.pz_game.specs.declared.pattern.Item.{Item}
 use Rattle.pz_plan.specs.declared.plan.Asked.{Asked}
 use Rattle.pz_plan.specs.declared.plan.Asked.TheVariants as asked
@@ -33,7 +33,7 @@ use Rattle.pz_grammar.specs.declared.token.Lead.{Lead}
 use Rattle.pz_plan.specs.Checks.{fault_of}
 use Rattle.pz_plan.specs.Deciding.{joined, with_lead, decided_lead, decided_name, decided_term, decided_terms, decided_cells, decided_row, decided_rows, member_choice}
 use Rattle.pz_instances.specs.Equal.{same_instance}
-use Rattle.pz_rules.specs.Instances.{members_at, options_of, picked_object, object_of, layer_of, item_of, cell_of, row_of, rows_of, instance_of, is_possible, picks_of, possible_of, instances_of}
+use Rattle.pz_rules.specs.PlanInstances.{members_at, options_of, picked_object, object_of, layer_of, item_of, cell_of, row_of, rows_of, instance_of, is_possible, picks_of, possible_of, instances_of}
 use Rattle.pz_base.specs.Lists.{firsts}
 use Rattle.pz_plan.specs.Numbering as numbering
 use Rattle.pz_plan.specs.Numbering.{choices_in_rows, name_of, term_of, terms_of, cells_of, asked_by, asked_in, asked_count, asked_by_mark}

@@ -33,7 +33,7 @@ use Rattle.pz_rules.specs.Counting.{pair_count}
 use Rattle.pz_rules.specs.Drafts.{placed, settled, opened, loop_of, with_loop, closed, is_misplaced, lateness, joins, before, extended, extended_by, rule_added, parsed_added, loop_added, line_added, going_on, finished, program_from, nothing, program_of}
 use Rattle.pz_rules.specs.Expansion.{unless_clash, expansion_within, expanded_plan, expanded}
 use Rattle.pz_program.specs.Instance.{IsInstanceOf, IsGroupOf, IsBlockOf, IsProgramOf}
-use Rattle.pz_rules.specs.Instances.{layer_of, instances_of}
+use Rattle.pz_rules.specs.PlanInstances.{layer_of, instances_of}
 use Rattle.pz_grammar.specs.Loop.{loop_word, next_loop, is_end}
 use Rattle.pz_grammar.specs.Parsed.{parsed}
 use Rattle.pz_game.specs.Pattern.{RuleRow, IsOf, AreOf, IsRowOf, AreRowsOf}

@@ -11,7 +11,7 @@ use Rattle.pz_plan.specs.declared.plan.Plan.{Plan}
 use Rattle.pz_grammar.specs.declared.rule.Rule.{Rule}
 use Rattle.pz_instances.specs.Clash.{has_clash}
 use Rattle.pz_rules.specs.Counting.{pair_count}
-use Rattle.pz_rules.specs.Instances.{instances_of}
+use Rattle.pz_rules.specs.PlanInstances.{instances_of}
 use Rattle.pz_plan.specs.Planning.{plan_of}
 
 -- the kept instances, if the right of none has a clash

@@ -1,6 +1,6 @@
 pub mod Counting
 pub mod Turning
-pub mod Instances
+pub mod PlanInstances
 pub mod Expansion
 pub mod Sides
 pub mod Drafts

@@ -10,8 +10,8 @@ ghost use Rattle.pz_plan.specs.Shape.{AreShaped};
 ghost use Rattle.pz_grammar.specs.Written.{is_whole};
 
 use crate::counting::count_within;
-use crate::instances::instances_of;
 use crate::patterns::Patterns;
+use crate::plan_instances::instances_of;
 use pz_base::listed::Listed;
 use pz_game::denotation::Denotation;
 use pz_grammar::rule::Rule;

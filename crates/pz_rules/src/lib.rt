@@ -6,9 +6,9 @@ pub mod counting;
 pub mod draft;
 pub mod expanding;
 pub mod expansion;
-pub mod instances;
 pub mod kept;
 pub mod patterns;
+pub mod plan_instances;
 pub mod sides;
 pub mod turning;
 

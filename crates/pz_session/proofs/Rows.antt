@@ -6,7 +6,7 @@ use Rattle.pz_program.specs.declared.instance.Block.TheVariants.{One}
 use Rattle.pz_game.specs.declared.pattern.Word.TheVariants.{Toward}
 use Rattle.pz_game.specs.Pattern.{RuleRow}
 use Rattle.pz_grid.specs.Places.{searched}
-use Rattle.pz_turn.specs.Instance.{applied}
+use Rattle.pz_turn.specs.Applying.{applied}
 use Rattle.pz_turn.specs.Rest.{rest_of}
 use Rattle.pz_case.specs.declared.item.FrameKind.TheVariants as kind
 use Rattle.pz_case.specs.declared.item.Item.TheVariants.{Frame, Close}

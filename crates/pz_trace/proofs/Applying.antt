@@ -5,12 +5,12 @@ use Rattle.pz_program.specs.declared.instance.Instance.{Instance}
 use Rattle.pz_sheet.specs.Grid.{Grid}
 use Rattle.pz_grid.specs.declared.placing.Place.{Place}
 use Rattle.pz_grid.specs.Rewriting.{Rewriting, in_rewrite}
-use Rattle.pz_turn.specs.declared.instance.TheConstants.{COMBINATION_LIMIT}
+use Rattle.pz_turn.specs.declared.applying.TheConstants.{COMBINATION_LIMIT}
 use Rattle.pz_turn.specs.declared.outcome.StepFault.{StepFault}
 use Rattle.pz_turn.specs.declared.outcome.StepFault.TheVariants.{MatchLimit}
 use Rattle.pz_turn.specs.Combinations.{combinations}
-use Rattle.pz_turn.specs.Instance.{taken, applied_at, applied_to, applied_with}
-unfoldable use Rattle.pz_turn.specs.Instance.{applied}
+use Rattle.pz_turn.specs.Applying.{places_of_rows, applied_at, applied_to, applied_with}
+unfoldable use Rattle.pz_turn.specs.Applying.{applied}
 use Rattle.pz_turn.specs.Outcome.{Outcome, untouched}
 use Rattle.pz_trace.proofs.Carrying.{carries_applied}
 use Rattle.pz_trace.specs.Firings.{Fired, are_some, has_fired, told_if, fired_at, fired_to, fired_with}
@@ -49,7 +49,7 @@ agrees_with instance grid (Ok lists) = agrees_to instance grid (combinations lis
 
 pub agrees : (instance : Instance) (grid : Grid) → Agrees (applied instance grid) (fired instance grid)
 unfolding applied fired
-agrees instance grid = agrees_with instance grid (taken grid instance.scan instance.left)
+agrees instance grid = agrees_with instance grid (places_of_rows grid instance.scan instance.left)
 
 none_are : (grid : Grid) (gave : Result Fired StepFault) → Agrees (Ok (untouched grid)) gave → gave ≡ Ok (record { level = grid; places = [] })
 none_are grid (Err fault) agree = absurd agree
@@ -65,16 +65,16 @@ none_fires instance grid is =
     none_are grid (fired instance grid) (rw is at known)
 
 -- it fires at these combinations
-pub all_fire : (instance : Instance) (grid : Grid) (lists : List (List Place)) → taken grid instance.scan instance.left ≡ Ok lists → nat_lt COMBINATION_LIMIT (length (combinations lists)) ≡ false
+pub all_fire : (instance : Instance) (grid : Grid) (lists : List (List Place)) → places_of_rows grid instance.scan instance.left ≡ Ok lists → nat_lt COMBINATION_LIMIT (length (combinations lists)) ≡ false
     → fired instance grid ≡ Ok (fold (fired_at instance) (record { level = grid; places = [] }) (combinations lists))
 unfolding fired
 all_fire instance grid lists takes few = grind (arith, takes, few)
 
 -- too many of them are a stop
-pub too_many : (instance : Instance) (grid : Grid) (lists : List (List Place)) → taken grid instance.scan instance.left ≡ Ok lists → nat_lt COMBINATION_LIMIT (length (combinations lists)) ≡ true → fired instance grid ≡ Err MatchLimit
+pub too_many : (instance : Instance) (grid : Grid) (lists : List (List Place)) → places_of_rows grid instance.scan instance.left ≡ Ok lists → nat_lt COMBINATION_LIMIT (length (combinations lists)) ≡ true → fired instance grid ≡ Err MatchLimit
 unfolding fired
 too_many instance grid lists takes many = grind (arith, takes, many)
 
-pub taking_stops : (instance : Instance) (grid : Grid) (fault : StepFault) → taken grid instance.scan instance.left ≡ Err fault → fired instance grid ≡ Err fault
+pub taking_stops : (instance : Instance) (grid : Grid) (fault : StepFault) → places_of_rows grid instance.scan instance.left ≡ Err fault → fired instance grid ≡ Err fault
 unfolding fired
 taking_stops instance grid fault stops = ap (fired_with instance grid) stops

@@ -9,7 +9,7 @@ use Rattle.pz_sheet.specs.Grid.{Grid}
 use Rattle.pz_grid.specs.declared.placing.Place.{Place}
 use Rattle.pz_grid.specs.Places.{position_of}
 use Rattle.pz_grid.specs.Rewriting.{Rewriting, in_rewrite, rewritten_at, rewritten_along, rewritten_row}
-use Rattle.pz_turn.specs.Instance.{applied_at}
+use Rattle.pz_turn.specs.Applying.{applied_at}
 
 abbrev carried : Bool → Rewriting → Rewriting
 carried changed now = in_rewrite now.grid (changed || now.changed)

@@ -13,7 +13,7 @@ use Rattle.pz_turn.specs.declared.outcome.StepFault.{StepFault}
 use Rattle.pz_turn.specs.declared.resting.TheConstants.{PASSES}
 use Rattle.pz_turn.specs.Outcome.{Outcome, joined, followed_by}
 use Rattle.pz_turn.specs.Rest.{Runs, pass_of, rest_of, group_runs}
-use Rattle.pz_turn.specs.Instance.{applied}
+use Rattle.pz_turn.specs.Applying.{applied}
 unfoldable use Rattle.pz_turn.specs.Step.{block_runs}
 use Rattle.pz_turn.proofs.Segments.{follow_pass}
 use Rattle.pz_turn.proofs.Unchanged.{Leaves, applied_leaves}

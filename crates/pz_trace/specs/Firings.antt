@@ -10,12 +10,12 @@ use Rattle.pz_program.specs.declared.instance.Block.TheVariants.{One, Loop}
 use Rattle.pz_sheet.specs.Grid.{Grid}
 use Rattle.pz_grid.specs.declared.placing.Place.{Place}
 use Rattle.pz_grid.specs.Rewriting.{in_rewrite}
-use Rattle.pz_turn.specs.declared.instance.TheConstants.{COMBINATION_LIMIT}
+use Rattle.pz_turn.specs.declared.applying.TheConstants.{COMBINATION_LIMIT}
 use Rattle.pz_turn.specs.declared.outcome.StepFault.{StepFault}
 use Rattle.pz_turn.specs.declared.outcome.StepFault.TheVariants.{LoopLimit, MatchLimit}
 use Rattle.pz_turn.specs.declared.resting.TheConstants.{PASSES}
 use Rattle.pz_turn.specs.Combinations.{combinations}
-use Rattle.pz_turn.specs.Instance.{taken, applied_at}
+use Rattle.pz_turn.specs.Applying.{places_of_rows, applied_at}
 use Rattle.pz_trace.specs.declared.firing.Moment.{Moment}
 use Rattle.pz_trace.specs.SourceLines.{line_of}
 
@@ -57,7 +57,7 @@ fired_with instance grid (Ok lists) = fired_to instance grid (combinations lists
 
 -- an instance, applied to a level
 unfoldable pub fired : Instance → Grid → Result Fired StepFault
-fired instance grid = fired_with instance grid (taken grid instance.scan instance.left)
+fired instance grid = fired_with instance grid (places_of_rows grid instance.scan instance.left)
 
 -- ---- what a block does
 

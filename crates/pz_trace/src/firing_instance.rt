@@ -5,7 +5,7 @@ ghost use Rattle.pz_program.specs.Instance.{IsInstanceOf};
 ghost use Rattle.pz_sheet.specs.Grid.{SameSize};
 ghost use Rattle.pz_grid.specs.Rewriting.{in_rewrite};
 ghost use Rattle.pz_turn.specs.Combinations.{combinations};
-ghost use Rattle.pz_turn.specs.Instance.{applied_at};
+ghost use Rattle.pz_turn.specs.Applying.{applied_at};
 ghost use Rattle.pz_turn.specs.declared.outcome.StepFault.TheVariants.{Memory};
 ghost use Rattle.pz_trace.specs.Firings.{fired, fired_at};
 
@@ -15,7 +15,7 @@ use pz_grid::Level;
 use pz_grid::placing::{Place, still_matches};
 use pz_program::instance::Instance;
 use pz_turn::StepFault;
-use pz_turn::instance::{COMBINATION_LIMIT, combination_count, take_places};
+use pz_turn::applying::{COMBINATION_LIMIT, combination_count, take_places};
 use std::alloc::{AllocError, Global};
 
 /// Tests again whether all rows of an instance hold at these places, and rewrites them if so. Whether a cell changed.

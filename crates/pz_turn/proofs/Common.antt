@@ -36,8 +36,8 @@ pub use Rattle.pz_program.specs.declared.instance.Program.{Program}
 pub use Rattle.pz_sheet.specs.Grid.{Grid, IsLawful, SameSize, cell_at}
 pub use Rattle.pz_turn.specs.Calm.{AreCalmFrom, IsCalm}
 pub use Rattle.pz_turn.specs.Combinations.{combinations}
-pub use Rattle.pz_turn.specs.Instance.{HasNoEffect, IsOfOneCell, after_row, applied_at, applied_to, applied_with, found_or_stop, given, one_rewritten, outcome_of, taken}
-unfoldable pub use Rattle.pz_turn.specs.Instance.{applied}
+pub use Rattle.pz_turn.specs.Applying.{HasNoEffect, IsOfOneCell, after_row, applied_at, applied_to, applied_with, found_or_stop, given_commands, one_rewritten, outcome_of, places_of_rows}
+unfoldable pub use Rattle.pz_turn.specs.Applying.{applied}
 pub use Rattle.pz_turn.specs.Outcome.{GivesOutcome, Outcome, followed_by, joined, untouched}
 pub use Rattle.pz_turn.specs.Rest.{Runs, ends, ends_after, group_runs, is_last, pass_of, passes, rests, up_to}
 unfoldable pub use Rattle.pz_turn.specs.Rest.{rest_of}

@@ -1,11 +1,11 @@
 -- An instance applied at all its combinations. If it has one row, each place of the row is one; without effect it leaves a level as it is.
-use Rattle.pz_turn.proofs.Common.{◌≡◌, ◌<◌, ◌≤◌, List, [], ◌∷◌, ◌++◌, map, length, ap, ◌∙◌, arith, Result, Ok, fold, refl, false, append-nil, length-map, Dir, Commands, Instance, RuleRow, Place, Grid, searched, Rewriting, in_rewrite, StepFault, combinations, found_or_stop, after_row, taken, applied_at, applied_to, applied_with, given, outcome_of, applied, le-ltb, nat_tests, sym, inl, inr, zip, IsLawful, places, untouched, HasNoEffect, searched-gapless, searched-small, fold_stays}
+use Rattle.pz_turn.proofs.Common.{◌≡◌, ◌<◌, ◌≤◌, List, [], ◌∷◌, ◌++◌, map, length, ap, ◌∙◌, arith, Result, Ok, fold, refl, false, append-nil, length-map, Dir, Commands, Instance, RuleRow, Place, Grid, searched, Rewriting, in_rewrite, StepFault, combinations, found_or_stop, after_row, places_of_rows, applied_at, applied_to, applied_with, given_commands, outcome_of, applied, le-ltb, nat_tests, sym, inl, inr, zip, IsLawful, places, untouched, HasNoEffect, searched-gapless, searched-small, fold_stays}
 
 map-nothing_behind : (all : List (List Place)) (behind : List Place) → behind ≡ [] → map (λ places. places ++ behind) all ≡ all
 map-nothing_behind [] behind none = refl
 map-nothing_behind (places ∷ all) behind none = rw (map-nothing_behind all behind none) (ap (λ (ps : List Place). ps ∷ all) (ap (λ b. places ++ b) none ∙ append-nil places))
 
-pub applied_ends : (instance : Instance) (grid : Grid) (lists : List (List Place)) (behind : List Place) (end : Rewriting) (commands : Commands) → taken grid instance.scan instance.left ≡ Ok lists → length (combinations lists) ≤ 1048576 → behind ≡ [] → end ≡ fold (applied_at instance) (in_rewrite grid false) (map (λ places. places ++ behind) (combinations lists)) → commands ≡ given (combinations lists) instance.commands → applied instance grid ≡ Ok (outcome_of end commands)
+pub applied_ends : (instance : Instance) (grid : Grid) (lists : List (List Place)) (behind : List Place) (end : Rewriting) (commands : Commands) → places_of_rows grid instance.scan instance.left ≡ Ok lists → length (combinations lists) ≤ 1048576 → behind ≡ [] → end ≡ fold (applied_at instance) (in_rewrite grid false) (map (λ places. places ++ behind) (combinations lists)) → commands ≡ given_commands (combinations lists) instance.commands → applied instance grid ≡ Ok (outcome_of end commands)
 unfolding applied
 applied_ends instance grid lists behind end commands found within none ends gave =
     grind (arith, found, le-ltb 1048576 (length (combinations lists)) within, ends, map-nothing_behind (combinations lists) behind none, gave)
@@ -19,7 +19,7 @@ few_found grid row dir found is = grind (arith, nat_tests, is)
 pub row_applied : (instance : Instance) (grid : Grid) (row : RuleRow) (found : Result (List Place) StepFault) → instance.left ≡ row ∷ [] → found_or_stop (searched grid row instance.scan) ≡ found → applied instance grid ≡ applied_with instance grid (after_row found (Ok []))
 unfolding applied
 row_applied instance grid row found only is =
-    ap (λ (rows : List RuleRow). applied_with instance grid (taken grid instance.scan rows)) only ∙ ap (λ (r : Result (List Place) StepFault). applied_with instance grid (after_row r (Ok []))) is
+    ap (λ (rows : List RuleRow). applied_with instance grid (places_of_rows grid instance.scan rows)) only ∙ ap (λ (r : Result (List Place) StepFault). applied_with instance grid (after_row r (Ok []))) is
 
 pub row_ends : (instance : Instance) (grid : Grid) (row : RuleRow) (found : List Place) (end : Rewriting) → instance.left ≡ row ∷ [] → found_or_stop (searched grid row instance.scan) ≡ Ok found → 0 < length found → end ≡ fold (applied_at instance) (in_rewrite grid false) (map (λ place. place ∷ []) found) → applied instance grid ≡ Ok (outcome_of end instance.commands)
 row_ends instance grid row [] end only is some ends = absurd (omega arith)

@@ -1,15 +1,15 @@
 -- The places of rows, taken one row after another. Rows are left out at once if one has no place and those before it are within the limit.
-use Rattle.pz_turn.proofs.Common.{◌≡◌, List, [], ◌∷◌, length, refl, ap, ◌∙◌, arith, None, Ok, Dir, Instance, RuleRow, Place, Grid, IsLawful, places, combinations, untouched, found_or_stop, after_row, taken, applied_to, applied_with, applied, ℕ, ◌+◌, ◌<◌, ◌++◌, get_or, drop, eqb, false, append_assoc, sym, Result, Err, at_drop_more, StepFault, searched, searched-within, searched-gapless}
+use Rattle.pz_turn.proofs.Common.{◌≡◌, List, [], ◌∷◌, length, refl, ap, ◌∙◌, arith, None, Ok, Dir, Instance, RuleRow, Place, Grid, IsLawful, places, combinations, untouched, found_or_stop, after_row, places_of_rows, applied_to, applied_with, applied, ℕ, ◌+◌, ◌<◌, ◌++◌, get_or, drop, eqb, false, append_assoc, sym, Result, Err, at_drop_more, StepFault, searched, searched-within, searched-gapless}
 
 -- the places of some rows are taken without a stop, and have no combination
 pub record IsNoneTaken (grid : Grid) (dir : Dir) (rows : List RuleRow) : Type 0 where
   pub lists : List (List Place)
-  pub takes : taken grid dir rows ≡ Ok lists
+  pub takes : places_of_rows grid dir rows ≡ Ok lists
   pub none : combinations lists ≡ []
 
 -- a row without a place
 pub none_first : (grid : Grid) (dir : Dir) (row : RuleRow) (rows : List RuleRow) → places grid row dir ≡ [] → IsNoneTaken grid dir (row ∷ rows)
-none_first grid dir row rows none = record { lists = [] ∷ []; takes = ap (λ r. after_row (found_or_stop r) (taken grid dir rows)) (searched-within grid row dir (omega (arith, ap length none)) ∙ ap Ok none); none = refl }
+none_first grid dir row rows none = record { lists = [] ∷ []; takes = ap (λ r. after_row (found_or_stop r) (places_of_rows grid dir rows)) (searched-within grid row dir (omega (arith, ap length none)) ∙ ap Ok none); none = refl }
 
 -- a row without a gap before such rows
 pub none_after : (grid : Grid) (dir : Dir) (row : RuleRow) (rows : List RuleRow) → IsLawful grid → row.gap_at ≡ None → IsNoneTaken grid dir rows → IsNoneTaken grid dir (row ∷ rows)
@@ -31,10 +31,10 @@ following found (Err fault) = Err fault
 following found (Ok lists) = Ok (found ++ lists)
 
 -- what is taken from a row on
-pub taken_from : (grid : Grid) (dir : Dir) (rows : List RuleRow) (i : ℕ) (row : RuleRow) (found : Result (List Place) StepFault) → i < length rows → row ≡ get_or rows i row → found_or_stop (searched grid row dir) ≡ found → taken grid dir (drop i rows) ≡ after_row found (taken grid dir (drop (i + 1) rows))
+pub taken_from : (grid : Grid) (dir : Dir) (rows : List RuleRow) (i : ℕ) (row : RuleRow) (found : Result (List Place) StepFault) → i < length rows → row ≡ get_or rows i row → found_or_stop (searched grid row dir) ≡ found → places_of_rows grid dir (drop i rows) ≡ after_row found (places_of_rows grid dir (drop (i + 1) rows))
 taken_from grid dir rows i row found within at is =
-    let rest = taken grid dir (drop (i + 1) rows) in
-    at_drop_more (taken grid dir) rows i row within ∙ ap (λ (r : RuleRow). after_row (found_or_stop (searched grid r dir)) rest) (sym at) ∙ ap (λ (r : Result (List Place) StepFault). after_row r rest) is
+    let rest = places_of_rows grid dir (drop (i + 1) rows) in
+    at_drop_more (places_of_rows grid dir) rows i row within ∙ ap (λ (r : RuleRow). after_row (found_or_stop (searched grid r dir)) rest) (sym at) ∙ ap (λ (r : Result (List Place) StepFault). after_row r rest) is
 
 -- one more row with places
 pub following_one : (lists : List (List Place)) (found : List Place) (rest : Result (List (List Place)) StepFault) → eqb (length found) 0 ≡ false → following (lists ++ found ∷ []) rest ≡ following lists (after_row (Ok found) rest)

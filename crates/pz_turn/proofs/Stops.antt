@@ -1,5 +1,5 @@
 -- The stops of a step are its limits: want of memory is none of them.
-use Rattle.pz_turn.proofs.Common.{◌≢◌, ℕ, zero, suc, arith, List, [], ◌∷◌, Option, Result, Ok, Err, fold, Dir, GameParts, Instance, Program, RuleRow, Grid, searched, StepFault, Outcome, untouched, followed_by, taken, applied, Runs, pass_of, passes, rest_of, group_runs, block_runs, blocks_run, then_moved, rules_run, given_input, step_of, players_of, One, Loop, Memory, PASSES}
+use Rattle.pz_turn.proofs.Common.{◌≢◌, ℕ, zero, suc, arith, List, [], ◌∷◌, Option, Result, Ok, Err, fold, Dir, GameParts, Instance, Program, RuleRow, Grid, searched, StepFault, Outcome, untouched, followed_by, places_of_rows, applied, Runs, pass_of, passes, rest_of, group_runs, block_runs, blocks_run, then_moved, rules_run, given_input, step_of, players_of, One, Loop, Memory, PASSES}
 use Rattle.pz_program.specs.declared.instance.Block.{Block}
 
 -- a stop is none for want of memory
@@ -11,7 +11,7 @@ abbrev AllStop : {L : Type 0} → Runs L → Type 0
 AllStop {L} run = (level : L) → Stops (run level)
 
 -- an instance
-taken-stops : (level : Grid) (dir : Dir) (rows : List RuleRow) → Stops (taken level dir rows)
+taken-stops : (level : Grid) (dir : Dir) (rows : List RuleRow) → Stops (places_of_rows level dir rows)
 unfolding searched
 taken-stops level dir [] e = cc
 taken-stops level dir (row ∷ rows) e = grind (arith, taken-stops level dir rows, e)

@@ -1,5 +1,5 @@
 -- What has not changed is as it was.
-use Rattle.pz_turn.proofs.Common.{untouched, arith, ◌≡◌, ℕ, ◌+◌, ◌*◌, List, [], ◌∷◌, Option, Some, None, Bool, true, false, not, fold, Result, Ok, Err, refl, ◌∙◌, IfOk, enumerate_from, zip, find, range_with_len, or_parts, set-get_or, Dir, Instance, RuleRow, Place, Grid, cell_at, position_of, Rewriting, in_rewrite, rewritten_at, rewritten_along, rewritten_row, StepFault, Given, Outcome, followed_by, joined, GivesOutcome, applied_at, given, applied, pass_of, is_last, rest_of, rests, Item, rewritten_cell, same_cell_is}
+use Rattle.pz_turn.proofs.Common.{untouched, arith, ◌≡◌, ℕ, ◌+◌, ◌*◌, List, [], ◌∷◌, Option, Some, None, Bool, true, false, not, fold, Result, Ok, Err, refl, ◌∙◌, IfOk, enumerate_from, zip, find, range_with_len, or_parts, set-get_or, Dir, Instance, RuleRow, Place, Grid, cell_at, position_of, Rewriting, in_rewrite, rewritten_at, rewritten_along, rewritten_row, StepFault, Given, Outcome, followed_by, joined, GivesOutcome, applied_at, given_commands, applied, pass_of, is_last, rest_of, rests, Item, rewritten_cell, same_cell_is}
 use Rattle.pz_cells.specs.Sameness.{same_cell}
 use Rattle.pz_turn.proofs.Segments.{follow_pass}
 

@@ -10,7 +10,7 @@ use Rattle.pz_sheet.specs.Grid.{Grid}
 use Rattle.pz_turn.specs.declared.outcome.StepFault.TheVariants.{Memory}
 use Rattle.pz_turn.specs.declared.resting.TheConstants.{PASSES}
 use Rattle.pz_turn.specs.Combinations.{combinations}
-use Rattle.pz_turn.specs.Instance.{applied}
+use Rattle.pz_turn.specs.Applying.{applied}
 use Rattle.pz_turn.specs.Outcome.{Outcome}
 use Rattle.pz_turn.specs.Rest.{pass_of, rest_of, rests}
 use Rattle.pz_turn.specs.Step.{step_of}

@@ -1,6 +1,6 @@
 pub mod Outcome
 pub mod Combinations
-pub mod Instance
+pub mod Applying
 pub mod Rest
 pub mod Calm
 pub mod Win

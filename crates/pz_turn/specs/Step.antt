@@ -19,7 +19,7 @@ use Rattle.pz_sheet.specs.Pushing.{pushed}
 use Rattle.pz_sheet.specs.Sameness.{same_grid}
 use Rattle.pz_turn.specs.declared.outcome.StepFault.{StepFault}
 use Rattle.pz_turn.specs.declared.resting.TheConstants.{PASSES}
-use Rattle.pz_turn.specs.Instance.{applied}
+use Rattle.pz_turn.specs.Applying.{applied}
 use Rattle.pz_turn.specs.Outcome.{Outcome, followed_by}
 use Rattle.pz_turn.specs.Rest.{Runs, pass_of, rest_of, group_runs}
 

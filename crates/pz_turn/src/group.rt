@@ -4,7 +4,7 @@ ghost use Rattle.std.specs.Prelude.{◌≡◌, Ok, IfOk, true, false};
 ghost use Rattle.pz_program.specs.Instance.{IsGroupOf};
 ghost use Rattle.pz_program.specs.Segments.{IsSegmentOf, instances_in};
 ghost use Rattle.pz_sheet.specs.Grid.{SameSize};
-ghost use Rattle.pz_turn.specs.Instance.{applied};
+ghost use Rattle.pz_turn.specs.Applying.{applied};
 ghost use Rattle.pz_turn.specs.Outcome.{GivesOutcome, untouched};
 ghost use Rattle.pz_turn.specs.Rest.{pass_of, rest_of, group_runs};
 ghost use Rattle.pz_turn.specs.declared.resting.TheConstants.{PASSES};

@@ -1,7 +1,7 @@
 //! Laws of turns. Each is what a function without a body ensures.
 
 ghost use Rattle.std.specs.Prelude.{◌≡◌};
-ghost use Rattle.pz_turn.specs.declared.instance.TheConstants.{COMBINATION_LIMIT};
+ghost use Rattle.pz_turn.specs.declared.applying.TheConstants.{COMBINATION_LIMIT};
 ghost use Rattle.pz_turn.specs.declared.resting.TheConstants.{PASSES};
 ghost use Rattle.pz_turn.specs.Laws.{IsCounted, QuietPassLeaves, RestLasts, NeverEndsForMemory};
 

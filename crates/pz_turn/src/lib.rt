@@ -1,8 +1,8 @@
 //! Turns of a game: instances of rules applied, groups and loops run to rest, steps and wins.
 #![tactic(auto)]
 
+pub mod applying;
 mod group;
-pub mod instance;
 pub mod laws;
 pub mod loops;
 mod one_cell;

@@ -2,7 +2,7 @@
 
 ghost use Rattle.pz_program.specs.Instance.{AreGroupsOf};
 ghost use Rattle.pz_sheet.specs.Grid.{IsLawful, IsOfGame, SameSize};
-ghost use Rattle.pz_turn.specs.Instance.{applied};
+ghost use Rattle.pz_turn.specs.Applying.{applied};
 ghost use Rattle.pz_turn.specs.Outcome.{GivesBoth};
 ghost use Rattle.pz_turn.specs.Rest.{pass_of, rest_of, group_runs};
 

@@ -5,7 +5,7 @@ ghost use Rattle.pz_game.specs.Pattern.{AreOf};
 ghost use Rattle.pz_sheet.specs.Grid.{SameSize};
 ghost use Rattle.pz_grid.specs.Places.{row_of_one};
 ghost use Rattle.pz_grid.specs.Rewriting.{in_rewrite};
-ghost use Rattle.pz_turn.specs.Instance.{one_rewritten, IsOfOneCell};
+ghost use Rattle.pz_turn.specs.Applying.{one_rewritten, IsOfOneCell};
 
 use pz_game::direction::Dir;
 use pz_game::pattern::{Pattern, Row};

@@ -4,7 +4,7 @@ ghost use Rattle.std.specs.Prelude.{◌≡◌, ◌≢◌, Result, Ok, Err, IfOk,
 ghost use Rattle.pz_program.specs.Instance.{IsGroupOf};
 ghost use Rattle.pz_sheet.specs.Grid.{Grid, IsLawful, IsOfGame, SameSize};
 ghost use Rattle.pz_turn.specs.Calm.{AreCalmFrom, IsCalm};
-ghost use Rattle.pz_turn.specs.Instance.{applied};
+ghost use Rattle.pz_turn.specs.Applying.{applied};
 ghost use Rattle.pz_turn.specs.Outcome.{Outcome, GivesOutcome, GivesBoth};
 ghost use Rattle.pz_turn.specs.Rest.{pass_of, rest_of};
 ghost use Rattle.pz_turn.specs.declared.outcome.StepFault.{StepFault};

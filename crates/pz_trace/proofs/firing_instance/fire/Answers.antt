@@ -3,7 +3,7 @@ use Rattle.std.proofs.Common.{◌≡◌, Ok, false, arith, ap, sym, ◌∙◌, l
 use Rattle.std.proofs.lemmas.Bool.Decides.{nat_tests}
 use Rattle.std.proofs.lemmas.Result.{err_from_is_err_and}
 use Rattle.std.specs.Prelude.{nat_lt}
-use Rattle.pz_turn.specs.declared.instance.TheConstants.{COMBINATION_LIMIT}
+use Rattle.pz_turn.specs.declared.applying.TheConstants.{COMBINATION_LIMIT}
 use Rattle.pz_turn.specs.Combinations.{combinations}
 use Rattle.pz_trace.proofs.Applying.{all_fire, none_fires, taking_stops, too_many}
 use Rattle.pz_trace.proofs.firing_instance.fire.Goals as goal

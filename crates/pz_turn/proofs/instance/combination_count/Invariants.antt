@@ -1,5 +1,0 @@
-use Rattle.pz_turn.proofs.Common.{◌≡◌, take, length, min, combinations}
-use Rattle.pz_turn.proofs.instance.combination_count.Given as goal
-
-abbrev pub invariant-loop-list : goal.invariant-loop-list
-invariant-loop-list l = l.count ≡ min (length (combinations (take l.list-index l.lists))) 1048577
