@@ -83,7 +83,7 @@ export class Drawn {
     when("acted", [state.staging, state.played, shown, state.work, state.order, state.text, doing.coverage], () => this.stages.drawActed(state, doing.coverage, this.panel));
     tell("status", readingTold(doing.reading) ?? statusOf(state));
     say("own", ownTold(state));
-    put(at("take-text"), { hidden: state.work.own === null });
+    for (const id of ["take-text", "save-own"]) put(at(id), { hidden: state.work.own === null });
     if (!doing.isTyping) this.drawClock(clockTold(state));
     this.drawPlaying(state, doing.reading ?? doing.play);
     this.drawButtons(state);

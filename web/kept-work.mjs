@@ -91,7 +91,7 @@ function stateOfEntry({ value, note = null }, example) {
 
 // What another tab left, as it can be put back.
 function leftBy({ text, work, file, isUnsaved, past, example }) {
-  const isWork = work.inputs.length > 0 || work.name !== "";
+  const isWork = work.inputs.length > 0 || work.name !== "" || work.own !== null;
   const own = { ...(text === example ? {} : { text }), ...(isWork ? { work } : {}), ...(file ? { file, isUnsaved } : {}) };
   return Object.keys(own).length === 0 ? past : [...past, own];
 }

@@ -160,10 +160,15 @@ export function unlikenessTold(state, ending, isOfEngines) {
 
 // ---- what can be put back
 
+function workTold({ own = null, inputs, name }) {
+  if (inputs.length > 0) return `a recording of ${plural(inputs.length, "input")}`;
+  return [own === null ? "" : `the text of ${gameOf(own).title}, as a recording's own`, name === "" ? "" : `the name ${shortened(name)}`].filter(Boolean).join(", ");
+}
+
 function lostTold({ text, work, file }) {
   const parts = [
     text === undefined ? "" : `the text of ${gameOf(text).title}`,
-    work === undefined ? "" : work.inputs.length > 0 ? `a recording of ${plural(work.inputs.length, "input")}` : `the name ${shortened(work.name)}`,
+    work === undefined ? "" : workTold(work),
     file === undefined ? "" : `${file.name} with ${plural(file.entries.length, "session")}`,
   ];
   return parts.filter(Boolean).join(", ");

@@ -390,6 +390,23 @@ it("a text that is put back, and that a browser would lay out for minutes, comes
   assert.deepEqual(await back([{ ...lost, work: { ...lost.work, own: BROKEN } }]), { text: GAME, own: BROKEN, inputs: [2, 1], others: [[2, 1], { text: MARKED }] });
 });
 
+it("a text that had to stand as a recording's own is put back, whatever took its place, and is left to another tab", async () => {
+  const { kept } = await played(), of = (...entries) => stateOfVisit(entries.map((value, number) => ({ name: `${number}`, value: structuredClone(value) })), GAME).state;
+  for (const act of [(state) => edited(state, `${GAME}x`), (state) => withGame(state, OTHER), (state) => withOtherFile(state, fileOf([["one", [OTHER, [1], "background:0,", 0]]])), (state) => sessionOpened(withOtherFile(state, fileOf(DAY)), 1)]) {
+    const bench = new Bench(of({ ...kept, text: MARKED }));
+    await bench.act(act);
+    assert.notEqual(bench.state.work.own, MARKED);
+    assert.match(putBackTold(bench.state), /the text of Another Simple Block Pushing Game, as a recording's own$/);
+    await bench.act(edited, `${GAME}y`);
+    await bench.act(putBack);
+    if (bench.state.work.own !== MARKED) await bench.act(putBack);
+    assert.deepEqual([bench.state.work.own, isPlayed(bench.state)], [MARKED, true]);
+  }
+  const visit = new Bench(of({ ...kept, text: MARKED }));
+  await visit.runner.idle();
+  assert.deepEqual(of({ ...kept, text: OTHER }, visit.kept).past.map(({ work }) => work.own), [MARKED]);
+});
+
 it("a list of gaps alone, which takes no room in the store, takes none as it is read", async () => {
   const { kept } = await withPush(), gaps = Object.assign([], { length: 300_000_000 });
   for (const strange of [{ work: { ...kept.work, inputs: gaps } }, { queue: gaps }, { past: gaps }]) assert.equal(stateFrom({ ...kept, ...strange }, GAME), null);
