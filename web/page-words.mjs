@@ -4,7 +4,7 @@ import { plural } from "./elements.mjs";
 import { inputTold } from "./faults.mjs";
 import { countOf } from "./closes.mjs";
 import { isFailure } from "./session-list.mjs";
-import { causeOf, framesOf, gameOf, isPlayed, shownOf, sourceOf } from "./replaying.mjs";
+import { causeOf, framesOf, gameOf, isPlayed, shownOf, sourceOf, sourceOfFrames } from "./replaying.mjs";
 import { clocksOf, countOfOthers, rowsOf, runWithFrames, runsOfNow, sessionOf } from "./suite.mjs";
 import { noFieldTold, shortened } from "./texts.mjs";
 import { hasClock, isRefusedForClock } from "./ticks.mjs";
@@ -90,6 +90,16 @@ export function statusOf(state) {
 // What is said where what is played isn't the text on the left.
 export const ownTold = (state) => (state.work.own === null ? "" : "This recording has a text of its own, and is played over that: not over the text on the left.");
 
+// How what is worked on ends: { text, isSolved }. What was played before says nothing of it.
+export function endTold(state) {
+  if (!isPlayed(state)) return { text: "not played yet", isSolved: false };
+  if (framesOf(state).length === 0) return { text: "not played", isSolved: false };
+  const { isSolved } = state.played;
+  return { text: isSolved ? "\u2713 solved" : "not solved", isSolved };
+}
+
+const AS_BEFORE = "as it was played before: ";
+
 const KIND_TOLD = { start: "the start", load: "the next level", over: "play is over", restart: "begins again" };
 
 export function stepTold(state) {
@@ -98,7 +108,7 @@ export function stepTold(state) {
   const { inputs } = state.played, isSame = shown > 0 && frames[shown - 1].level === frame.level;
   const undone = isSame ? "nothing to take back" : "taken back", moved = isSame ? "nothing changes" : frame.kind === "tick" ? "a tick" : "moves";
   const where = frame.at === 0 ? "before any input" : `after input ${frame.at - 1} (${inputTold(inputs[frame.at - 1])})`;
-  return `${where}; ${KIND_TOLD[frame.kind] ?? (frame.kind === "undo" ? undone : moved)}`;
+  return `${isPlayed(state) ? "" : AS_BEFORE}${where}; ${KIND_TOLD[frame.kind] ?? (frame.kind === "undo" ? undone : moved)}`;
 }
 
 // The name of what is worked on, as far as it is shown; no half of a letter is.
@@ -178,5 +188,5 @@ export const putBackTold = ({ past }) => (past.length === 0 ? "Nothing was left 
 
 export const toldOfLevel = (state) => {
   const frames = framesOf(state), shown = shownOf(state), won = frames.slice(0, shown + 1).filter(({ kind }) => kind === "load").length;
-  return `${gameOf(sourceOf(state)).title}, ${won > 0 ? `${plural(won, "level")} won` : "the level"}, frame ${shown}`;
+  return `${isPlayed(state) ? "" : AS_BEFORE}${gameOf(sourceOfFrames(state)).title}, ${won > 0 ? `${plural(won, "level")} won` : "the level"}, frame ${shown}`;
 };

@@ -6,7 +6,7 @@ import { findingsIn } from "../../web/console.mjs";
 import { KeptOpen } from "../../web/kept-open.mjs";
 import { stateFrom, stateOfVisit } from "../../web/kept-work.mjs";
 import { playedBy } from "../../web/page-engine.mjs";
-import { faultOfText, othersTold, ownTold, putBackTold, statusOf, stepTold, tabTold, unlikenessTold, verdictOf, visitTold } from "../../web/page-words.mjs";
+import { endTold, faultOfText, othersTold, ownTold, putBackTold, statusOf, stepTold, tabTold, toldOfLevel, unlikenessTold, verdictOf, visitTold } from "../../web/page-words.mjs";
 import { SessionFile } from "../../web/session-file.mjs";
 import { accepted, filed, followed, namesakeOf, removed, savedAs, savedLater, withOtherFile, withRecordings } from "../../web/filing.mjs";
 import { framesOf, isPlayed, shownOf, sourceOf } from "../../web/replaying.mjs";
@@ -98,6 +98,20 @@ it("an input is called by the number that the command gives it", async () => {
   assert.match(stepTold(bench.state), /^after input 1 \(up\); /);
   await bench.act(lookedAt, 0);
   assert.match(stepTold(bench.state), /^before any input; /);
+});
+
+it("until what is worked on is played, nothing that was played before is said of it", async () => {
+  const bench = await played(1, 0), won = { ...bench.state, played: { ...bench.state.played, isSolved: true } };
+  assert.deepEqual([endTold(won), endTold(bench.state).text], [{ text: "\u2713 solved", isSolved: true }, "not solved"]);
+  for (const change of [(state) => edited(state, OTHER), (state) => withGame(state, OTHER), (state) => fromLevel(state, 1), (state) => inOrder(state, "rows"), (state) => held(edited(state, OTHER)), (state) => withOtherFile(state, fileOf([["one", [OTHER, [1], "background:0,", 0]]]))]) {
+    const next = change(won);
+    assert.deepEqual(endTold(next), { text: "not played yet", isSolved: false });
+    assert.match(stepTold(next), /^as it was played before: after input 1 \(up\)/);
+    assert.match(toldOfLevel(next), /^as it was played before: Simple Block Pushing Game, /);
+  }
+  assert.deepEqual(endTold(beginning(GAME)), { text: "not played yet", isSolved: false });
+  await bench.act(edited, "title Nothing");
+  assert.deepEqual(endTold(bench.state), { text: "not played", isSolved: false });
 });
 
 // ---- one truth about the text
