@@ -5,7 +5,7 @@ import { CLOSES } from "./closes.mjs";
 import { at, fill, make, plural, readable } from "./elements.mjs";
 import { levelsOf } from "./game.mjs";
 import { LevelDrawn } from "./level-drawn.mjs";
-import { clockTold, endTold, faultOfText, nameShown, notesTold, othersTold, ownTold, putBackTold, readingTold, statusOf, stepTold, tabTold, verdictOf } from "./page-words.mjs";
+import { clockTold, endTold, faultOfText, nameShown, notesTold, othersTold, ownTold, putBackTold, readingTold, statusOf, stepTold, tabTold, UNSOLVED, verdictOf } from "./page-words.mjs";
 import { put, putAttribute, say, tell } from "./saying.mjs";
 import { StagesPanel } from "./stages-panel.mjs";
 import { chosenStage, stagesNow } from "./staging.mjs";
@@ -20,7 +20,7 @@ import { countOfOthers, differenceOf, rowsOf, runsOfNow, seenOf } from "./suite.
 const TABS = ["game", "sessions"];
 
 // How a session of the list closed, and what else is to be known of it.
-const toldOf = ({ close, parting, isLookedAt, isOther, isTicked }) => [close ?? "not played", parting && `diverges at frame ${parting.frame}`, isLookedAt && "seen", isOther && "another text", isTicked && "ticks as recorded"].filter(Boolean).join(", ");
+const toldOf = ({ close, parting, isUnsolved, isLookedAt, isOther, isTicked }) => [close ?? "not played", isUnsolved && UNSOLVED, parting && `diverges at frame ${parting.frame}`, isLookedAt && "seen", isOther && "another text", isTicked && "ticks as recorded"].filter(Boolean).join(", ");
 
 // Calls a function only where something of what it reads has changed.
 class Changes {

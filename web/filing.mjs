@@ -5,7 +5,7 @@ import { addedTold, toAdd } from "./findings.mjs";
 import { readingRuns } from "./lines.mjs";
 import { remembering } from "./past.mjs";
 import { framesOf, isPlayed, sourceOf } from "./replaying.mjs";
-import { MOST_SESSIONS, Refusal, SessionFile } from "./session-file.mjs";
+import { MOST_SESSIONS, Refusal, SessionFile, isSolvedWanted } from "./session-file.mjs";
 import { isOther, runWithFrames, runsOfNow, sessionOpened } from "./suite.mjs";
 import { whyNoField } from "./texts.mjs";
 import { RECORDED_ORDER } from "./work.mjs";
@@ -19,7 +19,9 @@ const withFile = (state, file, more) => remembering(state, { ...state, file, isU
 export function accepted(state, numbers) {
   if (numbers.length === 0) return state;
   const file = state.file.withLevels(numbers.map((number) => [number, state.seen.get(number).reached]));
-  return withFile(state, file, { saved: `${plural(numbers.length, "recorded level")} changed` });
+  const unsolved = numbers.filter((number) => isSolvedWanted(file.entries[number]) && !state.seen.get(number).isSolved).length;
+  const demanded = unsolved === 0 ? "" : `; ${plural(unsolved, "session")} must be solved, and ${unsolved === 1 ? "isn't" : "aren't"}`;
+  return withFile(state, file, { saved: `${plural(numbers.length, "recorded level")} changed${demanded}` });
 }
 
 // Whether what is worked on can be saved: it is played to its end, in the order of recorded levels.
@@ -37,7 +39,8 @@ export function savedAs(state, number = null) {
   const former = state.file ?? SessionFile.empty(RECORDINGS), file = number === null ? former.with(entry) : former.withReplaced(number, entry);
   const opened = number ?? file.entries.length - 1;
   const next = withFile({ ...state, work: { ...state.work, opened: null } }, file, { work: { ...state.work, opened }, looked: null });
-  return { ...next, saved: `Saved in ${file.name} as session ${opened}.` };
+  const demanded = isSolvedWanted(file.entries[opened]) && !state.played.isSolved ? " It must be solved, and isn't." : "";
+  return { ...next, saved: `Saved in ${file.name} as session ${opened}.${demanded}` };
 }
 
 const isSameAtHand = (one, other) => one.file === other.file && sourceOf(one) === sourceOf(other) && ["index", "name", "opened"].every((it) => one.work[it] === other.work[it]);

@@ -36,6 +36,7 @@ function sessionTold(state) {
   if (run === null) return null;
   if (parting !== null) return { text: `Diverges at ${partingTold(parting, runWithFrames(state.suite, opened), state.comparison.others[opened], inputs)}.`, close: "differs" };
   const clock = state.isTicked && hasClock(sourceOf(state)) ? ` Played ${WITHOUT_CLOCK}.` : "";
+  if (run.isUnsolved) return { text: `Passed: the last level is the recorded one. But its file says that it must be solved, and it isn't.${clock}`, close: "failed" };
   if (run.close === "passed") return { text: `Passed: the last level is the recorded one.${clock}`, close: "passed" };
   return run.close === "differs" ? { text: `Differs from what was recorded.${sinceTold(state)}${clock}`, close: "differs" } : null;
 }
@@ -116,25 +117,29 @@ export const nameShown = ({ work: { name } }) => name.slice(0, MOST_OF_A_NAME_SH
 
 // ---- the sessions
 
-const failuresOf = (state) => rowsOf(state).filter(isFailure);
+export const UNSOLVED = "no longer solved"; // what is said of a session that passed, and must be solved and isn't
+
+// The sessions that the command fails.
+const failuresOf = (state) => rowsOf(state).filter((row) => isFailure(row) && (row.close !== "passed" || row.isUnsolved));
 
 // "2 differ", "1 stopped", or "3 did not pass" where they ended in several ways.
 function failuresTold(failures) {
-  const closes = [...new Set(failures.map(({ close }) => close))];
-  return closes.length === 1 && closes[0] !== "passed" ? countOf(closes[0], failures.length) : `${failures.length} did not pass`;
+  const closes = [...new Set(failures.map(({ close, isUnsolved }) => (isUnsolved ? UNSOLVED : close)))];
+  return closes.length === 1 ? countOf(closes[0], failures.length) : `${failures.length} did not pass`;
 }
 
 export function tabTold(state) {
   if (state.file === null) return "Sessions";
-  const failures = failuresOf(state).filter(({ close }) => close !== "passed");
+  const failures = failuresOf(state);
   return failures.length > 0 ? `Sessions: ${failuresTold(failures)}` : `Sessions (${state.file.entries.length})`;
 }
 
 function suiteTold(state, runs) {
-  const failures = failuresOf(state).filter(({ close }) => close !== "passed").length, took = `${plural(runs.length, "session")} in ${(state.suite.milliseconds / 1000).toFixed(1)} s`;
+  const failures = failuresOf(state), unsolved = failures.filter(({ isUnsolved }) => isUnsolved).length, broken = failures.length - unsolved, took = `${plural(runs.length, "session")} in ${(state.suite.milliseconds / 1000).toFixed(1)} s`;
   const clocks = state.isTicked ? clocksOf(state) : 0, behind = clocks > 0 ? ` ${clocks} ${clocks === 1 ? "was" : "were"} played ${WITHOUT_CLOCK}.` : "";
   if (runs.length === 0) return { text: "The file has no session.", close: null };
-  if (failures > 0) return { text: `${failures} did not pass: ${took}.${behind}`, close: "differs" };
+  const failed = [broken > 0 && `${broken} did not pass`, unsolved > 0 && `${unsolved} passed, but must be solved and ${unsolved === 1 ? "isn't" : "aren't"}`].filter(Boolean).join(", ");
+  if (failures.length > 0) return { text: `${failed}: ${took}.${behind}`, close: "differs" };
   // no tick where a session was played over something else
   return countOfOthers(state) > 0 ? { text: `All passed, but not all over the text on the left: ${took}.${behind}`, close: null } : { text: `All passed: ${took}.${behind}`, close: clocks > 0 ? null : "passed" };
 }

@@ -1,9 +1,10 @@
 // The sessions of the file in the state of the page: how they closed over the text at hand, which of them is open, and what was seen of it.
 import { Ending, obstacleTold, partingOf } from "./comparing.mjs";
-import { MOST_READ, framesIn, runsOf } from "./lines.mjs";
+import { ONE_MORE } from "./kept-open.mjs";
+import { MOST_READ, framesIn, isOverIn, runsOf } from "./lines.mjs";
 import { isSameList } from "./past.mjs";
 import { framesOf, gameOf, isAtEnd, isPlayed, sourceOf } from "./replaying.mjs";
-import { Refusal, refusalTold } from "./session-file.mjs";
+import { MOST_INPUTS, Refusal, SessionFile, isSolvedWanted, refusalTold, valueOf } from "./session-file.mjs";
 import { isFailure } from "./session-list.mjs";
 import { Clocks, hasClock, isRefusedForClock, playedText } from "./ticks.mjs";
 import { withWork } from "./work.mjs";
@@ -49,6 +50,20 @@ export async function partsPlayed({ file, text, isTicked }, signal) {
   return isRead ? file.partsOver(text, (source) => (source === text ? playedText(source, isTicked) : isTicked ? clocks.playedOf(source) : source)) : null;
 }
 
+// Which sessions passed and aren't solved though they must be: { fault, unsolved }, or null where that was stopped. The last win shows no frame of its own,
+// so they are played again by play(file), with one more input that runs no rule: play that is over shows it then. One with no room for that counts as not
+// solved, as the command has it.
+export async function unsolvedIn(file, lines, play) {
+  const runs = file.entries.some(isSolvedWanted) ? runsOf(lines) : [], numbers = [...runs.keys()].filter((number) => isSolvedWanted(file.entries[number]) && runs[number].close === "passed");
+  const played = numbers.filter((number) => file.entries[number].inputs.length < MOST_INPUTS), longer = played.map((number) => withOneMore(file.entries[number]));
+  const answer = played.length === 0 ? { fault: null, lines: new Uint8Array(0) } : await play(new SessionFile(file.name, new TextEncoder().encode(JSON.stringify(longer))));
+  if (answer === null || answer.fault !== null) return answer;
+  const ends = runsOf(answer.lines), solved = new Set(played.filter((_, place) => isOverIn(answer.lines, ends[place])));
+  return { fault: null, unsolved: new Set(numbers.filter((number) => !solved.has(number))) };
+}
+
+const withOneMore = (entry) => valueOf({ ...entry, inputs: [...entry.inputs, ONE_MORE], rest: [] });
+
 // How many sessions are refused since their games have a clock, or are played without it.
 export function clocksOf(state) {
   if (state.isTicked) return rowsOf(state).filter((row) => row.isTicked).length;
@@ -69,10 +84,13 @@ export function rowsOf(state) {
 function madeRows(state) {
   const runs = runsOfNow(state), { partings = null } = state.comparison ?? {}, isWithClock = clockOf(state);
   return (state.file?.entries ?? []).map(({ name, source }, number) => ({
-    isTicked: state.isTicked && isWithClock(source || state.text),
+    isUnsolved: runs?.[number].isUnsolved ?? false, isTicked: state.isTicked && isWithClock(source || state.text),
     name, close: runs?.[number].close ?? null, frames: runs?.[number].count ?? null, parting: partings?.[number] ?? null, isLookedAt: isSeen(state, number), isOther: isOther(state, number),
   }));
 }
+
+// Whether a session went as it must.
+const isGood = (run) => run?.close === "passed" && !run.isUnsolved;
 
 // The first frame from which on a session goes another way than when all was played last, where it passed then; null where nothing is known.
 function changeOf({ good, suite }, number) {
@@ -105,7 +123,7 @@ function mayMakeWay(state) {
 // Whether a session was opened, and something was done with it since.
 const isGoneOnWith = (state) => state.work.opened !== null && (!isSessionOpen(state) || state.queue.length > 0);
 
-const isBroken = ({ close }) => close === "differs" || close === "stopped";
+const isBroken = ({ close, isUnsolved }) => close === "differs" || close === "stopped" || isUnsolved;
 
 // Opens what is to be looked at once all is played: of a file that was just opened the first failure, unless its one session was opened at once and gone on
 // with; and else the first that broke.
@@ -113,22 +131,24 @@ function showingFailure(state) {
   const { isNew, work, suite } = state, next = { ...state, isNew: false };
   if (isNew) return suite.runs.length === 0 || isGoneOnWith(next) ? next : sessionOpened(next, Math.max(0, rowsOf(next).findIndex(isFailure)));
   if (work.opened !== null && isBroken(suite.runs[work.opened])) return { ...next, since: isSessionOpen(next) ? changeOf(next, work.opened) : null };
-  const first = suite.runs.findIndex((run, number) => isBroken(run) && state.good?.runs[number]?.close === "passed");
+  const first = suite.runs.findIndex((run, number) => isBroken(run) && isGood(state.good?.runs[number]));
   return first < 0 || !mayMakeWay(next) ? next : sessionOpened(next, first);
 }
 
-// Takes what the sessions came to: { fault, lines }, in so many milliseconds, or null where it was stopped.
+const runsOfAnswer = ({ lines, unsolved }) => runsOf(lines).map((run, number) => ({ ...run, isUnsolved: unsolved.has(number) }));
+
+// Takes what the sessions came to: { fault, lines, unsolved }, in so many milliseconds, or null where it was stopped.
 export function suiteCame(state, { file, text, order, isTicked }, answer, milliseconds) {
   if (wantedSuite(state) === null || !isOfNow({ file, text, order, isTicked }, state)) return state;
   const why = answer === null ? "Stopped: not all sessions were played." : answer.fault === null ? null : `${file.name} is not played: ${refusalTold(answer.fault)}.`;
-  const suite = { file, text, order, isTicked, why, lines: why === null ? answer.lines : null, runs: why === null ? runsOf(answer.lines) : null, milliseconds };
+  const suite = { file, text, order, isTicked, why, lines: why === null ? answer.lines : null, runs: why === null ? runsOfAnswer(answer) : null, milliseconds };
   const next = { ...state, suite, comparison: null };
   if (why !== null) return { ...next, isNew: false };
   return { ...showingFailure(next), saved: state.saved, good: isNoWorse(state.good, suite) ? suite : state.good };
 }
 
 // Whether all sessions still pass that passed before.
-const isNoWorse = (good, { runs }) => good === null || good.runs.every(({ close }, number) => close !== "passed" || runs[number]?.close === "passed");
+const isNoWorse = (good, { runs }) => good === null || good.runs.every((run, number) => !isGood(run) || isGood(runs[number]));
 
 // Plays all sessions again, and shows the first that doesn't pass.
 export const playedAgain = (state) => ({ ...state, suite: null, isHeld: false, isNew: state.file !== null, saved: "", told: null });
@@ -146,7 +166,7 @@ export const sessionOf = (state) => (isSessionOpen(state) ? state.file.entries[s
 export function sessionOpened(state, number) {
   const { name, source, inputs, index } = state.file.entries[number], parting = state.comparison?.partings[number] ?? null;
   const work = { own: source === "" || source === state.text ? null : source, index, inputs, name, opened: number };
-  const isPassed = runsOfNow(state)?.[number].close === "passed" && parting === null;
+  const isPassed = isGood(runsOfNow(state)?.[number]) && parting === null;
   const next = withWork(state, work, { looked: parting?.frame ?? (isPassed ? 0 : null) });
   return runsOfNow(next) !== null && isBroken(next.suite.runs[number]) ? { ...next, since: changeOf(next, number) } : next;
 }
@@ -159,14 +179,14 @@ function obstacleOf(game, run, reached, recorded, order) {
   return lastObstacle.why;
 }
 
-// What the session that is open reached beside what was recorded: { reached, recorded, why }, where both are on the screen and differ; `why` says what
-// stands against accepting it. Else null.
+// What the session that is open reached beside what was recorded: { reached, recorded, isSolved, why }, where both are on the screen and differ; `isSolved` is
+// whether it won, and `why` says what stands against accepting it. Else null.
 export function differenceOf(state) {
   const entry = sessionOf(state), run = entry === null ? null : runsOfNow(state)?.[state.work.opened] ?? null;
   if (run === null || run.close !== "differs" || !isPlayed(state) || !isAtEnd(state) || (state.comparison?.partings[state.work.opened] ?? null) !== null) return null;
   const reached = framesOf(state).at(-1)?.level;
   if (reached === undefined) return null;
-  return { reached, recorded: entry.level, why: obstacleOf(gameOf(sourceOf(state)), run, reached, entry.level, state.order) };
+  return { reached, recorded: entry.level, isSolved: state.played.isSolved, why: obstacleOf(gameOf(sourceOf(state)), run, reached, entry.level, state.order) };
 }
 
 // The state where what is on the screen counts as seen.

@@ -173,6 +173,41 @@ it("the text of a file is taken to hand where nothing was written yet, and else 
   assert.equal(another.state.text, BROKEN);
 });
 
+// ---- what must be solved, as its file says
+
+const DAYS = (name) => DAY.find(([it]) => it === name)[1].slice(1), [WON, HALF] = ["the second level alone", "half way through the first"].map(DAYS);
+
+it("a session that passes and must be solved is told where it isn't, and only where the command demands it", async () => {
+  const bench = new Bench(), wanted = (name, body, ...rest) => [name, ["", ...body], ...rest];
+  await bench.act(withOtherFile, fileOf([wanted("won", WON, "solved"), wanted("half", HALF, 5, "solved"), wanted("plain", HALF), wanted("other", HALF, true, 1, ["x"], "so"), wanted("in", [...HALF, "solved"])]));
+  assert.deepEqual(rowsOf(bench.state).map(({ close, isUnsolved }) => [close, isUnsolved]), [["passed", false], ["passed", true], ...Array(3).fill(["passed", false])]);
+  assert.match(verdictOf(bench.state, null).text, /^1 passed, but must be solved and isn't: 5 sessions in /);
+  assert.deepEqual([verdictOf(bench.state, null).close, tabTold(bench.state), bench.state.work.opened], ["differs", "Sessions: 1 no longer solved", 1]);
+  assert.deepEqual(statusOf(bench.state), { text: "Passed: the last level is the recorded one. But its file says that it must be solved, and it isn't.", close: "failed" });
+  await bench.act(withOtherFile, fileOf([wanted("won", WON, "solved"), wanted("plain", HALF)]));
+  assert.deepEqual([verdictOf(bench.state, null).close, tabTold(bench.state)], ["passed", "Sessions (2)"]);
+  await bench.act(edited, GAME.replace("All Target on Crate", "All Wall on Crate"));
+  assert.deepEqual([tabTold(bench.state), bench.state.work.opened], ["Sessions: 1 no longer solved", 0]);
+});
+
+it("what is accepted or replaced and isn't solved though it must be is told as that", async () => {
+  const bench = new Bench();
+  await bench.act(withOtherFile, fileOf([["won", ["", [1], "background:0,", 0], "solved"], ["plain", ["", [1], "background:0,", 0]]]));
+  for (const number of [0, 1]) {
+    await bench.act(sessionOpened, number);
+    await bench.act(lookedAt, Infinity);
+  }
+  await bench.act((state) => accepted(state, seenOf(state)));
+  assert.deepEqual([bench.state.saved, tabTold(bench.state)], ["2 recorded levels changed; 1 session must be solved, and isn't", "Sessions: 1 no longer solved"]);
+  await bench.act(sessionOpened, 0);
+  await bench.act(pressed, 1);
+  await bench.act(savedAs, 0);
+  assert.deepEqual([bench.state.saved, entriesIn(bench.state)[0].at(-1), tabTold(bench.state)], ["Saved in mine.json as session 0. It must be solved, and isn't.", "solved", "Sessions: 1 no longer solved"]);
+  await bench.act(sessionOpened, 1);
+  await bench.act(savedAs, 1);
+  assert.equal(bench.state.saved, "Saved in mine.json as session 1.");
+});
+
 // ---- all is played at each edit, and the first that broke is shown
 
 it("the first session that breaks is shown where nothing is in the way, and else the tab tells it", async () => {
