@@ -152,6 +152,7 @@ export class Drawn {
     put(at("save"), { disabled: !isSavable(state) });
     put(at("replace"), { hidden: number < 0, disabled: !isSavable(state) });
     say("save", number < 0 ? "Save" : "Add another");
+    say("replace", `Replace session ${number}`);
     put(at("name"), { value: nameShown(state) });
     for (const button of at("pad").querySelectorAll("button")) put(button, { disabled: !isPlayable && isPlayed(state) });
     say("saved", state.saved);

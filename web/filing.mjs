@@ -29,8 +29,11 @@ export const isSavable = (state) => isPlayed(state) && state.played.cause === nu
 
 const nameOf = (state) => state.work.name || NAMELESS;
 
-// The number of the session that has the name which is written, or -1.
-export const namesakeOf = (state) => (state.file?.entries ?? []).findIndex((entry) => entry.name === nameOf(state));
+// The number of the session that has the name which is written, or -1. Of several with that name it is the one that is open.
+export function namesakeOf(state) {
+  const entries = state.file?.entries ?? [], name = nameOf(state), { opened } = state.work;
+  return entries[opened]?.name === name ? opened : entries.findIndex((entry) => entry.name === name);
+}
 
 // Saves the recording as a session, in the place of another where one is named. A recording over the text at hand has no text of its own.
 export function savedAs(state, number = null) {

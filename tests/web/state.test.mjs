@@ -349,6 +349,20 @@ it("a session that was removed or replaced is put back", async () => {
   assert.equal(entriesIn(bench.state).length, 1);
 });
 
+it("of two sessions with one name the one that is open is replaced", async () => {
+  const bench = new Bench(), inputs = () => entriesIn(bench.state).map(([, [, it]]) => it);
+  await bench.act(withOtherFile, fileOf([["a", ["", [2, 3], "", 0]], ["a", ["", [1], "", 1]], ["b", ["", [0], "", 0]]]));
+  await bench.act(sessionOpened, 1);
+  await bench.act(lookedAt, Infinity);
+  await bench.act(pressed, 2);
+  await bench.act(savedAs, namesakeOf(bench.state));
+  assert.deepEqual(inputs(), [[2, 3], [1, 2], [0]]);
+  await bench.act(named, "b");
+  assert.equal(namesakeOf(bench.state), 2);
+  await bench.act((state) => named(begunAnew(state), "a"));
+  assert.equal(namesakeOf(bench.state), 0);
+});
+
 it("what waits to be saved is not what came to hand meanwhile", async () => {
   const others = ["keep", "keep too"].map((name) => [name, [GAME, [3], "background:0,", 0]]);
   for (const change of [(state) => withOtherFile(state, fileOf(others)), (state) => withOtherFile(state, null), (state) => named(state, "another"), begunAnew, (state) => withGame(state, WON_BY_A_MOVE)]) {
