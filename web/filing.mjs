@@ -64,8 +64,6 @@ export function followed(state) {
   return { ...next, saved: `${plural(numbers.length, "session")} ${numbers.length === 1 ? "follows" : "follow"} the text on the left` };
 }
 
-export const filed = (state) => ({ ...state, isUnsaved: false });
-
 // Another file takes the place of the one that is open, or none. Where it has one session, that is opened at once, and played while the file is.
 export function withOtherFile(state, file) {
   const work = { ...state.work, opened: null }, own = file === null ? null : theOneText(file);

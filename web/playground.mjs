@@ -14,7 +14,7 @@ import { inPieces } from "./pieces.mjs";
 import { Runner } from "./running.mjs";
 import { Refusal, SessionFile } from "./session-file.mjs";
 import { isFailure } from "./session-list.mjs";
-import { RECORDINGS, comparing, filed, savedLater, withComparison, withOtherFile, withRecordings } from "./filing.mjs";
+import { RECORDINGS, comparing, savedLater, withComparison, withOtherFile, withRecordings } from "./filing.mjs";
 import { framesOf, isAtEnd, shownOf } from "./replaying.mjs";
 import { keepingTold, visitTold } from "./page-words.mjs";
 import { say } from "./saying.mjs";
@@ -133,10 +133,10 @@ class Playground {
     at("stage").focus({ preventScroll: true });
   }
 
+  // Hands the file to the browser. Nothing tells whether that wrote it, so what was changed of it can be put back as before.
   saveFile() {
     const { name, bytes } = this.state.file;
     download(name.endsWith(".json") ? name : RECORDINGS, bytes);
-    this.act(filed);
   }
 
   // ---- files, and what is kept

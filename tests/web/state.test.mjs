@@ -8,7 +8,7 @@ import { stateFrom, stateOfVisit } from "../../web/kept-work.mjs";
 import { playedBy } from "../../web/page-engine.mjs";
 import { endTold, faultOfText, othersTold, ownTold, putBackTold, statusOf, stepTold, tabTold, toldOfLevel, unlikenessTold, verdictOf, visitTold } from "../../web/page-words.mjs";
 import { SessionFile } from "../../web/session-file.mjs";
-import { accepted, filed, followed, namesakeOf, removed, savedAs, savedLater, withOtherFile, withRecordings } from "../../web/filing.mjs";
+import { accepted, followed, namesakeOf, removed, savedAs, savedLater, withOtherFile, withRecordings } from "../../web/filing.mjs";
 import { framesOf, isPlayed, shownOf, sourceOf } from "../../web/replaying.mjs";
 import { differenceOf, playedAgain, rowsOf, seenOf, sessionOf, sessionOpened } from "../../web/suite.mjs";
 import { beginning, begunAnew, cutBack, edited, fromLevel, held, inOrder, lookedAt, lookedAtInput, named, pressed, putBack, released, withGame, withOwnText } from "../../web/work.mjs";
@@ -327,7 +327,7 @@ it("a file that was closed or replaced unsaved is put back, and what is put back
   assert.deepEqual([bench.state.work.inputs, bench.state.work.opened], [[...PUSHING, 1], null]);
   await bench.act(putBack);
   assert.equal(bench.state.file.name, "recordings.json");
-  await bench.act(filed);
+  await bench.act((state) => ({ ...state, isUnsaved: false }));
   await bench.act(withOtherFile, fileOf(DAY, "b.json"));
   while (bench.state.past.length > 0 && bench.state.work.inputs.length !== 4) await bench.act(putBack);
   assert.equal(bench.state.work.opened, null);
