@@ -56,10 +56,18 @@ const NO_ROOM = "This browser had no room for all that was changed just before t
 
 const WAITING = "What closed tabs left waits, since no more can be put back here: open this page in another tab to go on with it.";
 
+const GONE = "Nothing is kept any more of this tab's last visit: it was deleted from this browser, or another tab has taken it over, and can put it back.";
+
+// What is said of what the database had, and has no more; or null.
+function lackingTold({ files, past }) {
+  const parts = [files > 0 && plural(files, "sessions file"), past > 0 && `${plural(past, "thing")} that could be put back`].filter(Boolean);
+  return parts.length === 0 ? null : `Of the last visit this browser has no more ${parts.join(" and ")}: what it kept was deleted meanwhile.`;
+}
+
 // What is said of what was kept of earlier visits, or null.
-export function visitTold({ unreadable, isCut, waiting, whyNot }) {
+export function visitTold({ unreadable, isCut, waiting, whyNot, isGone = false, lacking = { files: 0, past: 0 } }) {
   const fieldless = whyNot === null ? [] : [noFieldTold("The text that this browser kept", whyNot)];
-  const told = [...fieldless, ...(unreadable > 0 ? [UNREADABLE] : []), ...(isCut ? [NO_ROOM] : []), ...(waiting > 0 ? [WAITING] : [])];
+  const told = [...fieldless, ...(unreadable > 0 ? [UNREADABLE] : []), ...(isCut ? [NO_ROOM] : []), ...(waiting > 0 ? [WAITING] : []), ...(isGone ? [GONE] : []), lackingTold(lacking)].filter(Boolean);
   return told.length === 0 ? null : told.join(" ");
 }
 

@@ -192,7 +192,7 @@ class Playground {
 
 async function start() {
   const example = json("example-game"), [engine, store] = await Promise.all([startEngine(), Store.open()]);
-  const { state, read, ...visit } = stateOfVisit(store.entries, example), told = visitTold({ ...visit, isCut: visit.isCut || store.isCut });
+  const { state, read, ...visit } = stateOfVisit(store.entries, example), told = visitTold({ ...visit, isCut: visit.isCut || store.isCut, isGone: store.isGone });
   await store.goOn(read);
   const page = new Playground(state, engine, store);
   listen(page);
