@@ -19,8 +19,7 @@ const withFile = (state, file, more) => remembering(state, { ...state, file, isU
 export function accepted(state, numbers) {
   if (numbers.length === 0) return state;
   const file = state.file.withLevels(numbers.map((number) => [number, state.seen.get(number).reached]));
-  const unsolved = numbers.filter((number) => isSolvedWanted(file.entries[number]) && !state.seen.get(number).isSolved).length;
-  const demanded = unsolved === 0 ? "" : `; ${plural(unsolved, "session")} must be solved, and ${unsolved === 1 ? "isn't" : "aren't"}`;
+  const isUnsolved = numbers.some((number) => isSolvedWanted(file.entries[number]) && !state.seen.get(number).isSolved), demanded = isUnsolved ? "; not all are solved that must be" : "";
   return withFile(state, file, { saved: `${plural(numbers.length, "recorded level")} changed${demanded}` });
 }
 

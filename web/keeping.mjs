@@ -43,7 +43,7 @@ async function keptUnder(name, late) {
 
 const lastOf = ({ value, note }, name) => Math.max(numberKept(value, name), numberKept(note, name));
 
-// What this browser keeps for one tab. `isGone` is whether nothing is kept under the name that this tab had.
+// What this browser keeps for one tab; `isGone` is whether it has no more what it kept.
 export class Store {
   // The store of this tab. `entries` are what was kept, [{ name, value, note }]: first what this tab goes on with, and then what closed tabs left, the newest first.
   static async open(most = MOST_OF_OPENING) {

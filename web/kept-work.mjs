@@ -120,12 +120,11 @@ function withField(state) {
 }
 
 // The state to begin with, of all entries that were kept: { state, read, unreadable, isCut, waiting, whyNot, lacking }, where `read` are the names of those that it
-// has in it, `isCut` is whether there was no room for all of one, `waiting` how many stay where they are, since there is no room to put them back, `whyNot`
-// why its text isn't put into the field, or null, and `lacking` what a note left out and the database has no more, { files, past }.
+// has in it, `isCut` is whether there was no room for all of one, `waiting` how many stay where they are, since there is no room to put them back, and
+// `whyNot` why its text isn't put into the field, or null.
 export function stateOfVisit(entries, example) {
   const found = entries.map((entry) => ({ ...entry, state: stateOfEntry(entry, example) })), readable = found.filter(({ state }) => state !== null);
   const [first = { state: beginning(example) }, ...others] = readable, { state, why: whyNot } = withField(first.state), { taken, waiting } = takenBeside(others, state);
   const read = readable.map(({ name }) => name).filter((name) => !waiting.includes(name)), isCut = readable.some(({ note }) => note?.isCut);
-  const lacking = entries.map(lackingOf).reduce((sum, { files, past }) => ({ files: sum.files + files, past: sum.past + past }), { files: 0, past: 0 });
-  return { state: { ...state, past: [...taken, ...state.past] }, read, unreadable: found.length - readable.length, isCut, waiting: waiting.length, whyNot, lacking };
+  return { state: { ...state, past: [...taken, ...state.past] }, read, unreadable: found.length - readable.length, isCut, waiting: waiting.length, whyNot, lacking: entries.map(lackingOf).filter(Boolean) };
 }

@@ -7,7 +7,6 @@ export const KINDS = ["start", "move", "undo", "restart", "load", "tick", "over"
 const BEFORE_OVER = ["move", "tick", "over"]; // of what kinds the frame is before one that shows that play is over
 export const MOST_READ = 2 ** 24; // bytes of lines that are read without giving the thread back: those of one frame, or of a run
 const NEW_LINE = 0x0a;
-const MOST_BEFORE_LEVEL = 80; // bytes of a frame's line
 const CLOSE_LETTER = 0x63; // a close begins with its cause or itself, and a frame with `at`
 
 const isCount = (value) => Number.isInteger(value) && value >= 0;
@@ -39,11 +38,11 @@ export function runsOf(bytes) {
   return runs;
 }
 
-// Whether the last frame of a run in its lines shows that play is over. No more of it is read than what stands before its level.
+// Whether the last frame of a run in its lines shows that play is over: what stands before its level tells.
 export function isOverIn(bytes, { end, count }) {
   if (count === 0) return false;
   const begin = bytes.lastIndexOf(NEW_LINE, end - 2) + 1;
-  return new TextDecoder().decode(bytes.subarray(begin, Math.min(end, begin + MOST_BEFORE_LEVEL))).includes('"kind":"over"');
+  return new TextDecoder().decode(bytes.subarray(begin, Math.min(end, begin + 80))).includes('"kind":"over"');
 }
 
 // The frames of a run in its lines. Each is read once it is asked for, and the last alone is kept: a run may have more than a page has time and memory for.

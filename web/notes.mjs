@@ -54,7 +54,7 @@ function hasRoom(name, part) {
 }
 
 // Notes a value under a name, and whether there was room for all of it: else its text and its recording are noted alone. `isThere` says of its file, and
-// of each thing that can be put back, whether the database has it; what is left out for that is told by `without`.
+// of each thing that can be put back, whether the database has it; `without` tells what is left out.
 export function noteDown(name, value, isThere) {
   const { file, ...others } = value, least = { ...others, past: [] };
   const past = value.past.filter((lost) => !isThere(lost)), without = { isFile: Boolean(file) && isThere(file), past: value.past.length - past.length };
@@ -77,9 +77,9 @@ export function withNote(value, note) {
   return { ...value, ...note, past: [...(value.past ?? []).filter((lost) => !again.has(keyOfValue(lost))), ...note.past] };
 }
 
-// What a note left out since the database had it, and what that has no more, as where it was deleted meanwhile: so many files, and things to be put back.
+// What a note left out since the database had it, and that has no more, as where it was deleted: { isFile, past }, or null.
 export function lackingOf({ value, note = null }) {
-  if (value === null || note === null || !isBehind(note, value)) return { files: 0, past: 0 };
-  const { without } = note, there = Array.isArray(value?.past) ? value.past.length : 0;
-  return { files: without?.isFile === true && !value?.file ? 1 : 0, past: Math.max(0, numberKept(without, "past") - there) };
+  if (value === null || note === null || !isBehind(note, value)) return null;
+  const isFile = note.without?.isFile === true && !value?.file, past = numberKept(note.without, "past") - (value?.past?.length ?? 0);
+  return isFile || past > 0 ? { isFile, past } : null;
 }

@@ -32,10 +32,10 @@ function isRecordingLost(before, after) {
   return !after.past.some(isIn);
 }
 
-// Whether a recording's own text is nowhere any more, also where it has no inputs yet: one that can't stand in the field has no other place.
+// Whether a recording's own text is nowhere any more: one that can't stand in the field has no other place.
 function isOwnTextLost({ work: { own = null }, text }, after) {
-  if (own === null || own.trim() === "" || own === text) return false;
-  const isIn = ({ text: there, work, file }) => there === own || work?.own === own || (file?.entries ?? []).some(({ source }) => source === own);
+  if (own === null || own === text) return false;
+  const isIn = ({ text: there, work, file }) => there === own || work?.own === own || file?.entries.some(({ source }) => source === own);
   return !isIn(after) && !after.past.some(isIn);
 }
 

@@ -133,7 +133,7 @@ class Playground {
     at("stage").focus({ preventScroll: true });
   }
 
-  // Hands the file to the browser. Nothing tells whether that wrote it, so what was changed of it can be put back as before.
+  // Nothing tells whether the browser writes it, so it counts as changed as before.
   saveFile() {
     const { name, bytes } = this.state.file;
     download(name.endsWith(".json") ? name : RECORDINGS, bytes);

@@ -31,7 +31,7 @@ export function isPlayed(state) {
 
 // ---- the frames of the recording
 
-// Those that were played last: until what is worked on now is played, they are of what was before.
+// Until what is worked on is played, they are those of what was before.
 export const framesOf = (state) => state.played?.frames ?? [];
 
 // The text that these frames are of.

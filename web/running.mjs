@@ -158,9 +158,8 @@ export class Runner {
 
   // How all sessions closed, and which of them must be solved and aren't.
   async playSuite(wanted, options) {
-    const play = (file, more) => this.playFile({ ...wanted, file }, { ...options, ...more }), answer = await play(wanted.file);
-    if (answer === null || answer.fault !== null) return answer;
-    const demanded = await unsolvedIn(wanted.file, answer.lines, (file) => play(file, { progress: () => {} }));
+    const answer = await this.playFile(wanted, options), again = (file) => this.playFile({ ...wanted, file }, { ...options, progress: () => {} });
+    const demanded = answer?.fault === null ? await unsolvedIn(wanted.file, answer.lines, again) : answer;
     return demanded && { ...answer, ...demanded };
   }
 

@@ -14,7 +14,7 @@ export function listed(rows, close, text) {
   return [...rows.keys()].filter((number) => isOf(rows[number], close) && rows[number].name.toLowerCase().includes(wanted));
 }
 
-// Whether a session needs a look: it did not pass, isn't solved though it must be, or diverges from the run that it is compared with.
+// Whether a session needs a look: it did not pass, or isn't solved and must be, or diverges from the run that it is compared with.
 export const isFailure = (row) => row.parting !== null || row.isUnsolved === true || (row.close !== null && row.close !== "passed");
 
 // The next of some numbers behind (or before) one that is open, round and round if that is wanted; null where there is none.
@@ -25,7 +25,7 @@ export function following(numbers, open, step, { isRound = true, placeOf = (numb
 }
 
 export class SessionList {
-  // A row is { name, close (null: not played), frames, parting, isUnsolved (where it passed, and must be solved and isn't) }. `page` is what differs: open(number) opens a session, toldOf(row) tells how it closed,
+  // A row is { name, close (null: not played), frames, parting, isUnsolved }. `page` is what differs: open(number) opens a session, toldOf(row) tells how it closed,
   // toldOfCount(listed, all) how many are listed, refilter() is called where a filter changes; `closes` have buttons, those of `always` also where there is
   // none; with `areFailuresFirst` failures come first, and the next one isn't sought round and round. Where no row is left, `elsewhere` gets the focus.
   constructor(page) {

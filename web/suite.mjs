@@ -4,7 +4,7 @@ import { ONE_MORE } from "./kept-open.mjs";
 import { MOST_READ, framesIn, isOverIn, runsOf } from "./lines.mjs";
 import { isSameList } from "./past.mjs";
 import { framesOf, gameOf, isAtEnd, isPlayed, sourceOf } from "./replaying.mjs";
-import { MOST_INPUTS, Refusal, SessionFile, isSolvedWanted, refusalTold, valueOf } from "./session-file.mjs";
+import { MOST_INPUTS, Refusal, SessionFile, isSolvedWanted, refusalTold } from "./session-file.mjs";
 import { isFailure } from "./session-list.mjs";
 import { Clocks, hasClock, isRefusedForClock, playedText } from "./ticks.mjs";
 import { withWork } from "./work.mjs";
@@ -50,19 +50,19 @@ export async function partsPlayed({ file, text, isTicked }, signal) {
   return isRead ? file.partsOver(text, (source) => (source === text ? playedText(source, isTicked) : isTicked ? clocks.playedOf(source) : source)) : null;
 }
 
-// Which sessions passed and aren't solved though they must be: { fault, unsolved }, or null where that was stopped. The last win shows no frame of its own,
-// so they are played again by play(file), with one more input that runs no rule: play that is over shows it then. One with no room for that counts as not
-// solved, as the command has it.
-export async function unsolvedIn(file, lines, play) {
-  const runs = file.entries.some(isSolvedWanted) ? runsOf(lines) : [], numbers = [...runs.keys()].filter((number) => isSolvedWanted(file.entries[number]) && runs[number].close === "passed");
-  const played = numbers.filter((number) => file.entries[number].inputs.length < MOST_INPUTS), longer = played.map((number) => withOneMore(file.entries[number]));
-  const answer = played.length === 0 ? { fault: null, lines: new Uint8Array(0) } : await play(new SessionFile(file.name, new TextEncoder().encode(JSON.stringify(longer))));
+// Which sessions passed and aren't solved though they must be: { fault, unsolved }, or null where that was stopped. Lines don't show the last win: it is seen
+// with one more input, by play(file).
+export async function unsolvedIn({ name, entries }, lines, play) {
+  const runs = entries.some(isSolvedWanted) ? runsOf(lines) : [], unsolved = new Set([...runs.keys()].filter((number) => isSolvedWanted(entries[number]) && runs[number].close === "passed"));
+  const played = [...unsolved].filter((number) => entries[number].inputs.length < MOST_INPUTS), longer = played.map((number) => [name, bodyWithOneMore(entries[number])]);
+  if (played.length === 0) return { fault: null, unsolved };
+  const answer = await play(new SessionFile(name, new TextEncoder().encode(JSON.stringify(longer))));
   if (answer === null || answer.fault !== null) return answer;
-  const ends = runsOf(answer.lines), solved = new Set(played.filter((_, place) => isOverIn(answer.lines, ends[place])));
-  return { fault: null, unsolved: new Set(numbers.filter((number) => !solved.has(number))) };
+  runsOf(answer.lines).forEach((run, place) => isOverIn(answer.lines, run) && unsolved.delete(played[place]));
+  return { fault: null, unsolved };
 }
 
-const withOneMore = (entry) => valueOf({ ...entry, inputs: [...entry.inputs, ONE_MORE], rest: [] });
+const bodyWithOneMore = ({ source, inputs, level, index }) => [source, [...inputs, ONE_MORE], level, index];
 
 // How many sessions are refused since their games have a clock, or are played without it.
 export function clocksOf(state) {
@@ -89,7 +89,6 @@ function madeRows(state) {
   }));
 }
 
-// Whether a session went as it must.
 const isGood = (run) => run?.close === "passed" && !run.isUnsolved;
 
 // The first frame from which on a session goes another way than when all was played last, where it passed then; null where nothing is known.
@@ -135,13 +134,11 @@ function showingFailure(state) {
   return first < 0 || !mayMakeWay(next) ? next : sessionOpened(next, first);
 }
 
-const runsOfAnswer = ({ lines, unsolved }) => runsOf(lines).map((run, number) => ({ ...run, isUnsolved: unsolved.has(number) }));
-
 // Takes what the sessions came to: { fault, lines, unsolved }, in so many milliseconds, or null where it was stopped.
 export function suiteCame(state, { file, text, order, isTicked }, answer, milliseconds) {
   if (wantedSuite(state) === null || !isOfNow({ file, text, order, isTicked }, state)) return state;
   const why = answer === null ? "Stopped: not all sessions were played." : answer.fault === null ? null : `${file.name} is not played: ${refusalTold(answer.fault)}.`;
-  const suite = { file, text, order, isTicked, why, lines: why === null ? answer.lines : null, runs: why === null ? runsOfAnswer(answer) : null, milliseconds };
+  const suite = { file, text, order, isTicked, why, lines: why === null ? answer.lines : null, runs: why === null ? runsOf(answer.lines).map((run, number) => ({ ...run, isUnsolved: answer.unsolved.has(number) })) : null, milliseconds };
   const next = { ...state, suite, comparison: null };
   if (why !== null) return { ...next, isNew: false };
   return { ...showingFailure(next), saved: state.saved, good: isNoWorse(state.good, suite) ? suite : state.good };
@@ -179,8 +176,8 @@ function obstacleOf(game, run, reached, recorded, order) {
   return lastObstacle.why;
 }
 
-// What the session that is open reached beside what was recorded: { reached, recorded, isSolved, why }, where both are on the screen and differ; `isSolved` is
-// whether it won, and `why` says what stands against accepting it. Else null.
+// What the session that is open reached beside what was recorded: { reached, recorded, isSolved, why }, where both are on the screen and differ; `why` says
+// what stands against accepting it. Else null.
 export function differenceOf(state) {
   const entry = sessionOf(state), run = entry === null ? null : runsOfNow(state)?.[state.work.opened] ?? null;
   if (run === null || run.close !== "differs" || !isPlayed(state) || !isAtEnd(state) || (state.comparison?.partings[state.work.opened] ?? null) !== null) return null;

@@ -176,7 +176,7 @@ test("where the database was deleted while a tab was open, the next visit says w
   browser.leave();
   const next = await Visit.of();
   assert.deepEqual([next.state.file, next.state.past, inputsOf(next.state), next.state.text], [null, [], [1], LONG[1]]);
-  assert.equal(next.told, "Of the last visit this browser has no more 1 sessions file and 1 thing that could be put back: what it kept was deleted meanwhile.");
+  assert.equal(next.told, "What this browser kept was deleted: of the last visit a sessions file and 1 thing to put back can't be read any more.");
   await next.written();
   browser.leave();
   const again = await Visit.of();
@@ -184,7 +184,7 @@ test("where the database was deleted while a tab was open, the next visit says w
   await again.written();
   browser.database.entries.clear();
   browser.leave();
-  assert.match((await Visit.of()).told, /^Nothing is kept any more of this tab's last visit/);
+  assert.match((await Visit.of()).told, /^Nothing is kept of this tab's last visit/);
   browser.close();
   browser.database.entries.clear();
   assert.equal((await Visit.of()).told, null);

@@ -181,9 +181,9 @@ it("a session that passes and must be solved is told where it isn't, and only wh
   const bench = new Bench(), wanted = (name, body, ...rest) => [name, ["", ...body], ...rest];
   await bench.act(withOtherFile, fileOf([wanted("won", WON, "solved"), wanted("half", HALF, 5, "solved"), wanted("plain", HALF), wanted("other", HALF, true, 1, ["x"], "so"), wanted("in", [...HALF, "solved"])]));
   assert.deepEqual(rowsOf(bench.state).map(({ close, isUnsolved }) => [close, isUnsolved]), [["passed", false], ["passed", true], ...Array(3).fill(["passed", false])]);
-  assert.match(verdictOf(bench.state, null).text, /^1 passed, but must be solved and isn't: 5 sessions in /);
+  assert.match(verdictOf(bench.state, null).text, /^1 no longer solved: 5 sessions in /);
   assert.deepEqual([verdictOf(bench.state, null).close, tabTold(bench.state), bench.state.work.opened], ["differs", "Sessions: 1 no longer solved", 1]);
-  assert.deepEqual(statusOf(bench.state), { text: "Passed: the last level is the recorded one. But its file says that it must be solved, and it isn't.", close: "failed" });
+  assert.deepEqual(statusOf(bench.state), { text: "Passed: the last level is the recorded one. But it must be solved, and isn't.", close: "failed" });
   await bench.act(withOtherFile, fileOf([wanted("won", WON, "solved"), wanted("plain", HALF)]));
   assert.deepEqual([verdictOf(bench.state, null).close, tabTold(bench.state)], ["passed", "Sessions (2)"]);
   await bench.act(edited, GAME.replace("All Target on Crate", "All Wall on Crate"));
@@ -198,7 +198,7 @@ it("what is accepted or replaced and isn't solved though it must be is told as t
     await bench.act(lookedAt, Infinity);
   }
   await bench.act((state) => accepted(state, seenOf(state)));
-  assert.deepEqual([bench.state.saved, tabTold(bench.state)], ["2 recorded levels changed; 1 session must be solved, and isn't", "Sessions: 1 no longer solved"]);
+  assert.deepEqual([bench.state.saved, tabTold(bench.state)], ["2 recorded levels changed; not all are solved that must be", "Sessions: 1 no longer solved"]);
   await bench.act(sessionOpened, 0);
   await bench.act(pressed, 1);
   await bench.act(savedAs, 0);
