@@ -23,8 +23,8 @@ export function accepted(state, numbers) {
   return withFile(state, file, { saved: `${plural(numbers.length, "recorded level")} changed${demanded}` });
 }
 
-// Whether what is worked on can be saved: it is played to its end, in the order of recorded levels.
-export const isSavable = (state) => isPlayed(state) && state.played.cause === null && framesOf(state).length > 0 && state.queue.length === 0;
+// Whether what is worked on can be saved: it is played to its end, and no ghost is seen in its place.
+export const isSavable = (state) => !state.ghost && isPlayed(state) && state.played.cause === null && framesOf(state).length > 0 && state.queue.length === 0;
 
 const nameOf = (state) => state.work.name || NAMELESS;
 
