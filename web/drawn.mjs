@@ -5,7 +5,7 @@ import { CLOSES } from "./closes.mjs";
 import { at, fill, make, plural, readable } from "./elements.mjs";
 import { levelsOf } from "./game.mjs";
 import { LevelDrawn } from "./level-drawn.mjs";
-import { clockTold, faultOfText, nameShown, notesTold, othersTold, ownTold, putBackTold, readingTold, statusOf, stepTold, tabTold, verdictOf } from "./page-words.mjs";
+import { clockTold, endTold, faultOfText, nameShown, notesTold, othersTold, ownTold, putBackTold, readingTold, statusOf, stepTold, tabTold, UNSOLVED, verdictOf } from "./page-words.mjs";
 import { put, putAttribute, say, tell } from "./saying.mjs";
 import { StagesPanel } from "./stages-panel.mjs";
 import { chosenStage, stagesNow } from "./staging.mjs";
@@ -20,7 +20,7 @@ import { countOfOthers, differenceOf, rowsOf, runsOfNow, seenOf } from "./suite.
 const TABS = ["game", "sessions"];
 
 // How a session of the list closed, and what else is to be known of it.
-const toldOf = ({ close, parting, isLookedAt, isOther, isTicked }) => [close ?? "not played", parting && `diverges at frame ${parting.frame}`, isLookedAt && "seen", isOther && "another text", isTicked && "ticks as recorded"].filter(Boolean).join(", ");
+const toldOf = ({ close, parting, isUnsolved, isLookedAt, isOther, isTicked }) => [close ?? "not played", isUnsolved && UNSOLVED, parting && `diverges at frame ${parting.frame}`, isLookedAt && "seen", isOther && "another text", isTicked && "ticks as recorded"].filter(Boolean).join(", ");
 
 // Calls a function only where something of what it reads has changed.
 class Changes {
@@ -83,7 +83,7 @@ export class Drawn {
     when("acted", [state.staging, state.played, shown, state.work, state.order, state.text, doing.coverage], () => this.stages.drawActed(state, doing.coverage, this.panel));
     tell("status", readingTold(doing.reading) ?? statusOf(state));
     say("own", ownTold(state));
-    put(at("take-text"), { hidden: state.work.own === null });
+    for (const id of ["take-text", "save-own"]) put(at(id), { hidden: state.work.own === null });
     if (!doing.isTyping) this.drawClock(clockTold(state));
     this.drawPlaying(state, doing.reading ?? doing.play);
     this.drawButtons(state);
@@ -91,13 +91,13 @@ export class Drawn {
     this.drawFile(state, doing.suite);
     when("list", [state.file, state.suite, state.comparison, state.seen, state.work.opened, state.text, state.order, state.isHeld, state.isTicked], () => this.list.show(rowsOf(state), state.work.opened));
     // last, since it asks where a mark stands, for which the browser lays out what was changed
-    when("recording", [framesOf(state), shown, state.work.inputs, state.played], () => this.drawRecording(state));
+    when("recording", [framesOf(state), shown, state.work.inputs, state.played, isPlayed(state)], () => this.drawRecording(state));
   }
 
   // The level is read by the text: not while that is being typed.
   drawLevel(state) {
     const isStage = chosenStage(state) !== null;
-    this.changes.when("level", [framesOf(state), shownOf(state), state.order, state.suite, state.comparison, state.file, state.work, isStage && state.staging.came, chosenStage(state), at("stage").clientWidth], () => this.level.draw(state));
+    this.changes.when("level", [framesOf(state), shownOf(state), state.order, state.suite, state.comparison, state.file, state.work, isStage && state.staging.came, chosenStage(state), isPlayed(state), at("stage").clientWidth], () => this.level.draw(state));
   }
 
   drawTabs(tab) {
@@ -119,9 +119,8 @@ export class Drawn {
   }
 
   drawRecording(state) {
-    const frames = framesOf(state), { inputs } = state.work, isSolved = state.played?.isSolved ?? false;
-    const end = frames.length === 0 ? make("span", "", "not played") : make("span", isSolved ? "solved" : "", isSolved ? "\u2713 solved" : "not solved");
-    at("summary").replaceChildren(make("span", "", plural(inputs.length, "input")), make("span", "", plural(frames.length, "frame")), end);
+    const frames = framesOf(state), { inputs } = state.work, { text, isSolved } = endTold(state), counted = isPlayed(state) ? [make("span", "", plural(frames.length, "frame"))] : [];
+    at("summary").replaceChildren(make("span", "", plural(inputs.length, "input")), ...counted, make("span", isSolved ? "solved" : "", text));
     say("step", stepTold(state));
     this.strip.show({ inputs, taken: frames.length === 0 ? 0 : frames[shownOf(state)].at, frames, shown: shownOf(state) });
   }
@@ -153,6 +152,7 @@ export class Drawn {
     put(at("save"), { disabled: !isSavable(state) });
     put(at("replace"), { hidden: number < 0, disabled: !isSavable(state) });
     say("save", number < 0 ? "Save" : "Add another");
+    say("replace", `Replace session ${number}`);
     put(at("name"), { value: nameShown(state) });
     for (const button of at("pad").querySelectorAll("button")) put(button, { disabled: !isPlayable && isPlayed(state) });
     say("saved", state.saved);

@@ -5,7 +5,7 @@ import { addedTold, toAdd } from "./findings.mjs";
 import { readingRuns } from "./lines.mjs";
 import { remembering } from "./past.mjs";
 import { framesOf, isPlayed, sourceOf } from "./replaying.mjs";
-import { MOST_SESSIONS, Refusal, SessionFile } from "./session-file.mjs";
+import { MOST_SESSIONS, Refusal, SessionFile, isSolvedWanted } from "./session-file.mjs";
 import { isOther, runWithFrames, runsOfNow, sessionOpened } from "./suite.mjs";
 import { whyNoField } from "./texts.mjs";
 import { RECORDED_ORDER } from "./work.mjs";
@@ -19,16 +19,20 @@ const withFile = (state, file, more) => remembering(state, { ...state, file, isU
 export function accepted(state, numbers) {
   if (numbers.length === 0) return state;
   const file = state.file.withLevels(numbers.map((number) => [number, state.seen.get(number).reached]));
-  return withFile(state, file, { saved: `${plural(numbers.length, "recorded level")} changed` });
+  const isUnsolved = numbers.some((number) => isSolvedWanted(file.entries[number]) && !state.seen.get(number).isSolved), demanded = isUnsolved ? "; not all are solved that must be" : "";
+  return withFile(state, file, { saved: `${plural(numbers.length, "recorded level")} changed${demanded}` });
 }
 
-// Whether what is worked on can be saved: it is played to its end, in the order of recorded levels.
-export const isSavable = (state) => isPlayed(state) && state.played.cause === null && framesOf(state).length > 0 && state.queue.length === 0;
+// Whether what is worked on can be saved: it is played to its end, and no ghost is seen in its place.
+export const isSavable = (state) => !state.ghost && isPlayed(state) && state.played.cause === null && framesOf(state).length > 0 && state.queue.length === 0;
 
 const nameOf = (state) => state.work.name || NAMELESS;
 
-// The number of the session that has the name which is written, or -1.
-export const namesakeOf = (state) => (state.file?.entries ?? []).findIndex((entry) => entry.name === nameOf(state));
+// The number of the session that has the name which is written, or -1. Of several with that name it is the one that is open.
+export function namesakeOf(state) {
+  const entries = state.file?.entries ?? [], name = nameOf(state), { opened } = state.work;
+  return entries[opened]?.name === name ? opened : entries.findIndex((entry) => entry.name === name);
+}
 
 // Saves the recording as a session, in the place of another where one is named. A recording over the text at hand has no text of its own.
 export function savedAs(state, number = null) {
@@ -37,7 +41,8 @@ export function savedAs(state, number = null) {
   const former = state.file ?? SessionFile.empty(RECORDINGS), file = number === null ? former.with(entry) : former.withReplaced(number, entry);
   const opened = number ?? file.entries.length - 1;
   const next = withFile({ ...state, work: { ...state.work, opened: null } }, file, { work: { ...state.work, opened }, looked: null });
-  return { ...next, saved: `Saved in ${file.name} as session ${opened}.` };
+  const demanded = isSolvedWanted(file.entries[opened]) && !state.played.isSolved ? " It must be solved, and isn't." : "";
+  return { ...next, saved: `Saved in ${file.name} as session ${opened}.${demanded}` };
 }
 
 const isSameAtHand = (one, other) => one.file === other.file && sourceOf(one) === sourceOf(other) && ["index", "name", "opened"].every((it) => one.work[it] === other.work[it]);
@@ -57,8 +62,6 @@ export function followed(state) {
   const next = withFile(state, state.file.withoutSources(numbers), { seen: new Map(), work: isOpenOther ? { ...work, own: null } : work });
   return { ...next, saved: `${plural(numbers.length, "session")} ${numbers.length === 1 ? "follows" : "follow"} the text on the left` };
 }
-
-export const filed = (state) => ({ ...state, isUnsaved: false });
 
 // Another file takes the place of the one that is open, or none. Where it has one session, that is opened at once, and played while the file is.
 export function withOtherFile(state, file) {

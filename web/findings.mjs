@@ -4,6 +4,7 @@ import { descriptionOf } from "./descriptions.mjs";
 import { plural } from "./elements.mjs";
 import { entriesOfLevels, titleOf } from "./game.mjs";
 import { eachInPieces } from "./pieces.mjs";
+import { isSolvedWanted } from "./session-file.mjs";
 import { fold, isTooLong, withoutEnd } from "./texts.mjs";
 
 const HOW = "in PuzzleScript's editor play, press Ctrl+J, and copy all that the console prints then";
@@ -14,7 +15,6 @@ const SKIPPED = {
 const OBJECTS = 'it has objects in braces, and a recording is a list, ["name", ["source", [inputs], "level", index]]';
 const WITHOUT_NAME = ["", "untitled test"]; // a recording without a name of its own
 const SKIPPED_TOLD = 3;
-const DEMAND = "solved"; // what stands behind the body of a recording that must be solved
 
 const skippedTold = ({ line, what }) => `line ${line}: skipped ${Object.hasOwn(SKIPPED, what) ? SKIPPED[what] : `a recording with a fault: ${what}`}`;
 
@@ -118,7 +118,7 @@ class Known {
 
   // Takes a recording that isn't there yet, or demands more; whether it was none of these.
   take({ source, inputs, level, index, rest = [] }) {
-    const key = JSON.stringify([this.numberOf(source), inputs, level, index]), isWanted = rest.includes(DEMAND), isNew = !this.keys.has(key) || (isWanted && !this.keys.get(key));
+    const key = JSON.stringify([this.numberOf(source), inputs, level, index]), isWanted = isSolvedWanted({ rest }), isNew = !this.keys.has(key) || (isWanted && !this.keys.get(key));
     if (isNew) this.keys.set(key, isWanted);
     return isNew;
   }

@@ -43,7 +43,7 @@ async function keptUnder(name, late) {
 
 const lastOf = ({ value, note }, name) => Math.max(numberKept(value, name), numberKept(note, name));
 
-// What this browser keeps for one tab.
+// What this browser keeps for one tab; `isGone` is whether it has no more what it kept.
 export class Store {
   // The store of this tab. `entries` are what was kept, [{ name, value, note }]: first what this tab goes on with, and then what closed tabs left, the newest first.
   static async open(most = MOST_OF_OPENING) {
@@ -59,11 +59,12 @@ export class Store {
     await store.read(store.name !== null || isLeft ? former : null, late);
     clearTimeout(timer);
     store.isCut = isCut;
+    store.isGone = store.name !== null && !store.entries.some(({ name }) => name === former);
     return store;
   }
 
   constructor() {
-    Object.assign(this, { name: null, left: [], entries: [], isCut: false, turn: 0, there: null, unkept: null, now: null, isWriting: false, isOfKeys: false, isLate: false, endPause: () => {} });
+    Object.assign(this, { name: null, left: [], entries: [], isCut: false, isGone: false, turn: 0, there: null, unkept: null, now: null, isWriting: false, isOfKeys: false, isLate: false, endPause: () => {} });
     // a browser may end what a page does as it is left, but not twice
     window.addEventListener("pagehide", () => this.leave());
     document.addEventListener("visibilitychange", () => (document.visibilityState === "hidden" ? this.leave() : formerVisit()));

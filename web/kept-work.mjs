@@ -1,5 +1,5 @@
 // A state as it is kept between visits, and back. What is kept has a version; what can't be read is no state.
-import { keyOfValue, withNote } from "./notes.mjs";
+import { keyOfValue, lackingOf, withNote } from "./notes.mjs";
 import { packed, takePack, unpacked } from "./packing.mjs";
 import { MOST_PAST, remembering } from "./past.mjs";
 import { SessionFile } from "./session-file.mjs";
@@ -91,7 +91,7 @@ function stateOfEntry({ value, note = null }, example) {
 
 // What another tab left, as it can be put back.
 function leftBy({ text, work, file, isUnsaved, past, example }) {
-  const isWork = work.inputs.length > 0 || work.name !== "";
+  const isWork = work.inputs.length > 0 || work.name !== "" || work.own !== null;
   const own = { ...(text === example ? {} : { text }), ...(isWork ? { work } : {}), ...(file ? { file, isUnsaved } : {}) };
   return Object.keys(own).length === 0 ? past : [...past, own];
 }
@@ -119,12 +119,12 @@ function withField(state) {
   return { why, state: why === null ? state : { ...state, text: example, work: beside.work, past: [...past, ...beside.past].slice(-MOST_PAST) } };
 }
 
-// The state to begin with, of all entries that were kept: { state, read, unreadable, isCut, waiting, whyNot }, where `read` are the names of those that it
+// The state to begin with, of all entries that were kept: { state, read, unreadable, isCut, waiting, whyNot, lacking }, where `read` are the names of those that it
 // has in it, `isCut` is whether there was no room for all of one, `waiting` how many stay where they are, since there is no room to put them back, and
 // `whyNot` why its text isn't put into the field, or null.
 export function stateOfVisit(entries, example) {
   const found = entries.map((entry) => ({ ...entry, state: stateOfEntry(entry, example) })), readable = found.filter(({ state }) => state !== null);
   const [first = { state: beginning(example) }, ...others] = readable, { state, why: whyNot } = withField(first.state), { taken, waiting } = takenBeside(others, state);
   const read = readable.map(({ name }) => name).filter((name) => !waiting.includes(name)), isCut = readable.some(({ note }) => note?.isCut);
-  return { state: { ...state, past: [...taken, ...state.past] }, read, unreadable: found.length - readable.length, isCut, waiting: waiting.length, whyNot };
+  return { state: { ...state, past: [...taken, ...state.past] }, read, unreadable: found.length - readable.length, isCut, waiting: waiting.length, whyNot, lacking: entries.map(lackingOf).filter(Boolean) };
 }

@@ -6,7 +6,7 @@ import { at, readable } from "./elements.mjs";
 import { Labels, readLevel } from "./level-text.mjs";
 import { differing, isDrawn } from "./levels.mjs";
 import { toldOfLevel, unlikenessTold } from "./page-words.mjs";
-import { framesOf, gameOf, isPlayed, shownOf, sourceOf } from "./replaying.mjs";
+import { framesOf, gameOf, isPlayed, shownOf, sourceOf, sourceOfFrames } from "./replaying.mjs";
 import { say } from "./saying.mjs";
 import { STAGE } from "./stage.mjs";
 import { chosenStage } from "./staging.mjs";
@@ -22,7 +22,7 @@ export class LevelDrawn {
   // The frame that is looked at, beside what it is compared with: the recorded level at the end, or another engine's frame.
   comparedWith(state) {
     const parting = state.comparison?.partings[state.work.opened] ?? null;
-    if (sessionOf(state) === null || runsOfNow(state) === null) return null;
+    if (sessionOf(state) === null || runsOfNow(state) === null || !isPlayed(state)) return null;
     if (parting === null) return differenceOf(state) && { text: differenceOf(state).recorded, caption: "recorded" };
     const other = state.comparison.others[state.work.opened].frames[shownOf(state)];
     return other === undefined ? null : { text: other.level, caption: `the other engine's frame ${shownOf(state)}`, isOfEngines: true };
@@ -30,12 +30,12 @@ export class LevelDrawn {
 
   draw(state) {
     const frame = framesOf(state)[shownOf(state)];
-    at("boards").classList.remove("stale");
+    at("boards").classList.toggle("stale", frame !== undefined && !isPlayed(state));
     if (chosenStage(state) !== null) return this.drawStage(state);
     if (frame === undefined) return this.drawRefused(state);
-    const labels = this.use(state), other = this.comparedWith(state), text = gameOf(sourceOf(state)).levelText(frame.level);
+    const labels = this.use(state), other = this.comparedWith(state), text = gameOf(sourceOfFrames(state)).levelText(frame.level);
     const ending = other && new Ending(text, other.text, state.order, labels);
-    const level = ending ? ending.reached : readLevel(text, labels, state.order);
+    const level = ending ? ending.reached : readLevel(text, labels, state.played.order);
     const unread = level === null ? "This level can't be drawn: a name of an object in it holds a comma." : "";
     const sides = [{ level, caption: other && level ? "reached" : unread, told: readable(toldOfLevel(state)) }];
     if (isDrawn(ending?.recorded)) sides.push({ level: ending.recorded, caption: other.caption, told: other.caption });
@@ -45,12 +45,12 @@ export class LevelDrawn {
 
   // Takes the look of the game at hand; the labels of its cells.
   use(state) {
-    const source = sourceOf(state), game = gameOf(source);
+    const source = sourceOfFrames(state), game = gameOf(source);
     if (this.look?.source !== source) {
       this.look = { source, labels: new Labels() };
       this.boards.use(game.look(), this.look.labels.names);
     }
-    this.kept = { title: game.title, index: state.work.index };
+    this.kept = { title: game.title, index: state.played.index };
     return this.look.labels;
   }
 

@@ -38,6 +38,13 @@ export function runsOf(bytes) {
   return runs;
 }
 
+// Whether the last frame of a run in its lines shows that play is over: what stands before its level tells.
+export function isOverIn(bytes, { end, count }) {
+  if (count === 0) return false;
+  const begin = bytes.lastIndexOf(NEW_LINE, end - 2) + 1;
+  return new TextDecoder().decode(bytes.subarray(begin, Math.min(end, begin + 80))).includes('"kind":"over"');
+}
+
 // The frames of a run in its lines. Each is read once it is asked for, and the last alone is kept: a run may have more than a page has time and memory for.
 class FramesRead {
   constructor(bytes, { begin, end, count }) {

@@ -3,7 +3,7 @@ import { at } from "./elements.mjs";
 import { download, fileNameOf } from "./handing.mjs";
 import { meaningOf, swipeOf } from "./keys.mjs";
 import { accepted, followed, namesakeOf, removed, withOtherFile } from "./filing.mjs";
-import { gameOf } from "./replaying.mjs";
+import { gameOf, sourceOf } from "./replaying.mjs";
 import { solutionTaken, solveAsked, solveStopped } from "./solving.mjs";
 import { coverageStopped, covered, opened, stageStepped } from "./staging.mjs";
 import { differenceOf, playedAgain, seenOf } from "./suite.mjs";
@@ -69,6 +69,8 @@ function listenToSwipes(page) {
   });
 }
 
+const saveText = (text) => download(fileNameOf(gameOf(text).title), text);
+
 function listenToButtons(page, moves) {
   const click = (id, act) => at(id).addEventListener("click", act);
   for (const id of ["first", "back", "on", "last", "play", "cut"]) click(id, moves[id]);
@@ -79,7 +81,8 @@ function listenToButtons(page, moves) {
   click("take-text", () => page.act(withOwnText));
   click("stop-play", () => page.runner.stopPlay());
   click("begin-play", () => page.act(released));
-  click("save-game", () => download(fileNameOf(gameOf(page.state.text).title), page.state.text));
+  click("save-game", () => saveText(page.state.text));
+  click("save-own", () => saveText(sourceOf(page.state)));
   click("solve", () => page.act(solveAsked));
   click("stop-solve", () => page.act(solveStopped));
   click("show-solution", () => page.haunt());

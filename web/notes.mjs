@@ -54,10 +54,11 @@ function hasRoom(name, part) {
 }
 
 // Notes a value under a name, and whether there was room for all of it: else its text and its recording are noted alone. `isThere` says of its file, and
-// of each thing that can be put back, whether the database has it.
+// of each thing that can be put back, whether the database has it; `without` tells what is left out.
 export function noteDown(name, value, isThere) {
   const { file, ...others } = value, least = { ...others, past: [] };
-  const whole = { ...least, past: value.past.filter((lost) => !isThere(lost)), ...(isThere(file) ? {} : { file }) };
+  const past = value.past.filter((lost) => !isThere(lost)), without = { isFile: Boolean(file) && isThere(file), past: value.past.length - past.length };
+  const whole = { ...least, past, without, ...(isThere(file) ? {} : { file }) };
   if (hasRoom(name, whole)) return true;
   hasRoom(name, { ...least, work: { ...value.work, opened: null }, isCut: true });
   return false;
@@ -74,4 +75,11 @@ export function withNote(value, note) {
   if (note === null || !Array.isArray(note.past) || !isBehind(note, value)) return null;
   const again = new Set(note.past.map(keyOfValue));
   return { ...value, ...note, past: [...(value.past ?? []).filter((lost) => !again.has(keyOfValue(lost))), ...note.past] };
+}
+
+// What a note left out since the database had it, and that has no more, as where it was deleted: { isFile, past }, or null.
+export function lackingOf({ value, note = null }) {
+  if (value === null || note === null || !isBehind(note, value)) return null;
+  const isFile = note.without?.isFile === true && !value?.file, past = numberKept(note.without, "past") - (value?.past?.length ?? 0);
+  return isFile || past > 0 ? { isFile, past } : null;
 }

@@ -4,7 +4,7 @@ import { plural } from "./elements.mjs";
 import { inputTold } from "./faults.mjs";
 import { countOf } from "./closes.mjs";
 import { isFailure } from "./session-list.mjs";
-import { causeOf, framesOf, gameOf, isPlayed, shownOf, sourceOf } from "./replaying.mjs";
+import { causeOf, framesOf, gameOf, isPlayed, shownOf, sourceOf, sourceOfFrames } from "./replaying.mjs";
 import { clocksOf, countOfOthers, rowsOf, runWithFrames, runsOfNow, sessionOf } from "./suite.mjs";
 import { noFieldTold, shortened } from "./texts.mjs";
 import { hasClock, isRefusedForClock } from "./ticks.mjs";
@@ -36,6 +36,7 @@ function sessionTold(state) {
   if (run === null) return null;
   if (parting !== null) return { text: `Diverges at ${partingTold(parting, runWithFrames(state.suite, opened), state.comparison.others[opened], inputs)}.`, close: "differs" };
   const clock = state.isTicked && hasClock(sourceOf(state)) ? ` Played ${WITHOUT_CLOCK}.` : "";
+  if (run.isUnsolved) return { text: `Passed: the last level is the recorded one. But it must be solved, and isn't.${clock}`, close: "failed" };
   if (run.close === "passed") return { text: `Passed: the last level is the recorded one.${clock}`, close: "passed" };
   return run.close === "differs" ? { text: `Differs from what was recorded.${sinceTold(state)}${clock}`, close: "differs" } : null;
 }
@@ -55,10 +56,14 @@ const NO_ROOM = "This browser had no room for all that was changed just before t
 
 const WAITING = "What closed tabs left waits, since no more can be put back here: open this page in another tab to go on with it.";
 
+const GONE = "Nothing is kept of this tab's last visit: it was deleted, or another tab has taken it over, and can put it back.";
+
+const lackingTold = ({ isFile, past }) => `What this browser kept was deleted: of the last visit ${[isFile && "a sessions file", past > 0 && `${plural(past, "thing")} to put back`].filter(Boolean).join(" and ")} can't be read any more.`;
+
 // What is said of what was kept of earlier visits, or null.
-export function visitTold({ unreadable, isCut, waiting, whyNot }) {
-  const fieldless = whyNot === null ? [] : [noFieldTold("The text that this browser kept", whyNot)];
-  const told = [...fieldless, ...(unreadable > 0 ? [UNREADABLE] : []), ...(isCut ? [NO_ROOM] : []), ...(waiting > 0 ? [WAITING] : [])];
+export function visitTold({ unreadable, isCut, waiting, whyNot, isGone = false, lacking = [] }) {
+  const fieldless = whyNot && noFieldTold("The text that this browser kept", whyNot);
+  const told = [fieldless, unreadable > 0 && UNREADABLE, isCut && NO_ROOM, waiting > 0 && WAITING, isGone && GONE, ...lacking.map(lackingTold)].filter(Boolean);
   return told.length === 0 ? null : told.join(" ");
 }
 
@@ -90,6 +95,14 @@ export function statusOf(state) {
 // What is said where what is played isn't the text on the left.
 export const ownTold = (state) => (state.work.own === null ? "" : "This recording has a text of its own, and is played over that: not over the text on the left.");
 
+// How what is worked on ends: { text, isSolved }. What was played before says nothing of it.
+export function endTold(state) {
+  const isNow = isPlayed(state), isSolved = isNow && state.played.isSolved, isShown = framesOf(state).length > 0;
+  return { text: isSolved ? "\u2713 solved" : !isNow ? "not played yet" : isShown ? "not solved" : "not played", isSolved };
+}
+
+const asBefore = (state) => (isPlayed(state) ? "" : "as it was played before: ");
+
 const KIND_TOLD = { start: "the start", load: "the next level", over: "play is over", restart: "begins again" };
 
 export function stepTold(state) {
@@ -98,7 +111,7 @@ export function stepTold(state) {
   const { inputs } = state.played, isSame = shown > 0 && frames[shown - 1].level === frame.level;
   const undone = isSame ? "nothing to take back" : "taken back", moved = isSame ? "nothing changes" : frame.kind === "tick" ? "a tick" : "moves";
   const where = frame.at === 0 ? "before any input" : `after input ${frame.at - 1} (${inputTold(inputs[frame.at - 1])})`;
-  return `${where}; ${KIND_TOLD[frame.kind] ?? (frame.kind === "undo" ? undone : moved)}`;
+  return `${asBefore(state)}${where}; ${KIND_TOLD[frame.kind] ?? (frame.kind === "undo" ? undone : moved)}`;
 }
 
 // The name of what is worked on, as far as it is shown; no half of a letter is.
@@ -106,25 +119,28 @@ export const nameShown = ({ work: { name } }) => name.slice(0, MOST_OF_A_NAME_SH
 
 // ---- the sessions
 
-const failuresOf = (state) => rowsOf(state).filter(isFailure);
+export const UNSOLVED = "no longer solved"; // though it passed, and must be
+
+const failuresOf = (state) => rowsOf(state).filter((row) => isFailure(row) && (row.close !== "passed" || row.isUnsolved));
 
 // "2 differ", "1 stopped", or "3 did not pass" where they ended in several ways.
 function failuresTold(failures) {
-  const closes = [...new Set(failures.map(({ close }) => close))];
-  return closes.length === 1 && closes[0] !== "passed" ? countOf(closes[0], failures.length) : `${failures.length} did not pass`;
+  const closes = [...new Set(failures.map(({ close, isUnsolved }) => (isUnsolved ? UNSOLVED : close)))];
+  return closes.length === 1 ? countOf(closes[0], failures.length) : `${failures.length} did not pass`;
 }
 
 export function tabTold(state) {
   if (state.file === null) return "Sessions";
-  const failures = failuresOf(state).filter(({ close }) => close !== "passed");
+  const failures = failuresOf(state);
   return failures.length > 0 ? `Sessions: ${failuresTold(failures)}` : `Sessions (${state.file.entries.length})`;
 }
 
 function suiteTold(state, runs) {
-  const failures = failuresOf(state).filter(({ close }) => close !== "passed").length, took = `${plural(runs.length, "session")} in ${(state.suite.milliseconds / 1000).toFixed(1)} s`;
+  const failures = failuresOf(state), unsolved = failures.filter(({ isUnsolved }) => isUnsolved).length, broken = failures.length - unsolved, took = `${plural(runs.length, "session")} in ${(state.suite.milliseconds / 1000).toFixed(1)} s`;
   const clocks = state.isTicked ? clocksOf(state) : 0, behind = clocks > 0 ? ` ${clocks} ${clocks === 1 ? "was" : "were"} played ${WITHOUT_CLOCK}.` : "";
   if (runs.length === 0) return { text: "The file has no session.", close: null };
-  if (failures > 0) return { text: `${failures} did not pass: ${took}.${behind}`, close: "differs" };
+  const failed = [[broken, "did not pass"], [unsolved, UNSOLVED]].filter(([count]) => count > 0).map((it) => it.join(" ")).join(", ");
+  if (failed) return { text: `${failed}: ${took}.${behind}`, close: "differs" };
   // no tick where a session was played over something else
   return countOfOthers(state) > 0 ? { text: `All passed, but not all over the text on the left: ${took}.${behind}`, close: null } : { text: `All passed: ${took}.${behind}`, close: clocks > 0 ? null : "passed" };
 }
@@ -160,11 +176,16 @@ export function unlikenessTold(state, ending, isOfEngines) {
 
 // ---- what can be put back
 
+function workTold({ own = null, inputs, name }) {
+  if (inputs.length > 0) return `a recording of ${plural(inputs.length, "input")}`;
+  return own === null ? `the name ${shortened(name)}` : `the text of ${gameOf(own).title}, as a recording's own`;
+}
+
 function lostTold({ text, work, file }) {
   const parts = [
-    text === undefined ? "" : `the text of ${gameOf(text).title}`,
-    work === undefined ? "" : work.inputs.length > 0 ? `a recording of ${plural(work.inputs.length, "input")}` : `the name ${shortened(work.name)}`,
-    file === undefined ? "" : `${file.name} with ${plural(file.entries.length, "session")}`,
+    text !== undefined && `the text of ${gameOf(text).title}`,
+    work && workTold(work),
+    file && `${file.name} with ${plural(file.entries.length, "session")}`,
   ];
   return parts.filter(Boolean).join(", ");
 }
@@ -173,5 +194,5 @@ export const putBackTold = ({ past }) => (past.length === 0 ? "Nothing was left 
 
 export const toldOfLevel = (state) => {
   const frames = framesOf(state), shown = shownOf(state), won = frames.slice(0, shown + 1).filter(({ kind }) => kind === "load").length;
-  return `${gameOf(sourceOf(state)).title}, ${won > 0 ? `${plural(won, "level")} won` : "the level"}, frame ${shown}`;
+  return `${asBefore(state)}${gameOf(sourceOfFrames(state)).title}, ${won > 0 ? `${plural(won, "level")} won` : "the level"}, frame ${shown}`;
 };

@@ -32,6 +32,13 @@ function isRecordingLost(before, after) {
   return !after.past.some(isIn);
 }
 
+// Whether a recording's own text is nowhere any more: one that can't stand in the field has no other place.
+function isOwnTextLost({ work: { own = null }, text }, after) {
+  if (own === null || own === text) return false;
+  const isIn = ({ text: there, work, file }) => there === own || work?.own === own || file?.entries.some(({ source }) => source === own);
+  return !isIn(after) && !after.past.some(isIn);
+}
+
 function isNameLost({ work: { name } }, after) {
   if (name === "" || name === after.work.name || (after.file?.entries ?? []).some((entry) => entry.name === name)) return false;
   return !after.past.some((it) => it.work?.name === name);
@@ -48,7 +55,7 @@ function isFileLost(before, after) {
 
 // What of one state isn't there any more in the next: { text, work, file, isUnsaved }, each only where it is lost; null where nothing is.
 export function lostIn(before, after) {
-  const isFile = isFileLost(before, after), isWork = isRecordingLost(before, after) || isNameLost(before, after);
+  const isFile = isFileLost(before, after), isWork = isRecordingLost(before, after) || isOwnTextLost(before, after) || isNameLost(before, after);
   const lost = {
     // a recording comes back with the text that it was made over
     ...(isTextLost(before, after) || (isWork && before.text !== after.text) ? { text: before.text } : {}),

@@ -14,7 +14,7 @@ import { inPieces } from "./pieces.mjs";
 import { Runner } from "./running.mjs";
 import { Refusal, SessionFile } from "./session-file.mjs";
 import { isFailure } from "./session-list.mjs";
-import { RECORDINGS, comparing, filed, savedLater, withComparison, withOtherFile, withRecordings } from "./filing.mjs";
+import { RECORDINGS, comparing, savedLater, withComparison, withOtherFile, withRecordings } from "./filing.mjs";
 import { framesOf, isAtEnd, shownOf } from "./replaying.mjs";
 import { keepingTold, visitTold } from "./page-words.mjs";
 import { say } from "./saying.mjs";
@@ -133,10 +133,10 @@ class Playground {
     at("stage").focus({ preventScroll: true });
   }
 
+  // Nothing tells whether the browser writes it, so it counts as changed as before.
   saveFile() {
     const { name, bytes } = this.state.file;
     download(name.endsWith(".json") ? name : RECORDINGS, bytes);
-    this.act(filed);
   }
 
   // ---- files, and what is kept
@@ -192,7 +192,7 @@ class Playground {
 
 async function start() {
   const example = json("example-game"), [engine, store] = await Promise.all([startEngine(), Store.open()]);
-  const { state, read, ...visit } = stateOfVisit(store.entries, example), told = visitTold({ ...visit, isCut: visit.isCut || store.isCut });
+  const { state, read, ...visit } = stateOfVisit(store.entries, example), told = visitTold({ ...visit, isCut: visit.isCut || store.isCut, isGone: store.isGone });
   await store.goOn(read);
   const page = new Playground(state, engine, store);
   listen(page);

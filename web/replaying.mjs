@@ -31,7 +31,11 @@ export function isPlayed(state) {
 
 // ---- the frames of the recording
 
+// Until what is worked on is played, they are those of what was before.
 export const framesOf = (state) => state.played?.frames ?? [];
+
+// The text that these frames are of.
+export const sourceOfFrames = (state) => state.played?.source ?? sourceOf(state);
 
 export function shownOf(state) {
   const last = framesOf(state).length - 1;

@@ -3,7 +3,7 @@ import { playedInParts } from "./parts.mjs";
 import { answered, isWanted, wantedPlay } from "./replaying.mjs";
 import { coverageCame, isCoverageWanted, isStagesWanted, stagesCame, wantedCoverage, wantedStages } from "./staging.mjs";
 import { isSolutionWanted, solutionCame, wantedSolution } from "./solving.mjs";
-import { partsPlayed, seeing, suiteCame, wantedSuite } from "./suite.mjs";
+import { partsPlayed, seeing, suiteCame, unsolvedIn, wantedSuite } from "./suite.mjs";
 import { held } from "./work.mjs";
 
 const SLOW = 500; // milliseconds, after which it is said that something is being played
@@ -156,7 +156,14 @@ export class Runner {
     });
   }
 
+  // How all sessions closed, and which of them must be solved and aren't.
   async playSuite(wanted, options) {
+    const answer = await this.playFile(wanted, options), again = (file) => this.playFile({ ...wanted, file }, { ...options, progress: () => {} });
+    const demanded = answer?.fault === null ? await unsolvedIn(wanted.file, answer.lines, again) : answer;
+    return demanded && { ...answer, ...demanded };
+  }
+
+  async playFile(wanted, options) {
     const count = wanted.file.entries.length, parts = await partsPlayed(wanted, options.signal);
     return parts === null ? null : playedInParts(this.engine, parts, count, options);
   }

@@ -64,6 +64,9 @@ function spliced(bytes, changes) {
 // What stands behind the body of an entry, such as that it must be solved; nothing where nothing does.
 export const restOf = (entry) => (entry.length > 2 ? { rest: entry.slice(2) } : {});
 
+// Whether a session must be solved, as its file says.
+export const isSolvedWanted = ({ rest = [] }) => rest.includes("solved");
+
 const encoded = (value) => new TextEncoder().encode(JSON.stringify(value));
 
 function entryOf(value, number) {

@@ -14,8 +14,8 @@ export function listed(rows, close, text) {
   return [...rows.keys()].filter((number) => isOf(rows[number], close) && rows[number].name.toLowerCase().includes(wanted));
 }
 
-// Whether a session needs a look: it did not pass, or diverges from the run that it is compared with.
-export const isFailure = (row) => row.parting !== null || (row.close !== null && row.close !== "passed");
+// Whether a session needs a look: it did not pass, or isn't solved and must be, or diverges from the run that it is compared with.
+export const isFailure = (row) => row.parting !== null || row.isUnsolved === true || (row.close !== null && row.close !== "passed");
 
 // The next of some numbers behind (or before) one that is open, round and round if that is wanted; null where there is none.
 export function following(numbers, open, step, { isRound = true, placeOf = (number) => number } = {}) {
@@ -25,7 +25,7 @@ export function following(numbers, open, step, { isRound = true, placeOf = (numb
 }
 
 export class SessionList {
-  // A row is { name, close (null: not played), frames, parting }. `page` is what differs: open(number) opens a session, toldOf(row) tells how it closed,
+  // A row is { name, close (null: not played), frames, parting, isUnsolved }. `page` is what differs: open(number) opens a session, toldOf(row) tells how it closed,
   // toldOfCount(listed, all) how many are listed, refilter() is called where a filter changes; `closes` have buttons, those of `always` also where there is
   // none; with `areFailuresFirst` failures come first, and the next one isn't sought round and round. Where no row is left, `elsewhere` gets the focus.
   constructor(page) {
@@ -124,14 +124,14 @@ export class SessionList {
   }
 
   button(number) {
-    const { name, close, frames } = this.rows[number], told = this.page.toldOf(this.rows[number]), called = cut(name, LISTED_LETTERS);
-    const button = makeButton(close ?? "unplayed", "", () => this.page.open(number)), count = make("span", "frames", frames || "");
+    const { name, close, frames, isUnsolved } = this.rows[number], look = isUnsolved ? "failed" : close, told = this.page.toldOf(this.rows[number]), called = cut(name, LISTED_LETTERS);
+    const button = makeButton(look ?? "unplayed", "", () => this.page.open(number)), count = make("span", "frames", frames || "");
     button.title = `${called}: ${told}`;
     button.dataset.number = number;
     button.tabIndex = number === this.reached ? 0 : -1;
     button.setAttribute("aria-current", String(number === this.current));
     if (frames) count.title = plural(frames, "frame");
-    const shape = close === null ? make("span", "shape", "") : shapeOf(close);
+    const shape = look === null ? make("span", "shape", "") : shapeOf(look);
     button.append(make("span", "number", number), shape, make("span", "label", called || "(no name)"), make("span", "close", told), count);
     return button;
   }

@@ -1,9 +1,10 @@
 // The sessions of the file in the state of the page: how they closed over the text at hand, which of them is open, and what was seen of it.
 import { Ending, obstacleTold, partingOf } from "./comparing.mjs";
-import { MOST_READ, framesIn, runsOf } from "./lines.mjs";
+import { ONE_MORE } from "./kept-open.mjs";
+import { MOST_READ, framesIn, isOverIn, runsOf } from "./lines.mjs";
 import { isSameList } from "./past.mjs";
 import { framesOf, gameOf, isAtEnd, isPlayed, sourceOf } from "./replaying.mjs";
-import { Refusal, refusalTold } from "./session-file.mjs";
+import { MOST_INPUTS, Refusal, SessionFile, isSolvedWanted, refusalTold } from "./session-file.mjs";
 import { isFailure } from "./session-list.mjs";
 import { Clocks, hasClock, isRefusedForClock, playedText } from "./ticks.mjs";
 import { withWork } from "./work.mjs";
@@ -49,6 +50,20 @@ export async function partsPlayed({ file, text, isTicked }, signal) {
   return isRead ? file.partsOver(text, (source) => (source === text ? playedText(source, isTicked) : isTicked ? clocks.playedOf(source) : source)) : null;
 }
 
+// Which sessions passed and aren't solved though they must be: { fault, unsolved }, or null where that was stopped. Lines don't show the last win: it is seen
+// with one more input, by play(file).
+export async function unsolvedIn({ name, entries }, lines, play) {
+  const runs = entries.some(isSolvedWanted) ? runsOf(lines) : [], unsolved = new Set([...runs.keys()].filter((number) => isSolvedWanted(entries[number]) && runs[number].close === "passed"));
+  const played = [...unsolved].filter((number) => entries[number].inputs.length < MOST_INPUTS), longer = played.map((number) => [name, bodyWithOneMore(entries[number])]);
+  if (played.length === 0) return { fault: null, unsolved };
+  const answer = await play(new SessionFile(name, new TextEncoder().encode(JSON.stringify(longer))));
+  if (answer === null || answer.fault !== null) return answer;
+  runsOf(answer.lines).forEach((run, place) => isOverIn(answer.lines, run) && unsolved.delete(played[place]));
+  return { fault: null, unsolved };
+}
+
+const bodyWithOneMore = ({ source, inputs, level, index }) => [source, [...inputs, ONE_MORE], level, index];
+
 // How many sessions are refused since their games have a clock, or are played without it.
 export function clocksOf(state) {
   if (state.isTicked) return rowsOf(state).filter((row) => row.isTicked).length;
@@ -69,10 +84,12 @@ export function rowsOf(state) {
 function madeRows(state) {
   const runs = runsOfNow(state), { partings = null } = state.comparison ?? {}, isWithClock = clockOf(state);
   return (state.file?.entries ?? []).map(({ name, source }, number) => ({
-    isTicked: state.isTicked && isWithClock(source || state.text),
+    isUnsolved: runs?.[number].isUnsolved ?? false, isTicked: state.isTicked && isWithClock(source || state.text),
     name, close: runs?.[number].close ?? null, frames: runs?.[number].count ?? null, parting: partings?.[number] ?? null, isLookedAt: isSeen(state, number), isOther: isOther(state, number),
   }));
 }
+
+const isGood = (run) => run?.close === "passed" && !run.isUnsolved;
 
 // The first frame from which on a session goes another way than when all was played last, where it passed then; null where nothing is known.
 function changeOf({ good, suite }, number) {
@@ -105,7 +122,7 @@ function mayMakeWay(state) {
 // Whether a session was opened, and something was done with it since.
 const isGoneOnWith = (state) => state.work.opened !== null && (!isSessionOpen(state) || state.queue.length > 0);
 
-const isBroken = ({ close }) => close === "differs" || close === "stopped";
+const isBroken = ({ close, isUnsolved }) => close === "differs" || close === "stopped" || isUnsolved;
 
 // Opens what is to be looked at once all is played: of a file that was just opened the first failure, unless its one session was opened at once and gone on
 // with; and else the first that broke.
@@ -113,22 +130,22 @@ function showingFailure(state) {
   const { isNew, work, suite } = state, next = { ...state, isNew: false };
   if (isNew) return suite.runs.length === 0 || isGoneOnWith(next) ? next : sessionOpened(next, Math.max(0, rowsOf(next).findIndex(isFailure)));
   if (work.opened !== null && isBroken(suite.runs[work.opened])) return { ...next, since: isSessionOpen(next) ? changeOf(next, work.opened) : null };
-  const first = suite.runs.findIndex((run, number) => isBroken(run) && state.good?.runs[number]?.close === "passed");
+  const first = suite.runs.findIndex((run, number) => isBroken(run) && isGood(state.good?.runs[number]));
   return first < 0 || !mayMakeWay(next) ? next : sessionOpened(next, first);
 }
 
-// Takes what the sessions came to: { fault, lines }, in so many milliseconds, or null where it was stopped.
+// Takes what the sessions came to: { fault, lines, unsolved }, in so many milliseconds, or null where it was stopped.
 export function suiteCame(state, { file, text, order, isTicked }, answer, milliseconds) {
   if (wantedSuite(state) === null || !isOfNow({ file, text, order, isTicked }, state)) return state;
   const why = answer === null ? "Stopped: not all sessions were played." : answer.fault === null ? null : `${file.name} is not played: ${refusalTold(answer.fault)}.`;
-  const suite = { file, text, order, isTicked, why, lines: why === null ? answer.lines : null, runs: why === null ? runsOf(answer.lines) : null, milliseconds };
+  const suite = { file, text, order, isTicked, why, lines: why === null ? answer.lines : null, runs: why === null ? runsOf(answer.lines).map((run, number) => ({ ...run, isUnsolved: answer.unsolved.has(number) })) : null, milliseconds };
   const next = { ...state, suite, comparison: null };
   if (why !== null) return { ...next, isNew: false };
   return { ...showingFailure(next), saved: state.saved, good: isNoWorse(state.good, suite) ? suite : state.good };
 }
 
 // Whether all sessions still pass that passed before.
-const isNoWorse = (good, { runs }) => good === null || good.runs.every(({ close }, number) => close !== "passed" || runs[number]?.close === "passed");
+const isNoWorse = (good, { runs }) => good === null || good.runs.every((run, number) => !isGood(run) || isGood(runs[number]));
 
 // Plays all sessions again, and shows the first that doesn't pass.
 export const playedAgain = (state) => ({ ...state, suite: null, isHeld: false, isNew: state.file !== null, saved: "", told: null });
@@ -146,7 +163,7 @@ export const sessionOf = (state) => (isSessionOpen(state) ? state.file.entries[s
 export function sessionOpened(state, number) {
   const { name, source, inputs, index } = state.file.entries[number], parting = state.comparison?.partings[number] ?? null;
   const work = { own: source === "" || source === state.text ? null : source, index, inputs, name, opened: number };
-  const isPassed = runsOfNow(state)?.[number].close === "passed" && parting === null;
+  const isPassed = isGood(runsOfNow(state)?.[number]) && parting === null;
   const next = withWork(state, work, { looked: parting?.frame ?? (isPassed ? 0 : null) });
   return runsOfNow(next) !== null && isBroken(next.suite.runs[number]) ? { ...next, since: changeOf(next, number) } : next;
 }
@@ -159,14 +176,14 @@ function obstacleOf(game, run, reached, recorded, order) {
   return lastObstacle.why;
 }
 
-// What the session that is open reached beside what was recorded: { reached, recorded, why }, where both are on the screen and differ; `why` says what
-// stands against accepting it. Else null.
+// What the session that is open reached beside what was recorded: { reached, recorded, isSolved, why }, where both are on the screen and differ; `why` says
+// what stands against accepting it. Else null.
 export function differenceOf(state) {
   const entry = sessionOf(state), run = entry === null ? null : runsOfNow(state)?.[state.work.opened] ?? null;
   if (run === null || run.close !== "differs" || !isPlayed(state) || !isAtEnd(state) || (state.comparison?.partings[state.work.opened] ?? null) !== null) return null;
   const reached = framesOf(state).at(-1)?.level;
   if (reached === undefined) return null;
-  return { reached, recorded: entry.level, why: obstacleOf(gameOf(sourceOf(state)), run, reached, entry.level, state.order) };
+  return { reached, recorded: entry.level, isSolved: state.played.isSolved, why: obstacleOf(gameOf(sourceOf(state)), run, reached, entry.level, state.order) };
 }
 
 // The state where what is on the screen counts as seen.

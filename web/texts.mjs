@@ -30,7 +30,7 @@ export function whyNoField(text) {
 }
 
 // What is said where a text comes to hand otherwise than by the field.
-export const noFieldTold = (what, why) => `${what} ${why}. It isn't put into the field, but stays as a recording's own, or to be put back: save that as a session, which the command plays.`;
+export const noFieldTold = (what, why) => `${what} ${why}. It isn't put into the field, but stays as a recording's own, which can be saved as a file, or to be put back.`;
 
 export const shortened = (text) => {
   const letters = [...text.slice(0, 2 * MOST_LETTERS + 1)];

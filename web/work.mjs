@@ -38,7 +38,7 @@ export function beginning(example) {
     isTicked: false, // whether games with a clock are played without it, their ticks as recorded
     isHeld: false, // whether nothing is played until it is asked for
     file: null,
-    isUnsaved: false, // whether the file has changes that were not saved as a file
+    isUnsaved: false, // whether the file was changed here, also where it was handed to the browser since
     suite: null, // what the sessions of the file came to
     good: null, // the last such answer in which all passed that had passed before
     isNew: false, // whether the first failure is opened, once all is played

@@ -20,7 +20,7 @@ class Visit {
     visit.store = await Store.open(...words);
     const { state, read, ...it } = stateOfVisit(visit.store.entries, GAME);
     await visit.store.goOn(read);
-    Object.assign(visit, { state, told: visitTold({ ...it, isCut: it.isCut || visit.store.isCut }), kept: [] });
+    Object.assign(visit, { state, told: visitTold({ ...it, isCut: it.isCut || visit.store.isCut, isGone: visit.store.isGone }), kept: [] });
     visit.keep(state);
     return visit;
   }
@@ -164,6 +164,30 @@ test("a value that comes to the database after the page was left is no newer tha
   assert.ok(["one", "two"].includes(entry.work.name));
   browser.leave();
   assert.equal((await Visit.of()).state.work.name, "two");
+});
+
+test("where the database was deleted while a tab was open, the next visit says what it lacks", async () => {
+  const browser = new OneTab(), visit = await worked(browser, LONG[0], LONG[1]);
+  browser.database.isHeld = false;
+  visit.keep({ ...visit.state, file: FILE, isUnsaved: true });
+  await visit.written();
+  browser.database.entries.clear();
+  visit.key(1);
+  browser.leave();
+  const next = await Visit.of();
+  assert.deepEqual([next.state.file, next.state.past, inputsOf(next.state), next.state.text], [null, [], [1], LONG[1]]);
+  assert.equal(next.told, "What this browser kept was deleted: of the last visit a sessions file and 1 thing to put back can't be read any more.");
+  await next.written();
+  browser.leave();
+  const again = await Visit.of();
+  assert.equal(again.told, null);
+  await again.written();
+  browser.database.entries.clear();
+  browser.leave();
+  assert.match((await Visit.of()).told, /^Nothing is kept of this tab's last visit/);
+  browser.close();
+  browser.database.entries.clear();
+  assert.equal((await Visit.of()).told, null);
 });
 
 test("what was noted is found again by another tab, though the database never had it", async () => {

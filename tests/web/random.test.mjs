@@ -5,7 +5,7 @@ import test from "node:test";
 import { isDeepStrictEqual } from "node:util";
 import { MOST_PAST } from "../../web/past.mjs";
 import { SessionFile } from "../../web/session-file.mjs";
-import { accepted, filed, followed, namesakeOf, removed, savedAs, withOtherFile } from "../../web/filing.mjs";
+import { accepted, followed, namesakeOf, removed, savedAs, withOtherFile } from "../../web/filing.mjs";
 import { isPlayed, sourceOf } from "../../web/replaying.mjs";
 import { coverageStopped, covered, linePointedAt, opened, stageStepped } from "../../web/staging.mjs";
 import { differenceOf, playedAgain, rowsOf, runsOfNow, seenOf, sessionOf, sessionOpened } from "../../web/suite.mjs";
@@ -98,7 +98,7 @@ const ACTIONS = [
   ...Array.from({ length: 3 }, () => (random) => ({ act: (state) => edited(state, editOf(random, state.text)), isEdit: true })),
   (random) => ({ act: (state) => named(state, pick(random, ["walk", "push", ""])), isName: true }),
   ...Array.from({ length: 4 }, () => (random) => change((state) => (hasFile(state) ? sessionOpened(state, numberIn(random, state)) : state))),
-  () => change((state) => savedAs(state)), () => change((state) => (namesakeOf(state) < 0 ? state : savedAs(state, namesakeOf(state)))), () => change(removed), () => change(playedAgain), () => change(filed),
+  () => change((state) => savedAs(state)), () => change((state) => (namesakeOf(state) < 0 ? state : savedAs(state, namesakeOf(state)))), () => change(removed), () => change(playedAgain),
   (random) => change((state) => withOtherFile(state, new SessionFile("file.json", new Uint8Array(pick(random, FILES))))), () => change((state) => (random3(state) ? withOtherFile(state, null) : state)),
   () => change((state) => (differenceOf(state)?.why === null ? accepted(state, [state.work.opened]) : state)), () => change((state) => accepted(state, seenOf(state))),
   () => change((state) => (state.file === null ? state : followed(state))), (random) => change((state) => inOrder(state, pick(random, ["columns", "columns", "rows"]))), () => change(withOwnText),

@@ -1,6 +1,7 @@
 // "Solve from here", without a browser: what is asked, what is said of the answers, and what the ghost and "Take it" make of them.
 import assert from "node:assert/strict";
 import test from "node:test";
+import { isSavable } from "../../web/filing.mjs";
 import { Ghost } from "../../web/ghost.mjs";
 import { searchesIn } from "../../web/page-engine.mjs";
 import { framesOf, shownOf } from "../../web/replaying.mjs";
@@ -158,6 +159,7 @@ it("a ghost shows the presses one after another, and nothing is recorded", async
   const bench = await solved([1], found([2, 3], frames)), before = bench.state;
   assert.deepEqual([0, 1, 2].map((count) => { const seen = ghostOf(before, count); return framesOf(seen)[shownOf(seen)].level; }), [before.played.frames[1].level, "a:0,\n", "c:0,\n"]);
   assert.deepEqual(ghostOf(before, 1).work.inputs, [1, 2, 3]);
+  assert.deepEqual([isSavable({ ...before, queue: [] }), isSavable({ ...ghostOf(before, 1), queue: [] })], [true, false]);
   const shown = [], ghost = new Ghost(() => shown.push(ghost.seen(before).ghost?.count ?? null));
   ghost.begin(before);
   while (shown.length < 3) await moved();

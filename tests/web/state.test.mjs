@@ -6,9 +6,9 @@ import { findingsIn } from "../../web/console.mjs";
 import { KeptOpen } from "../../web/kept-open.mjs";
 import { stateFrom, stateOfVisit } from "../../web/kept-work.mjs";
 import { playedBy } from "../../web/page-engine.mjs";
-import { faultOfText, othersTold, ownTold, putBackTold, statusOf, stepTold, tabTold, unlikenessTold, verdictOf, visitTold } from "../../web/page-words.mjs";
+import { endTold, faultOfText, othersTold, ownTold, putBackTold, statusOf, stepTold, tabTold, toldOfLevel, unlikenessTold, verdictOf, visitTold } from "../../web/page-words.mjs";
 import { SessionFile } from "../../web/session-file.mjs";
-import { accepted, filed, followed, namesakeOf, removed, savedAs, savedLater, withOtherFile, withRecordings } from "../../web/filing.mjs";
+import { accepted, followed, namesakeOf, removed, savedAs, savedLater, withOtherFile, withRecordings } from "../../web/filing.mjs";
 import { framesOf, isPlayed, shownOf, sourceOf } from "../../web/replaying.mjs";
 import { differenceOf, playedAgain, rowsOf, seenOf, sessionOf, sessionOpened } from "../../web/suite.mjs";
 import { beginning, begunAnew, cutBack, edited, fromLevel, held, inOrder, lookedAt, lookedAtInput, named, pressed, putBack, released, withGame, withOwnText } from "../../web/work.mjs";
@@ -100,6 +100,20 @@ it("an input is called by the number that the command gives it", async () => {
   assert.match(stepTold(bench.state), /^before any input; /);
 });
 
+it("until what is worked on is played, nothing that was played before is said of it", async () => {
+  const bench = await played(1, 0), won = { ...bench.state, played: { ...bench.state.played, isSolved: true } };
+  assert.deepEqual([endTold(won), endTold(bench.state).text], [{ text: "\u2713 solved", isSolved: true }, "not solved"]);
+  for (const change of [(state) => edited(state, OTHER), (state) => withGame(state, OTHER), (state) => fromLevel(state, 1), (state) => inOrder(state, "rows"), (state) => held(edited(state, OTHER)), (state) => withOtherFile(state, fileOf([["one", [OTHER, [1], "background:0,", 0]]]))]) {
+    const next = change(won);
+    assert.deepEqual(endTold(next), { text: "not played yet", isSolved: false });
+    assert.match(stepTold(next), /^as it was played before: after input 1 \(up\)/);
+    assert.match(toldOfLevel(next), /^as it was played before: Simple Block Pushing Game, /);
+  }
+  assert.deepEqual(endTold(beginning(GAME)), { text: "not played yet", isSolved: false });
+  await bench.act(edited, "title Nothing");
+  assert.deepEqual(endTold(bench.state), { text: "not played", isSolved: false });
+});
+
 // ---- one truth about the text
 
 it("a recording over the text at hand has no text of its own, and an edit is what is played", async () => {
@@ -157,6 +171,41 @@ it("the text of a file is taken to hand where nothing was written yet, and else 
   assert.deepEqual([another.state.text, ownTold(another.state)], [OTHER, ""]);
   await another.act(putBack);
   assert.equal(another.state.text, BROKEN);
+});
+
+// ---- what must be solved, as its file says
+
+const DAYS = (name) => DAY.find(([it]) => it === name)[1].slice(1), [WON, HALF] = ["the second level alone", "half way through the first"].map(DAYS);
+
+it("a session that passes and must be solved is told where it isn't, and only where the command demands it", async () => {
+  const bench = new Bench(), wanted = (name, body, ...rest) => [name, ["", ...body], ...rest];
+  await bench.act(withOtherFile, fileOf([wanted("won", WON, "solved"), wanted("half", HALF, 5, "solved"), wanted("plain", HALF), wanted("other", HALF, true, 1, ["x"], "so"), wanted("in", [...HALF, "solved"])]));
+  assert.deepEqual(rowsOf(bench.state).map(({ close, isUnsolved }) => [close, isUnsolved]), [["passed", false], ["passed", true], ...Array(3).fill(["passed", false])]);
+  assert.match(verdictOf(bench.state, null).text, /^1 no longer solved: 5 sessions in /);
+  assert.deepEqual([verdictOf(bench.state, null).close, tabTold(bench.state), bench.state.work.opened], ["differs", "Sessions: 1 no longer solved", 1]);
+  assert.deepEqual(statusOf(bench.state), { text: "Passed: the last level is the recorded one. But it must be solved, and isn't.", close: "failed" });
+  await bench.act(withOtherFile, fileOf([wanted("won", WON, "solved"), wanted("plain", HALF)]));
+  assert.deepEqual([verdictOf(bench.state, null).close, tabTold(bench.state)], ["passed", "Sessions (2)"]);
+  await bench.act(edited, GAME.replace("All Target on Crate", "All Wall on Crate"));
+  assert.deepEqual([tabTold(bench.state), bench.state.work.opened], ["Sessions: 1 no longer solved", 0]);
+});
+
+it("what is accepted or replaced and isn't solved though it must be is told as that", async () => {
+  const bench = new Bench();
+  await bench.act(withOtherFile, fileOf([["won", ["", [1], "background:0,", 0], "solved"], ["plain", ["", [1], "background:0,", 0]]]));
+  for (const number of [0, 1]) {
+    await bench.act(sessionOpened, number);
+    await bench.act(lookedAt, Infinity);
+  }
+  await bench.act((state) => accepted(state, seenOf(state)));
+  assert.deepEqual([bench.state.saved, tabTold(bench.state)], ["2 recorded levels changed; not all are solved that must be", "Sessions: 1 no longer solved"]);
+  await bench.act(sessionOpened, 0);
+  await bench.act(pressed, 1);
+  await bench.act(savedAs, 0);
+  assert.deepEqual([bench.state.saved, entriesIn(bench.state)[0].at(-1), tabTold(bench.state)], ["Saved in mine.json as session 0. It must be solved, and isn't.", "solved", "Sessions: 1 no longer solved"]);
+  await bench.act(sessionOpened, 1);
+  await bench.act(savedAs, 1);
+  assert.equal(bench.state.saved, "Saved in mine.json as session 1.");
 });
 
 // ---- all is played at each edit, and the first that broke is shown
@@ -278,7 +327,7 @@ it("a file that was closed or replaced unsaved is put back, and what is put back
   assert.deepEqual([bench.state.work.inputs, bench.state.work.opened], [[...PUSHING, 1], null]);
   await bench.act(putBack);
   assert.equal(bench.state.file.name, "recordings.json");
-  await bench.act(filed);
+  await bench.act((state) => ({ ...state, isUnsaved: false }));
   await bench.act(withOtherFile, fileOf(DAY, "b.json"));
   while (bench.state.past.length > 0 && bench.state.work.inputs.length !== 4) await bench.act(putBack);
   assert.equal(bench.state.work.opened, null);
@@ -298,6 +347,20 @@ it("a session that was removed or replaced is put back", async () => {
   assert.deepEqual(entriesIn(bench.state), []);
   await bench.act(putBack);
   assert.equal(entriesIn(bench.state).length, 1);
+});
+
+it("of two sessions with one name the one that is open is replaced", async () => {
+  const bench = new Bench(), inputs = () => entriesIn(bench.state).map(([, [, it]]) => it);
+  await bench.act(withOtherFile, fileOf([["a", ["", [2, 3], "", 0]], ["a", ["", [1], "", 1]], ["b", ["", [0], "", 0]]]));
+  await bench.act(sessionOpened, 1);
+  await bench.act(lookedAt, Infinity);
+  await bench.act(pressed, 2);
+  await bench.act(savedAs, namesakeOf(bench.state));
+  assert.deepEqual(inputs(), [[2, 3], [1, 2], [0]]);
+  await bench.act(named, "b");
+  assert.equal(namesakeOf(bench.state), 2);
+  await bench.act((state) => named(begunAnew(state), "a"));
+  assert.equal(namesakeOf(bench.state), 0);
 });
 
 it("what waits to be saved is not what came to hand meanwhile", async () => {
@@ -388,6 +451,23 @@ it("a text that is put back, and that a browser would lay out for minutes, comes
   assert.deepEqual(await back([{ text: MARKED }]), { text: GAME, own: MARKED, inputs: [], others: [[1]] });
   assert.deepEqual(await back([lost]), { text: GAME, own: MARKED, inputs: [2, 1], others: [] });
   assert.deepEqual(await back([{ ...lost, work: { ...lost.work, own: BROKEN } }]), { text: GAME, own: BROKEN, inputs: [2, 1], others: [[2, 1], { text: MARKED }] });
+});
+
+it("a text that had to stand as a recording's own is put back, whatever took its place, and is left to another tab", async () => {
+  const { kept } = await played(), of = (...entries) => stateOfVisit(entries.map((value, number) => ({ name: `${number}`, value: structuredClone(value) })), GAME).state;
+  for (const act of [(state) => edited(state, `${GAME}x`), (state) => withGame(state, OTHER), (state) => withOtherFile(state, fileOf([["one", [OTHER, [1], "background:0,", 0]]])), (state) => sessionOpened(withOtherFile(state, fileOf(DAY)), 1)]) {
+    const bench = new Bench(of({ ...kept, text: MARKED }));
+    await bench.act(act);
+    assert.notEqual(bench.state.work.own, MARKED);
+    assert.match(putBackTold(bench.state), /the text of Another Simple Block Pushing Game, as a recording's own$/);
+    await bench.act(edited, `${GAME}y`);
+    await bench.act(putBack);
+    if (bench.state.work.own !== MARKED) await bench.act(putBack);
+    assert.deepEqual([bench.state.work.own, isPlayed(bench.state)], [MARKED, true]);
+  }
+  const visit = new Bench(of({ ...kept, text: MARKED }));
+  await visit.runner.idle();
+  assert.deepEqual(of({ ...kept, text: OTHER }, visit.kept).past.map(({ work }) => work.own), [MARKED]);
 });
 
 it("a list of gaps alone, which takes no room in the store, takes none as it is read", async () => {
