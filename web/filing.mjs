@@ -3,7 +3,7 @@ import { partingIn } from "./comparing.mjs";
 import { plural } from "./elements.mjs";
 import { addedTold, toAdd } from "./findings.mjs";
 import { readingRuns } from "./lines.mjs";
-import { remembering } from "./past.mjs";
+import { isBeginningOf, isSameList, remembering } from "./past.mjs";
 import { framesOf, isPlayed, sourceOf } from "./replaying.mjs";
 import { MOST_SESSIONS, Refusal, SessionFile, isSolvedWanted } from "./session-file.mjs";
 import { isOther, runWithFrames, runsOfNow, sessionOpened } from "./suite.mjs";
@@ -45,10 +45,23 @@ export function savedAs(state, number = null) {
   return { ...next, saved: `Saved in ${file.name} as session ${opened}.${demanded}` };
 }
 
-const isSameAtHand = (one, other) => one.file === other.file && sourceOf(one) === sourceOf(other) && ["index", "name", "opened"].every((it) => one.work[it] === other.work[it]);
+// Whether what is at hand is what was, or goes on with it.
+function isSameAtHand(state, asked) {
+  const isSame = state.file === asked.file && sourceOf(state) === sourceOf(asked) && ["index", "name", "opened"].every((it) => state.work[it] === asked.work[it]);
+  return isSame && isBeginningOf(asked.work.inputs, state.work.inputs);
+}
+
+// Whether the open session is what was to be saved, as where that was asked for twice.
+function isSavedAlready(state, asked) {
+  const entry = state.file?.entries[state.work.opened], { index, inputs } = asked.work;
+  return entry !== undefined && nameOf(state) === nameOf(asked) && entry.name === nameOf(asked) && entry.index === index && (entry.source || state.text) === sourceOf(asked) && isSameList(entry.inputs, inputs);
+}
 
 // Saves the recording as `savedAs` does, where that was asked for in an earlier state, and waited until all was played: not what came to hand meanwhile.
-export const savedLater = (state, asked, number) => (isSameAtHand(state, asked) ? savedAs(state, number) : { ...state, saved: "Not saved: another text, recording or file came meanwhile." });
+export function savedLater(state, asked, number) {
+  if (isSameAtHand(state, asked)) return savedAs(state, number);
+  return isSavedAlready(state, asked) ? state : { ...state, saved: "Not saved: another text, recording or file came meanwhile." };
+}
 
 export function removed(state) {
   if (state.work.opened === null) return state;

@@ -1,7 +1,7 @@
 // A state as it is kept between visits, and back. What is kept has a version; what can't be read is no state.
 import { keyOfValue, lackingOf, withNote } from "./notes.mjs";
 import { packed, takePack, unpacked } from "./packing.mjs";
-import { MOST_PAST, remembering } from "./past.mjs";
+import { MOST_PAST, lastLost, lostNow, remembering } from "./past.mjs";
 import { SessionFile } from "./session-file.mjs";
 import { whyNoField } from "./texts.mjs";
 import { beginning, besideField } from "./work.mjs";
@@ -56,9 +56,9 @@ function fileFrom(value) {
 }
 
 function lostFrom(value) {
-  const { text, work, file, isUnsaved } = value;
+  const { text, work, file, isUnsaved, number } = value;
   wanted(text === undefined || isText(text));
-  const lost = { ...(isText(text) ? { text } : {}), ...(work ? { work: workFrom(work, null) } : {}), ...(file ? { file: fileFrom(file), isUnsaved: Boolean(isUnsaved) } : {}) };
+  const lost = { ...(isWhole(number) ? { number } : {}), ...(isText(text) ? { text } : {}), ...(work ? { work: workFrom(work, null) } : {}), ...(file ? { file: fileFrom(file), isUnsaved: Boolean(isUnsaved) } : {}) };
   keptLosses.set(lost, value);
   return lost;
 }
@@ -75,7 +75,7 @@ export function stateFrom(value, example) {
     const { version, text, order, work, queue = [], file: bytes, isUnsaved, past, tab, isTicked, isBusy } = value.version === undefined ? fromFirst(value) : value;
     wanted(version === VERSION && isText(text) && ORDERS_OF_CELLS.includes(order) && Array.isArray(past));
     const file = fileFrom(bytes);
-    return { ...beginning(example), text, order, work: workFrom(work, file), queue: queueFrom(queue), file, isUnsaved: Boolean(isUnsaved), past: Array.from(past.slice(-MOST_PAST), lostFrom), tab: tab === "sessions" ? tab : "game", isTicked: Boolean(isTicked), isHeld: Boolean(isBusy) };
+    return { ...beginning(example), text, order, work: workFrom(work, file), queue: queueFrom(queue), file, isUnsaved: Boolean(isUnsaved), past: lastLost(Array.from(past.slice(-MOST_PAST), lostFrom)), tab: tab === "sessions" ? tab : "game", isTicked: Boolean(isTicked), isHeld: Boolean(isBusy) };
   } catch {
     return null;
   }
@@ -98,7 +98,7 @@ function leftBy({ text, work, file, isUnsaved, past, example }) {
 
 // What another tab left, but for what a state has itself, as a copy of one that isn't gone does.
 function leftBeside(other, state) {
-  const keyOf = (lost) => keyOfValue(keptLoss(lost)), there = new Set(leftBy(state).map(keyOf));
+  const keyOf = (lost) => keyOfValue({ ...keptLoss(lost), number: undefined }), there = new Set(leftBy(state).map(keyOf));
   return leftBy(other).filter((lost) => !there.has(keyOf(lost)));
 }
 
@@ -116,7 +116,7 @@ function takenBeside(others, state) {
 // A state with whose text the field may begin, and else why not: the example stands there then.
 function withField(state) {
   const { text, work, example, past } = state, why = whyNoField(text), beside = why && besideField({ text, work });
-  return { why, state: why === null ? state : { ...state, text: example, work: beside.work, past: [...past, ...beside.past].slice(-MOST_PAST) } };
+  return { why, state: why === null ? state : { ...state, text: example, work: beside.work, past: lastLost([...past, ...lostNow(beside.past, past)]) } };
 }
 
 // The state to begin with, of all entries that were kept: { state, read, unreadable, isCut, waiting, whyNot, lacking }, where `read` are the names of those that it
@@ -126,5 +126,5 @@ export function stateOfVisit(entries, example) {
   const found = entries.map((entry) => ({ ...entry, state: stateOfEntry(entry, example) })), readable = found.filter(({ state }) => state !== null);
   const [first = { state: beginning(example) }, ...others] = readable, { state, why: whyNot } = withField(first.state), { taken, waiting } = takenBeside(others, state);
   const read = readable.map(({ name }) => name).filter((name) => !waiting.includes(name)), isCut = readable.some(({ note }) => note?.isCut);
-  return { state: { ...state, past: [...taken, ...state.past] }, read, unreadable: found.length - readable.length, isCut, waiting: waiting.length, whyNot, lacking: entries.map(lackingOf).filter(Boolean) };
+  return { state: { ...state, past: [...lostNow(taken, state.past), ...state.past] }, read, unreadable: found.length - readable.length, isCut, waiting: waiting.length, whyNot, lacking: entries.map(lackingOf).filter(Boolean) };
 }

@@ -121,7 +121,7 @@ export const nameShown = ({ work: { name } }) => name.slice(0, MOST_OF_A_NAME_SH
 
 export const UNSOLVED = "no longer solved"; // though it passed, and must be
 
-const failuresOf = (state) => rowsOf(state).filter((row) => isFailure(row) && (row.close !== "passed" || row.isUnsolved));
+const failuresOf = (state) => rowsOf(state).filter((row) => row.close !== null && isFailure(row) && (row.close !== "passed" || row.isUnsolved));
 
 // "2 differ", "1 stopped", or "3 did not pass" where they ended in several ways.
 function failuresTold(failures) {

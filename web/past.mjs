@@ -1,10 +1,12 @@
 // What can be put back: texts, recordings, names and sessions files that something else took the place of. The newest stands last.
 
 export const MOST_PAST = 60;
+const MOST_BYTES_PAST = 256 * 2 ** 20; // of texts and files that can be put back: each of them is held twice, as it is read and as it is kept
 
 export const isSameList = (one, other) => one === other || (one.length === other.length && one.every((item, place) => item === other[place]));
 
-const isBeginningOf = (one, other) => one.length <= other.length && one.every((item, place) => item === other[place]);
+// Whether a list is the beginning of another one, or all of it.
+export const isBeginningOf = (one, other) => one.length <= other.length && one.every((item, place) => item === other[place]);
 
 // The text that a recording is played over.
 const textUnder = (work, text) => work.own ?? text;
@@ -65,14 +67,36 @@ export function lostIn(before, after) {
   return Object.keys(lost).length === 0 ? null : lost;
 }
 
+const numberOf = ({ number = 0 }) => number;
+
+// Things that were lost now, behind others: each has a number, by which it is known which were lost first, wherever they stand.
+export function lostNow(things, past) {
+  const last = past.reduce((most, it) => Math.max(most, numberOf(it)), 0);
+  return things.map((lost, place) => ({ ...lost, number: last + 1 + place }));
+}
+
+const bytesOf = ({ text = "", file = null }) => text.length + (file?.bytes.length ?? 0);
+
+// Of things that can be put back the last that were lost, in their places: as many as stay, and as have room; one in any case.
+export function lastLost(past) {
+  const order = [...past.keys()].sort((one, other) => numberOf(past[other]) - numberOf(past[one]) || other - one), stays = new Set();
+  let bytes = 0;
+  for (const place of order) {
+    bytes += bytesOf(past[place]);
+    if (stays.size === MOST_PAST || (stays.size > 0 && bytes > MOST_BYTES_PAST)) break;
+    stays.add(place);
+  }
+  return stays.size === past.length ? past : past.filter((_, place) => stays.has(place));
+}
+
 // The next state, in which can be put back what it lost of the one before.
 export function remembering(before, after) {
   const lost = lostIn(before, after);
-  return lost === null ? after : { ...after, past: [...after.past, lost].slice(-MOST_PAST) };
+  return lost === null ? after : { ...after, past: lastLost([...after.past, ...lostNow([lost], after.past)]) };
 }
 
 // The next state where what is worked on takes the place of what is put back: that stands first then, and comes last.
 export function behindAll(before, after) {
   const lost = lostIn(before, after);
-  return lost === null ? after : { ...after, past: [lost, ...after.past] };
+  return lost === null ? after : { ...after, past: lastLost([...lostNow([lost], after.past), ...after.past]) };
 }

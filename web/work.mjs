@@ -2,7 +2,7 @@
 // knows the page or the engine. What the engine is wanted to play follows from the state, and its answer leads to the next (replaying.mjs, suite.mjs).
 import { levelsOf } from "./game.mjs";
 import { messagesAt } from "./messages.mjs";
-import { behindAll, remembering } from "./past.mjs";
+import { behindAll, lostNow, remembering } from "./past.mjs";
 import { firstFrom } from "./recording.mjs";
 import { cutToPlayed, framesOf, gameOf, isAtEnd, isPlayed, sourceOf, takenOf } from "./replaying.mjs";
 import { MOST_INPUTS } from "./session-file.mjs";
@@ -165,6 +165,6 @@ export function putBack(state) {
   const why = last.text === undefined ? null : whyNoField(last.text), { past, ...lost } = why === null ? { ...last, past: [] } : besideField(last);
   const { text = state.text, work = state.work, file = state.file, isUnsaved = state.isUnsaved } = lost;
   const open = { ...work, opened: stillOpened(work, file, text) }, told = why && { text: noFieldTold("The text that was put back", why), close: null };
-  const next = { ...state, text, work: open, file, isUnsaved, past: [...state.past.slice(0, -1), ...past], looked: null, queue: [], ...AFRESH, told };
+  const next = { ...state, text, work: open, file, isUnsaved, past: [...state.past.slice(0, -1), ...lostNow(past, state.past)], looked: null, queue: [], ...AFRESH, told };
   return behindAll(state, next);
 }

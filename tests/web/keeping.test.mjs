@@ -333,7 +333,7 @@ test("what a closed tab left waits for a tab of its own where no more can be put
   // a tab that is opened beside this one may have it
   assert.deepEqual([...browser.locks.held].includes("saxtegun work left"), false);
   const almost = stateOfVisit([{ name: "one", value: keptOf({ ...beginning(GAME), text: "title full", past: past.slice(1) }, false) }, { name: "other", value: keptOf(left, false) }], GAME);
-  assert.deepEqual([almost.read, almost.waiting, almost.state.past.length, almost.state.past[0]], [["one", "other"], 0, 60, { text: "title left" }]);
+  assert.deepEqual([almost.read, almost.waiting, almost.state.past.length, almost.state.past[0].text], [["one", "other"], 0, 60, "title left"]);
 });
 
 test("a note that is none takes no work away", () => {

@@ -9,6 +9,7 @@ import { playedBy } from "../../web/page-engine.mjs";
 import { endTold, faultOfText, othersTold, ownTold, putBackTold, statusOf, stepTold, tabTold, toldOfLevel, unlikenessTold, verdictOf, visitTold } from "../../web/page-words.mjs";
 import { SessionFile } from "../../web/session-file.mjs";
 import { accepted, followed, namesakeOf, removed, savedAs, savedLater, withOtherFile, withRecordings } from "../../web/filing.mjs";
+import { lastLost } from "../../web/past.mjs";
 import { framesOf, isPlayed, shownOf, sourceOf } from "../../web/replaying.mjs";
 import { differenceOf, playedAgain, rowsOf, seenOf, sessionOf, sessionOpened } from "../../web/suite.mjs";
 import { beginning, begunAnew, cutBack, edited, fromLevel, held, inOrder, lookedAt, lookedAtInput, named, pressed, putBack, released, withGame, withOwnText } from "../../web/work.mjs";
@@ -372,6 +373,20 @@ it("what waits to be saved is not what came to hand meanwhile", async () => {
     await bench.act(savedLater, asked, 0);
     assert.deepEqual([bench.state.file === file, bench.state.saved], [true, "Not saved: another text, recording or file came meanwhile."]);
   }
+  // the same name over the same text, but another recording
+  const anew = await played(...PUSHING);
+  await anew.act(named, "push");
+  const before = anew.state;
+  await anew.act((state) => lookedAt(state, 0));
+  await anew.act(pressed, 3);
+  await anew.act(savedLater, before, 0);
+  assert.deepEqual([anew.state.file === before.file, anew.state.saved], [true, "Not saved: another text, recording or file came meanwhile."]);
+  // asked for twice, it is saved once
+  const twice = await withPush(), once = twice.state;
+  await twice.act(savedLater, once, null);
+  const { saved } = twice.state;
+  await twice.act(savedLater, once, null);
+  assert.deepEqual([saved, twice.state.saved, entriesIn(twice.state).length], ["Saved in recordings.json as session 1.", saved, 2]);
   const bench = await withPush(), asked = bench.state;
   await bench.act(pressed, 3);
   await bench.act(savedLater, asked, 0);
@@ -425,6 +440,26 @@ it("what can't be read, or has another version, leaves a page that works", async
 const MARKED = `${OTHER}(${"a\u0301".repeat(4097)})\n`;
 const NO_FIELD = /^The text that [a-z ]+ has more than 4,096 letters beyond printable ASCII on line [0-9]+, which a browser may take minutes to lay out\. It isn't put into the field/;
 
+it("of more than 60 things that were lost those go first that were lost first, wherever they stand", async () => {
+  const bench = await played(2, 1, 0, 2, 2, 3, 3, 1), last = bench.state.work.inputs, past = Array.from({ length: 60 }, (_, number) => ({ number: number + 1, text: `${GAME}(${number})` }));
+  bench.begin({ ...bench.state, past });
+  const titles = () => bench.state.past.map(({ text, work }) => work?.inputs.length ?? Number(text.slice(GAME.length + 1, -1)));
+  await bench.act(putBack);
+  // what stood there is lost last, and stands first
+  assert.deepEqual([titles()[0], titles().length], [8, 60]);
+  await bench.act(withGame, `${GAME}(x)`);
+  assert.deepEqual([bench.state.past.length, bench.state.past.some(({ work }) => work?.inputs === last)], [60, true]);
+  const texts = bench.state.past.flatMap(({ text }) => text ?? []);
+  assert.deepEqual([0, 1, 59].map((number) => texts.includes(`${GAME}(${number})`)), [false, true, true]);
+});
+
+test("what can be put back has 256 MiB, and the last that was lost in any case", () => {
+  const lost = (number, size) => ({ number, file: { bytes: { length: size * 2 ** 20 } } }), numbers = (...sizes) => lastLost(sizes.map(([number, size]) => lost(number, size))).map(({ number }) => number);
+  assert.deepEqual(numbers([4, 100], [1, 1], [2, 100], [3, 56]), [4, 2, 3]);
+  assert.deepEqual(numbers([4, 100], [1, 1], [2, 100], [3, 55]), [4, 1, 2, 3]);
+  assert.deepEqual(numbers([2, 257], [1, 1]), [2]);
+});
+
 it("a text that was kept, and that a browser would lay out for minutes, is played as the recording's own, and the field begins with the example", async () => {
   const bench = await played(1, 0);
   const { kept } = bench, of = (value) => stateOfVisit([{ name: "work", value: structuredClone(value) }], GAME);
@@ -435,7 +470,7 @@ it("a text that was kept, and that a browser would lay out for minutes, is playe
   await bench.runner.idle();
   assert.deepEqual([isPlayed(bench.state), framesOf(bench.state).length], [true, 3]);
   const beside = of({ ...kept, text: MARKED, work: { ...kept.work, own: BROKEN } }).state;
-  assert.deepEqual([beside.text, beside.work.own, beside.past], [GAME, BROKEN, [{ text: MARKED }]]);
+  assert.deepEqual([beside.text, beside.work.own, beside.past.map(({ text }) => text)], [GAME, BROKEN, [MARKED]]);
   assert.deepEqual([of(kept).whyNot, visitTold({ ...of(kept), isCut: false })], [null, null]);
 });
 
@@ -446,11 +481,11 @@ it("a text that is put back, and that a browser would lay out for minutes, comes
     await bench.act(putBack);
     const { text, work: { own, inputs }, told, past: others } = bench.state;
     assert.match(told.text, NO_FIELD);
-    return { text, own, inputs, others: others.map((it) => it.work?.inputs ?? it) };
+    return { text, own, inputs, others: others.map((it) => it.work?.inputs ?? it.text) };
   };
   assert.deepEqual(await back([{ text: MARKED }]), { text: GAME, own: MARKED, inputs: [], others: [[1]] });
   assert.deepEqual(await back([lost]), { text: GAME, own: MARKED, inputs: [2, 1], others: [] });
-  assert.deepEqual(await back([{ ...lost, work: { ...lost.work, own: BROKEN } }]), { text: GAME, own: BROKEN, inputs: [2, 1], others: [[2, 1], { text: MARKED }] });
+  assert.deepEqual(await back([{ ...lost, work: { ...lost.work, own: BROKEN } }]), { text: GAME, own: BROKEN, inputs: [2, 1], others: [[2, 1], MARKED] });
 });
 
 it("a text that had to stand as a recording's own is put back, whatever took its place, and is left to another tab", async () => {
