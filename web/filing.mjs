@@ -77,11 +77,11 @@ export function followed(state) {
 }
 
 // Another file takes the place of the one that is open, or none. Where it has one session, that is opened at once, and played while the file is.
-export function withOtherFile(state, file) {
+export function withOtherFile(state, file, isUnsaved = false) {
   const work = { ...state.work, opened: null }, own = file === null ? null : theOneText(file);
   const isUntouched = state.text.trim() === "" || state.text === state.example;
   const taken = own !== null && isUntouched && work.own === null ? { text: own } : {};
-  const next = { ...state, ...taken, file, work, isUnsaved: false, suite: null, good: null, seen: new Map(), comparison: null, isHeld: false, isNew: file !== null, tab: "sessions", told: null, saved: "", since: null };
+  const next = { ...state, ...taken, file, work, isUnsaved, suite: null, good: null, seen: new Map(), comparison: null, isHeld: false, isNew: file !== null, tab: "sessions", told: null, saved: "", since: null };
   const taking = remembering(state, next);
   return file?.entries.length === 1 ? sessionOpened(taking, 0) : taking;
 }

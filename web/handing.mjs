@@ -80,6 +80,9 @@ export async function takeEach(files, take, refuse) {
   }
 }
 
+// The name of what is pasted, which is no file of a disk.
+export const PASTED = "pasted";
+
 // Whether a text that is pasted into an element is left to it: not one that a browser would lay out there for minutes.
 export const isTyped = (text, element) => text === "" || (Boolean(element.matches?.("textarea, input")) && whyNoField(text) === null);
 
@@ -100,6 +103,6 @@ export function takeFiles(take, refuse, during) {
     const text = event.clipboardData.getData("text/plain");
     if (isTyped(text, event.target)) return;
     event.preventDefault();
-    take("pasted", new TextEncoder().encode(text));
+    take(PASTED, new TextEncoder().encode(text));
   });
 }

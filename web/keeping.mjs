@@ -1,6 +1,6 @@
 // Keeps what is worked on between visits, in the browser's own storage on this machine. Each tab keeps its own, so none overwrites another's.
 import { forgetNote, namesNoted, noted, noteDown, numberKept } from "./notes.mjs";
-import { FIRST, formerVisit, giveBack, isFree, newName, noteLeaving, noteName } from "./visits.mjs";
+import { FIRST, TAKING, formerVisit, giveBack, isFree, newName, noteLeaving, noteName } from "./visits.mjs";
 
 const DATABASE = "saxtegun";
 const STORE = "kept";
@@ -50,11 +50,14 @@ export class Store {
     const store = new Store(), { name: former, isLeft, isCut } = formerVisit();
     let timer = 0;
     const late = new Promise((_, refuse) => { timer = setTimeout(refuse, most); });
+    // two tabs that begin at once take nothing of each other: one takes once the other has what it goes on with
+    const isTaking = await isFree(TAKING, PATIENCE);
     const names = new Set([...(await readBefore(late, (it) => it.getAllKeys()).catch(() => [])), ...namesNoted()]);
     if (former !== null && (await isFree(former, isLeft ? PATIENCE : 0))) store.name = former;
     for (const name of names) {
-      if (String(name).startsWith(FIRST) && name !== former && (await isFree(name))) store.left.push(name);
+      if (isTaking && String(name).startsWith(FIRST) && name !== former && (await isFree(name))) store.left.push(name);
     }
+    if (store.left.length === 0) giveBack(TAKING);
     // where the page that was left isn't gone yet, this one goes on with a copy of its work
     await store.read(store.name !== null || isLeft ? former : null, late);
     clearTimeout(timer);
@@ -145,6 +148,9 @@ export class Store {
     if (this.unkept === value) this.unkept = null;
     if (this.unkept === null) forgetNote(this.name);
     this.left.forEach(forgetNote);
+    // a tab that comes back finds its name free, and nothing under it, which is said there
+    this.left.forEach(giveBack);
+    giveBack(TAKING);
     this.left = [];
   }
 

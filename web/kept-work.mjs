@@ -1,7 +1,7 @@
 // A state as it is kept between visits, and back. What is kept has a version; what can't be read is no state.
 import { keyOfValue, lackingOf, withNote } from "./notes.mjs";
 import { packed, takePack, unpacked } from "./packing.mjs";
-import { MOST_PAST, lastLost, lostNow, remembering } from "./past.mjs";
+import { lastLost, lostNow, remembering, withTexts } from "./past.mjs";
 import { SessionFile } from "./session-file.mjs";
 import { whyNoField } from "./texts.mjs";
 import { beginning, besideField } from "./work.mjs";
@@ -73,9 +73,9 @@ function fromFirst({ source, index, inputs, name, opened, order, file, former, i
 export function stateFrom(value, example) {
   try {
     const { version, text, order, work, queue = [], file: bytes, isUnsaved, past, tab, isTicked, isBusy } = value.version === undefined ? fromFirst(value) : value;
-    wanted(version === VERSION && isText(text) && ORDERS_OF_CELLS.includes(order) && Array.isArray(past));
+    wanted(version === VERSION && isText(text) && ORDERS_OF_CELLS.includes(order) && isListOf(past, (lost) => lost !== undefined));
     const file = fileFrom(bytes);
-    return { ...beginning(example), text, order, work: workFrom(work, file), queue: queueFrom(queue), file, isUnsaved: Boolean(isUnsaved), past: lastLost(Array.from(past.slice(-MOST_PAST), lostFrom)), tab: tab === "sessions" ? tab : "game", isTicked: Boolean(isTicked), isHeld: Boolean(isBusy) };
+    return { ...beginning(example), text, order, work: workFrom(work, file), queue: queueFrom(queue), file, isUnsaved: Boolean(isUnsaved), past: lastLost(past.map(lostFrom)), tab: tab === "sessions" ? tab : "game", isTicked: Boolean(isTicked), isHeld: Boolean(isBusy) };
   } catch {
     return null;
   }
@@ -86,14 +86,15 @@ function stateOfEntry({ value, note = null }, example) {
   if (value === undefined) return stateFrom(note, example);
   const before = stateFrom(value, example), whole = before && withNote(value, note), after = whole && stateFrom(whole, example);
   if (after === null) return before;
-  return note.isCut ? remembering(before, after) : after;
+  // a note that was cut may have left out a file of its own: the one of before is as much changed as it was
+  return note.isCut ? remembering(before, { ...after, isUnsaved: before.isUnsaved || after.isUnsaved }) : after;
 }
 
 // What another tab left, as it can be put back.
 function leftBy({ text, work, file, isUnsaved, past, example }) {
   const isWork = work.inputs.length > 0 || work.name !== "" || work.own !== null;
   const own = { ...(text === example ? {} : { text }), ...(isWork ? { work } : {}), ...(file ? { file, isUnsaved } : {}) };
-  return Object.keys(own).length === 0 ? past : [...past, own];
+  return withTexts(Object.keys(own).length === 0 ? past : [...past, ...lostNow([own], past)], text);
 }
 
 // What another tab left, but for what a state has itself, as a copy of one that isn't gone does.
@@ -102,13 +103,14 @@ function leftBeside(other, state) {
   return leftBy(other).filter((lost) => !there.has(keyOf(lost)));
 }
 
-// What other tabs left as it can be put back in a state, as long as there is room, and the names of those for which there is none.
+// What other tabs left as it can be put back in a state, as long as there is room for all of it, and the names of those for which there is none: another tab may
+// go on with them.
 function takenBeside(others, state) {
   const taken = [], waiting = [];
   for (const { name, state: other } of others) {
-    const lost = leftBeside(other, state), room = MOST_PAST - state.past.length - taken.length;
-    if (lost.length > 0 && room <= 0) waiting.push(name);
-    else taken.push(...(lost.length > room ? lost.slice(-room) : lost));
+    const lost = leftBeside(other, state);
+    if (lastLost(lost, [...state.past, ...taken]).length < lost.length) waiting.push(name);
+    else taken.push(...lost);
   }
   return { taken, waiting };
 }

@@ -38,7 +38,8 @@ export function runsOf(bytes) {
   return runs;
 }
 
-// Whether the last frame of a run in its lines shows that play is over: what stands before its level tells.
+// Whether the last frame of a run in its lines shows that play is over, in lines of the page's own engine alone: there the kind stands before the level, among
+// the first letters. Another engine's lines may have it elsewhere.
 export function isOverIn(bytes, { end, count }) {
   if (count === 0) return false;
   const begin = bytes.lastIndexOf(NEW_LINE, end - 2) + 1;

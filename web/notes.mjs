@@ -54,11 +54,11 @@ function hasRoom(name, part) {
 }
 
 // Notes a value under a name, and whether there was room for all of it: else its text and its recording are noted alone. `isThere` says of its file, and
-// of each thing that can be put back, whether the database has it; `without` tells what is left out.
+// of each thing that can be put back, whether the database has it; `without` tells what is left out, and `front` how many things stand before those that it has.
 export function noteDown(name, value, isThere) {
   const { file, ...others } = value, least = { ...others, past: [] };
   const past = value.past.filter((lost) => !isThere(lost)), without = { isFile: Boolean(file) && isThere(file), past: value.past.length - past.length };
-  const whole = { ...least, past, without, ...(isThere(file) ? {} : { file }) };
+  const whole = { ...least, past, front: Math.max(value.past.findIndex(isThere), 0), without, ...(isThere(file) ? {} : { file }) };
   if (hasRoom(name, whole)) return true;
   hasRoom(name, { ...least, work: { ...value.work, opened: null }, isCut: true });
   return false;
@@ -73,8 +73,9 @@ const isBehind = (note, value) => (numberKept(note, "turn") - numberKept(value, 
 // What the database has together with what was noted since; null where that is nothing.
 export function withNote(value, note) {
   if (note === null || !Array.isArray(note.past) || !isBehind(note, value)) return null;
-  const again = new Set(note.past.map(keyOfValue));
-  return { ...value, ...note, past: [...(value.past ?? []).filter((lost) => !again.has(keyOfValue(lost))), ...note.past] };
+  const again = new Set(note.past.map(keyOfValue)), numbers = new Set(note.past.map((lost) => numberKept(lost, "number"))), front = numberKept(note, "front");
+  const isAgain = (lost) => again.has(keyOfValue(lost)) || (numberKept(lost, "number") > 0 && numbers.has(lost.number));
+  return { ...value, ...note, past: [...note.past.slice(0, front), ...(value.past ?? []).filter((lost) => !isAgain(lost)), ...note.past.slice(front)] };
 }
 
 // What a note left out since the database had it, and that has no more, as where it was deleted: { isFile, past }, or null.

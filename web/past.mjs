@@ -11,9 +11,49 @@ export const isBeginningOf = (one, other) => one.length <= other.length && one.e
 // The text that a recording is played over.
 const textUnder = (work, text) => work.own ?? text;
 
+// The text over which each thing would come back if all were put back that stand behind it: its own, or else the next one behind it, or else the one at hand.
+function textsBelow(past, text) {
+  const texts = [];
+  for (let place = past.length - 1; place >= 0; place -= 1) texts[place] = past[place].text ?? texts[place + 1] ?? text;
+  return texts;
+}
+
+// Whether what is lost is a recording that is played over the text at hand, which may be another when it comes back.
+const isOverAny = ({ work, text }) => text === undefined && work !== undefined && work.own === null;
+
+// Things that can be put back, each recording with the text that it is played over: as they can be put back anywhere.
+export function withTexts(past, text) {
+  const texts = textsBelow(past, text);
+  return past.map((lost, place) => (isOverAny(lost) ? { ...lost, text: texts[place] } : lost));
+}
+
+// The same where this text is at hand no more: those that would be played over it still are.
+export function leavingText(past, text) {
+  const last = past.findLastIndex((lost) => lost.text !== undefined || isOverAny(lost));
+  return last < 0 || past[last].text !== undefined ? past : past.with(last, { ...past[last], text });
+}
+
 // Whether a sessions file, played over a text, has these very inputs over this source.
 function isInFile(file, text, source, { index, inputs }) {
-  return (file?.entries ?? []).some((entry) => entry.index === index && (entry.source || text) === source && isSameList(entry.inputs, inputs));
+  const isOver = text === source; // compared once: thousands of sessions may be played over a text of 1 MiB
+  return (file?.entries ?? []).some((entry) => entry.index === index && isSameList(entry.inputs, inputs) && (entry.source === "" ? isOver : entry.source === source));
+}
+
+// How many letters two texts begin with alike, or end with alike.
+function alike(one, other, isEnd) {
+  const most = Math.min(one.length, other.length), letter = (text, place) => text.charCodeAt(isEnd ? text.length - 1 - place : place);
+  let count = 0;
+  while (count < most && letter(one, count) === letter(other, count)) count += 1;
+  return count;
+}
+
+const distinctLinesOf = (text) => new Set(text.split("\n").map((line) => line.trim()).filter((line) => line !== ""));
+
+// Whether an edit leaves less than half of a text, as where all of it is replaced: neither half of its letters in one piece, nor half of its lines.
+export function isReplaced(text, by) {
+  if (2 * (alike(text, by, false) + alike(text, by, true)) >= text.length) return false;
+  const lines = distinctLinesOf(text), left = distinctLinesOf(by);
+  return 2 * [...lines].filter((line) => left.has(line)).length < lines.size;
 }
 
 function isTextLost(before, after) {
@@ -29,8 +69,8 @@ function isWithin({ work, text }, other, textOfOther) {
 function isRecordingLost(before, after) {
   const { work, text } = before;
   if (work.inputs.length === 0 || isWithin(before, after.work, after.text) || isInFile(after.file, after.text, textUnder(work, text), work)) return false;
-  const isIn = ({ work: other, file = null, text: textThere = after.text }) =>
-    (other !== undefined && isWithin(before, other, textThere)) || isInFile(file, textThere, textUnder(work, text), work);
+  const texts = textsBelow(after.past, after.text);
+  const isIn = ({ work: other, file = null }, place) => (other !== undefined && isWithin(before, other, texts[place])) || isInFile(file, texts[place], textUnder(work, text), work);
   return !after.past.some(isIn);
 }
 
@@ -75,28 +115,34 @@ export function lostNow(things, past) {
   return things.map((lost, place) => ({ ...lost, number: last + 1 + place }));
 }
 
-const bytesOf = ({ text = "", file = null }) => text.length + (file?.bytes.length ?? 0);
+const bytesOf = ({ text = "", work, file = null }) => text.length + (work?.own?.length ?? 0) + (file?.bytes.length ?? 0);
 
-// Of things that can be put back the last that were lost, in their places: as many as stay, and as have room; one in any case.
-export function lastLost(past) {
+// Of things that can be put back the last that were lost, in their places: as many as stay beside others, and as have room; one in any case where there are
+// no others.
+export function lastLost(past, others = []) {
   const order = [...past.keys()].sort((one, other) => numberOf(past[other]) - numberOf(past[one]) || other - one), stays = new Set();
-  let bytes = 0;
+  let bytes = others.reduce((sum, it) => sum + bytesOf(it), 0);
   for (const place of order) {
+    const count = others.length + stays.size;
     bytes += bytesOf(past[place]);
-    if (stays.size === MOST_PAST || (stays.size > 0 && bytes > MOST_BYTES_PAST)) break;
+    if (count === MOST_PAST || (count > 0 && bytes > MOST_BYTES_PAST)) break;
     stays.add(place);
   }
   return stays.size === past.length ? past : past.filter((_, place) => stays.has(place));
 }
 
+// What can be put back in the next state, where that has another text at hand.
+const pastBelow = (before, after) => (before.text === after.text ? after.past : leavingText(after.past, before.text));
+
 // The next state, in which can be put back what it lost of the one before.
 export function remembering(before, after) {
-  const lost = lostIn(before, after);
-  return lost === null ? after : { ...after, past: lastLost([...after.past, ...lostNow([lost], after.past)]) };
+  const lost = lostIn(before, after), past = pastBelow(before, after);
+  if (lost === null) return past === after.past ? after : { ...after, past };
+  return { ...after, past: lastLost([...(lost.text === undefined ? past : after.past), ...lostNow([lost], after.past)]) };
 }
 
 // The next state where what is worked on takes the place of what is put back: that stands first then, and comes last.
 export function behindAll(before, after) {
   const lost = lostIn(before, after);
-  return lost === null ? after : { ...after, past: lastLost([...lostNow([lost], after.past), ...after.past]) };
+  return lost === null ? after : { ...after, past: lastLost([...lostNow(withTexts([lost], before.text), after.past), ...after.past]) };
 }

@@ -5,7 +5,7 @@ import { Drawn } from "./drawn.mjs";
 import { Ghost } from "./ghost.mjs";
 import { at, isMotionReduced, json } from "./elements.mjs";
 import { titlesOf } from "./findings.mjs";
-import { download, handing, takeFiles } from "./handing.mjs";
+import { PASTED, download, handing, takeFiles } from "./handing.mjs";
 import { keptOf, stateOfVisit } from "./kept-work.mjs";
 import { Store } from "./keeping.mjs";
 import { listen } from "./listening.mjs";
@@ -147,7 +147,7 @@ class Playground {
       const it = await this.runner.reading(`Reading ${name}`, (...words) => inPieces(handing(name, bytes), ...words));
       if (it === null) throw new Refusal(`${name} was stopped while it was read`);
       if (it.kind === "recordings") await this.add(it.found.map((one) => ({ ...one, source: one.source.replaceAll("\r\n", "\n") })), it.skipped);
-      else if (it.kind === "sessions") this.act(withOtherFile, new SessionFile(name, it.bytes));
+      else if (it.kind === "sessions") this.act(withOtherFile, new SessionFile(name, it.bytes), name === PASTED);
       else if (it.kind === "lines") await this.compare(name, it.text);
       else this.takeGame(it.text);
     } catch (error) {

@@ -18,19 +18,77 @@ const isInput = (value) => WORDS.includes(value) || (Number.isInteger(value) && 
 
 const hasHalfALetter = (text) => HALF_A_LETTER.test(text);
 
+// Whether one of the texts of a value, or of the names in its objects, passes a test. Lists may stand in one another however deep.
+function hasText(value, isOne) {
+  for (const left = [value]; left.length > 0; ) {
+    const it = left.pop();
+    if (typeof it === "string" && isOne(it)) return true;
+    if (it === null || typeof it !== "object") continue;
+    if (!Array.isArray(it)) left.push(Object.keys(it));
+    for (const one of Object.values(it)) left.push(one);
+  }
+  return false;
+}
+
+const HALF = "a text of it holds half a letter (a lone surrogate)";
+const MOST_DEEP = 127; // lists and objects that stand in one another
+
+function isTooDeep(value, most) {
+  let level = [value];
+  for (let depth = 0; depth < most && level.length > 0; depth += 1) level = level.flatMap((one) => Object.values(one)).filter((it) => it !== null && typeof it === "object");
+  return level.length > 0;
+}
+
+// What of elements that the engine ignores the command's program would not read, or null.
+function ignoredFault(elements, most) {
+  if (elements.some((it) => hasText(it, hasHalfALetter))) return HALF;
+  return elements.some((it) => it !== null && typeof it === "object" && isTooDeep(it, most)) ? `its lists and objects are more than ${MOST_DEEP} deep` : null;
+}
+
+// How many letters of a word stand in a text in their order.
+function lettersInOrder(word, text) {
+  let most = Array(word.length + 1).fill(0);
+  for (const letter of text) {
+    const before = most;
+    most = [0];
+    for (let place = 0; place < word.length; place += 1) most.push(letter === word[place] ? before[place] + 1 : Math.max(most[place], before[place + 1]));
+  }
+  return most[word.length];
+}
+
+const DEMAND = "solved";
+const ALIKE = new Map([[4, 4], [5, 5], [6, 5], [7, 6], [8, 6], [9, 6]]); // a text of so many letters is nearly that word if so many of its letters stand there in their order
+
+// Whether a further element of an entry is meant to demand, and doesn't: another text that is nearly the word or holds it, or a list or an object that holds it.
+function isNearlyDemand(value) {
+  if (typeof value !== "string") return hasText(value, (text) => text.toLowerCase().includes(DEMAND));
+  const lower = value.toLowerCase(), letters = lower.length > 18 ? [] : [...lower]; // 9 letters have at most 18 units
+  return value !== DEMAND && (lower.includes(DEMAND) || (ALIKE.has(letters.length) && lettersInOrder(DEMAND, letters) >= ALIKE.get(letters.length)));
+}
+
+// What is nearly a demand in an entry that the engine can play, and would demand nothing; null where nothing is.
+function demandFault([, body, ...rest]) {
+  if (body.slice(4).some((it) => it === DEMAND || isNearlyDemand(it))) return `its second list holds "${DEMAND}" or nearly that, which would demand nothing there: it stands behind that list`;
+  const nearly = rest.find(isNearlyDemand);
+  if (nearly === undefined) return null;
+  const told = typeof nearly === "string" ? `${JSON.stringify(nearly.slice(0, 60))} is nearly` : `that is ${Array.isArray(nearly) ? "a list" : "an object"} holds`;
+  return `its further element ${told} "${DEMAND}", and would demand nothing`;
+}
+
 // What makes a value no body of a session, a list of its source, inputs, level and index, or null.
 export function bodyFault([source, inputs, level, index = null]) {
   if (typeof source !== "string" || !Array.isArray(inputs) || typeof level !== "string") return "after its name there is no list of a source, a list of inputs and a level text";
   const bad = inputs.findIndex((input) => !isInput(input));
   if (bad >= 0) return `its input ${bad} is neither 0 to 4 nor undo, restart or tick`;
   if (index !== null && !(Number.isInteger(index) && index >= 0 && index <= MOST_INDEX)) return "its index is no whole number";
-  return [source, level].some(hasHalfALetter) ? "a text of it holds half a letter (a lone surrogate)" : null;
+  return [source, level].some(hasHalfALetter) ? HALF : null;
 }
 
 // What makes a value no entry of a sessions file, or null.
 export function faultOf(entry) {
   if (!Array.isArray(entry) || typeof entry[0] !== "string" || !Array.isArray(entry[1])) return "it is no list of a name and a list";
-  return bodyFault(entry[1]) ?? (hasHalfALetter(entry[0]) ? "a text of it holds half a letter (a lone surrogate)" : null);
+  const [name, body, ...rest] = entry;
+  return bodyFault(body) ?? (hasHalfALetter(name) ? HALF : null) ?? ignoredFault(body.slice(4), MOST_DEEP - 3) ?? ignoredFault(rest, MOST_DEEP - 2) ?? demandFault(entry);
 }
 
 // A span of bytes without the white space around it.
@@ -65,7 +123,7 @@ function spliced(bytes, changes) {
 export const restOf = (entry) => (entry.length > 2 ? { rest: entry.slice(2) } : {});
 
 // Whether a session must be solved, as its file says.
-export const isSolvedWanted = ({ rest = [] }) => rest.includes("solved");
+export const isSolvedWanted = ({ rest = [] }) => rest.includes(DEMAND);
 
 const encoded = (value) => new TextEncoder().encode(JSON.stringify(value));
 

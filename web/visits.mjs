@@ -4,6 +4,8 @@ const LEFT = "saxtegun-page-left"; // what a tab notes as it leaves the page, wh
 const CUT = "cut"; // what it notes where there was no room for all that was changed
 export const FIRST = "work"; // how names begin, and where earlier pages kept theirs
 
+export const TAKING = "taking"; // the name that a tab has while it takes over what closed ones left
+
 const releases = new Map(); // by a name that is this tab's what gives it back
 
 export const newName = () => `${FIRST} ${Date.now().toString(36)} ${Math.random().toString(36).slice(2)}`;

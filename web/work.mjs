@@ -2,7 +2,7 @@
 // knows the page or the engine. What the engine is wanted to play follows from the state, and its answer leads to the next (replaying.mjs, suite.mjs).
 import { levelsOf } from "./game.mjs";
 import { messagesAt } from "./messages.mjs";
-import { behindAll, lostNow, remembering } from "./past.mjs";
+import { behindAll, isReplaced, leavingText, lostNow, remembering } from "./past.mjs";
 import { firstFrom } from "./recording.mjs";
 import { cutToPlayed, framesOf, gameOf, isAtEnd, isPlayed, sourceOf, takenOf } from "./replaying.mjs";
 import { MOST_INPUTS } from "./session-file.mjs";
@@ -119,10 +119,10 @@ function overText(state) {
   return entry !== null && entry.source !== "" ? { ...work, own: null, opened: null } : { ...work, own: null };
 }
 
-// Takes what is typed. The browser's own undo leads back.
+// Takes what is typed. The browser's own undo leads back; where little is left of the text, as where another is pasted in its place, so does Put back.
 export function edited(state, text) {
   if (text === state.text) return state;
-  return remembering({ ...state, text }, { ...state, text, work: overText(state), looked: null, queue: [], ...AFRESH });
+  return remembering(isReplaced(state.text, text) ? state : { ...state, text }, { ...state, text, work: overText(state), looked: null, queue: [], ...AFRESH });
 }
 
 // Takes another game.
@@ -164,7 +164,7 @@ export function putBack(state) {
   if (last === undefined) return state;
   const why = last.text === undefined ? null : whyNoField(last.text), { past, ...lost } = why === null ? { ...last, past: [] } : besideField(last);
   const { text = state.text, work = state.work, file = state.file, isUnsaved = state.isUnsaved } = lost;
-  const open = { ...work, opened: stillOpened(work, file, text) }, told = why && { text: noFieldTold("The text that was put back", why), close: null };
-  const next = { ...state, text, work: open, file, isUnsaved, past: [...state.past.slice(0, -1), ...lostNow(past, state.past)], looked: null, queue: [], ...AFRESH, told };
+  const below = state.past.slice(0, -1), open = { ...work, opened: stillOpened(work, file, text) }, told = why && { text: noFieldTold("The text that was put back", why), close: null };
+  const next = { ...state, text, work: open, file, isUnsaved, past: [...(why === null ? below : leavingText(below, last.text)), ...lostNow(past, state.past)], looked: null, queue: [], ...AFRESH, told };
   return behindAll(state, next);
 }

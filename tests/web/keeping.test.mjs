@@ -6,7 +6,7 @@ import { Store } from "../../web/keeping.mjs";
 import { keptOf, stateOfVisit } from "../../web/kept-work.mjs";
 import { keepingTold, visitTold } from "../../web/page-words.mjs";
 import { SessionFile } from "../../web/session-file.mjs";
-import { beginning, edited, named, withGame } from "../../web/work.mjs";
+import { beginning, begunAnew, edited, named, putBack, withGame, withWork } from "../../web/work.mjs";
 import { OneTab, until } from "./storages.mjs";
 import "./module.mjs";
 
@@ -332,8 +332,92 @@ test("what a closed tab left waits for a tab of its own where no more can be put
   assert.match(visit.told, /^What closed tabs left waits/);
   // a tab that is opened beside this one may have it
   assert.deepEqual([...browser.locks.held].includes("saxtegun work left"), false);
-  const almost = stateOfVisit([{ name: "one", value: keptOf({ ...beginning(GAME), text: "title full", past: past.slice(1) }, false) }, { name: "other", value: keptOf(left, false) }], GAME);
-  assert.deepEqual([almost.read, almost.waiting, almost.state.past.length, almost.state.past[0].text], [["one", "other"], 0, 60, "title left"]);
+  // all of it waits where there is room for a part
+  const almost = (count) => stateOfVisit([{ name: "one", value: keptOf({ ...beginning(GAME), text: "title full", past: past.slice(count) }, false) }, { name: "other", value: keptOf(left, false) }], GAME);
+  assert.deepEqual([almost(1).read, almost(1).waiting, almost(1).state.past.length], [["one"], 1, 59]);
+  assert.deepEqual([almost(2).read, almost(2).waiting, almost(2).state.past.length, almost(2).state.past[1].text], [["one", "other"], 0, 60, "title left"]);
+});
+
+test("a tab that comes back finds its name free whose work another one took over, and is told so", async () => {
+  const browser = new OneTab(), nameLeft = "work left";
+  browser.database.entries.set(nameLeft, keptOf({ ...beginning(GAME), text: "title left" }, false));
+  const visit = await Visit.of();
+  assert.deepEqual([textsOf(visit.state), browser.locks.held.has(`saxtegun ${nameLeft}`)], [["title left"], true]);
+  const other = new OneTab(), mine = await Visit.of();
+  mine.act(withGame, "title mine");
+  await mine.written();
+  other.database.entries.set(nameLeft, keptOf({ ...beginning(GAME), text: "title left" }, false));
+  const { name } = mine.store;
+  other.leave();
+  other.tab.room.items["saxtegun-tab"] = name;
+  const both = await Visit.of();
+  await both.written();
+  assert.deepEqual([textsOf(both.state), [...other.locks.held], [...other.database.entries.keys()]], [["title mine", "title left"], [`saxtegun ${name}`], [name]]);
+  other.leave();
+  other.tab.room.items["saxtegun-tab"] = nameLeft;
+  other.locks.held.add(`saxtegun ${name}`);
+  const back = await Visit.of();
+  assert.deepEqual([textsOf(back.state), back.told], [[GAME], "Nothing is kept of this tab's last visit: it was deleted, or another tab has taken it over, and can put it back."]);
+});
+
+test("a tab takes nothing of closed ones while another takes over what those left", async () => {
+  const browser = new OneTab();
+  browser.database.entries.set("work left", keptOf({ ...beginning(GAME), text: "title left" }, false));
+  browser.locks.held.add("saxtegun taking");
+  const visit = await Visit.of();
+  await visit.written();
+  assert.deepEqual([textsOf(visit.state), browser.database.entries.has("work left"), browser.locks.held.has("saxtegun work left")], [[GAME], true, false]);
+  browser.leave();
+  const next = await Visit.of();
+  assert.ok(browser.locks.held.has("saxtegun taking"));
+  await next.written();
+  assert.deepEqual([textsOf(next.state), [...browser.database.entries.keys()].length, browser.locks.held.has("saxtegun taking")], [[GAME, "title left"], 1, false]);
+});
+
+test("what stands first behind Put back stands there behind a reload too, and each recording is over its own text", async () => {
+  const browser = new OneTab(), visit = await Visit.of(), withInputs = (state, ...inputs) => withWork(state, { ...state.work, inputs });
+  for (const act of [(state) => withGame(state, "title T"), (state) => withInputs(state, 1, 1, 1), begunAnew]) visit.act(act);
+  await visit.written();
+  browser.database.isHeld = true;
+  for (const act of [(state) => withGame(state, "title U"), (state) => withInputs(state, 3, 3), putBack]) visit.act(act);
+  const backOf = (state) => {
+    const back = [];
+    for (let press = 0; press < 3; press += 1) {
+      state = putBack(state);
+      back.push([state.text, state.work.inputs]);
+    }
+    return back;
+  };
+  const before = backOf(visit.state);
+  assert.deepEqual(before, [["title T", [1, 1, 1]], ["title U", [3, 3]], ["title T", [3, 3]]]);
+  browser.leave();
+  assert.deepEqual(backOf((await Visit.of()).state), before);
+});
+
+test("behind a reload with more to put back than there is room for goes what was lost first, though it stands last", async () => {
+  const browser = new OneTab(), past = Array.from({ length: 60 }, (_, number) => ({ number: number + 1, text: `title old ${number}` }));
+  const visit = await worked(browser, "title A");
+  visit.keep({ ...visit.state, past: [{ number: 99, text: "title last" }, ...past.slice(1)] });
+  browser.database.release();
+  await visit.written();
+  browser.database.isHeld = true;
+  visit.act(withGame, "title B");
+  browser.leave();
+  const { state } = await Visit.of();
+  assert.deepEqual([state.past.length, state.past[0].text, state.past.at(-1).text, state.past.some(({ text }) => text === "title old 1")], [60, "title last", "title A", false]);
+});
+
+test("a file that was changed is still that where a note had no room for the next one", async () => {
+  const browser = new OneTab({ most: 3000 }), visit = await worked(browser, "title A");
+  visit.keep({ ...visit.state, file: FILE, isUnsaved: true });
+  browser.database.release();
+  await visit.written();
+  browser.database.isHeld = true;
+  visit.keep({ ...visit.state, file: new SessionFile("long.json", new TextEncoder().encode(JSON.stringify([["long", ["x".repeat(9000), [1], "background:0,"]]]))), isUnsaved: false, past: [...visit.state.past, { file: FILE, isUnsaved: true }] });
+  browser.leave();
+  const { state, told } = await Visit.of();
+  assert.match(told, /^This browser had no room/);
+  assert.deepEqual([state.file.name, state.isUnsaved], ["mine.json", true]);
 });
 
 test("a note that is none takes no work away", () => {

@@ -38,11 +38,21 @@ function randomOf(seed) {
 const recordingOf = (work, text) => JSON.stringify([work.own ?? text, work.index]) + JSON.stringify(work.inputs).slice(0, -1);
 const sessionTextOf = ({ name, source, inputs, level, index }) => JSON.stringify([name, source, inputs, level, index]);
 
+// What can be put back, each thing with the text over which it is played if all behind it were put back before.
+function pastOver(past, text) {
+  const over = [];
+  for (const lost of past.toReversed()) over.unshift({ ...lost, over: lost.text ?? over[0]?.over ?? text });
+  return over;
+}
+
+// The recordings that can be put back, as they are played then.
+const lostRecordings = ({ past }, text) => pastOver(past, text).filter((it) => it.work?.inputs.length > 0).map((it) => recordingOf(it.work, it.over));
+
 // What there is in a state and in what can be put back into it.
 function found(state) {
-  const all = [{ text: state.text, work: state.work, file: state.file }, ...state.past];
-  const recordings = all.filter((it) => it.work).map((it) => recordingOf(it.work, it.text ?? state.text));
-  const ofFile = all.flatMap(({ file, text }) => (file?.entries ?? []).map((entry) => recordingOf({ own: entry.source || null, ...entry }, text ?? state.text)));
+  const all = [{ text: state.text, over: state.text, work: state.work, file: state.file }, ...pastOver(state.past, state.text)];
+  const recordings = all.filter((it) => it.work).map((it) => recordingOf(it.work, it.over));
+  const ofFile = all.flatMap(({ file, over }) => (file?.entries ?? []).map((entry) => recordingOf({ own: entry.source || null, ...entry }, over)));
   return {
     texts: new Set(all.map((it) => it.text)), recordings: [...recordings, ...ofFile],
     names: new Set([...all.map((it) => it.work?.name), ...all.flatMap((it) => it.file?.entries.map(({ name }) => name) ?? [])]),
@@ -55,6 +65,7 @@ function assertNothingLost(before, after, { isEdit, isFileClean }) {
   const { texts, recordings, names, sessions } = found(after), text = isEdit ? after.text : before.text;
   if (!isEdit && before.text.trim() !== "" && before.text !== GAME) assert.ok(texts.has(before.text), "a text is lost");
   if (before.work.inputs.length > 0) assert.ok(recordings.some((it) => it.startsWith(recordingOf(before.work, text))), "a recording is lost");
+  for (const it of lostRecordings(before, text)) assert.ok(recordings.some((other) => other.startsWith(it)), "a recording that could be put back can't, or comes back over another text");
   if (before.work.name !== "") assert.ok(names.has(before.work.name), "a name is lost");
   if (!isFileClean) for (const entry of before.file?.entries ?? []) assert.ok(sessions.has(sessionTextOf(entry)), `session ${entry.name} is lost`);
 }

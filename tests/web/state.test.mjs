@@ -178,11 +178,25 @@ it("the text of a file is taken to hand where nothing was written yet, and else 
 
 const DAYS = (name) => DAY.find(([it]) => it === name)[1].slice(1), [WON, HALF] = ["the second level alone", "half way through the first"].map(DAYS);
 
+test("what is nearly a demand is refused, as the command refuses it, and all else that stands behind a session is not", () => {
+  const body = ["", [1], "background:0,", 0], ofRest = (...rest) => () => fileOf([["one", body, ...rest]]), ofBody = (...more) => () => fileOf([["one", [...body, ...more]]]);
+  for (const nearly of ["Solved", "solvd", "sloved", "solve", "solved!", "is solved", "unsolved"]) assert.throws(ofRest(5, nearly), { message: `mine.json, session 0: its further element "${nearly}" is nearly "solved", and would demand nothing` });
+  assert.throws(ofRest({ solved: true }), /: mine\.json, session 0: its further element that is an object holds "solved", and would demand nothing$/);
+  assert.throws(ofRest([["x", "solved"]]), /: mine\.json, session 0: its further element that is a list holds "solved"/);
+  for (const nearly of ["solved", "Solved", ["solved"]]) assert.throws(ofBody(5, nearly), /: mine\.json, session 0: its second list holds "solved" or nearly that, which would demand nothing there/);
+  const isTaken = (...rest) => fileOf([["one", body, ...rest]]).entries.length === 1;
+  assert.ok(isTaken("solved", 5) && isTaken("gold", "vessel", "some", "evolved"[0], null, true, { x: ["y"] }) && ofBody(5, "x")().entries.length === 1);
+  const deepOf = (depth) => new SessionFile("deep.json", new TextEncoder().encode(`[["one",${JSON.stringify(body)},${"[".repeat(depth)}${"]".repeat(depth)}]]`));
+  for (const depth of [126, 4000, 100_000]) assert.throws(() => deepOf(depth), { message: "deep.json, session 0: its lists and objects are more than 127 deep" });
+  assert.equal(deepOf(125).entries.length, 1);
+  assert.throws(ofRest({ x: ["\ud83d"] }), /session 0: a text of it holds half a letter/);
+});
+
 it("a session that passes and must be solved is told where it isn't, and only where the command demands it", async () => {
   const bench = new Bench(), wanted = (name, body, ...rest) => [name, ["", ...body], ...rest];
-  await bench.act(withOtherFile, fileOf([wanted("won", WON, "solved"), wanted("half", HALF, 5, "solved"), wanted("plain", HALF), wanted("other", HALF, true, 1, ["x"], "so"), wanted("in", [...HALF, "solved"])]));
-  assert.deepEqual(rowsOf(bench.state).map(({ close, isUnsolved }) => [close, isUnsolved]), [["passed", false], ["passed", true], ...Array(3).fill(["passed", false])]);
-  assert.match(verdictOf(bench.state, null).text, /^1 no longer solved: 5 sessions in /);
+  await bench.act(withOtherFile, fileOf([wanted("won", WON, "solved"), wanted("half", HALF, 5, "solved"), wanted("plain", HALF), wanted("other", HALF, true, 1, ["x"], "so")]));
+  assert.deepEqual(rowsOf(bench.state).map(({ close, isUnsolved }) => [close, isUnsolved]), [["passed", false], ["passed", true], ...Array(2).fill(["passed", false])]);
+  assert.match(verdictOf(bench.state, null).text, /^1 no longer solved: 4 sessions in /);
   assert.deepEqual([verdictOf(bench.state, null).close, tabTold(bench.state), bench.state.work.opened], ["differs", "Sessions: 1 no longer solved", 1]);
   assert.deepEqual(statusOf(bench.state), { text: "Passed: the last level is the recorded one. But it must be solved, and isn't.", close: "failed" });
   await bench.act(withOtherFile, fileOf([wanted("won", WON, "solved"), wanted("plain", HALF)]));
@@ -505,9 +519,75 @@ it("a text that had to stand as a recording's own is put back, whatever took its
   assert.deepEqual(of({ ...kept, text: OTHER }, visit.kept).past.map(({ work }) => work.own), [MARKED]);
 });
 
+const titled = (title) => GAME.replace(/title .*/, `title ${title}`);
+const titleOf = (text) => /title (.*)/.exec(text)[1];
+
+// What comes to hand as Put back is pressed again and again: the title of the text that is played, and the inputs.
+async function putBackAll(bench, presses) {
+  const back = [];
+  for (let press = 0; press < presses; press += 1) {
+    await bench.act(putBack);
+    back.push([titleOf(sourceOf(bench.state)), bench.state.work.inputs]);
+  }
+  return back;
+}
+
+it("a recording comes back over the text that it was made over, whatever took its place and whatever comes back between", async () => {
+  const bench = new Bench();
+  await bench.act(withGame, titled("A"));
+  await bench.act(pressed, 0);
+  await bench.act(withGame, titled("B"));
+  await bench.act(withGame, titled("A"));
+  for (const input of [1, 1, 0]) await bench.act(pressed, input);
+  await bench.act(begunAnew);
+  await bench.act(withGame, titled("B"));
+  assert.deepEqual((await putBackAll(bench, 1))[0], ["A", [1, 1, 0]]);
+  const three = new Bench();
+  await three.act(withGame, titled("A"));
+  await three.act(pressed, 0);
+  await three.act(withGame, titled("T"));
+  for (const input of [1, 1, 1]) await three.act(pressed, input);
+  await three.act(begunAnew);
+  for (const input of [3, 3]) await three.act(pressed, input);
+  assert.deepEqual(await putBackAll(three, 3), [["T", [1, 1, 1]], ["A", [0]], ["T", [3, 3]]]);
+});
+
+it("what a closed tab left comes back over its own text, also over the example", async () => {
+  const one = new Bench(), other = await played(1, 2);
+  await other.act(begunAnew);
+  await one.act(withGame, titled("A"));
+  const bench = new Bench(stateOfVisit([{ name: "one", value: one.kept }, { name: "other", value: other.kept }], GAME).state);
+  assert.deepEqual(await putBackAll(bench, 1), [[titleOf(GAME), [1, 2]]]);
+});
+
+it("a text can be put back of which an edit leaves little, and none of which it leaves the most", async () => {
+  for (const [text, isLost] of [[`${GAME}x`, false], [GAME.replace("title", "(a) title"), false], [GAME.slice(0, GAME.length / 2 + 9), false], [GAME.split("\n").reverse().join("\n"), false], ["", true], ["title Another\nOBJECTS\n", true]]) {
+    const bench = await played(1, 2);
+    bench.begin({ ...bench.state, example: "title none" });
+    await bench.act(edited, text);
+    assert.deepEqual([text.length, bench.state.past.map((lost) => [lost.text, lost.work.inputs])], [text.length, isLost ? [[GAME, [1, 2]]] : []]);
+  }
+});
+
+it("what was pasted is no file of a disk: it can be put back where another takes its place", async () => {
+  const bench = new Bench();
+  await bench.act(withOtherFile, fileOf(DAY), true);
+  await bench.act(withOtherFile, fileOf([]));
+  assert.deepEqual(bench.state.past.map(({ file }) => file?.entries.length), [DAY.length]);
+});
+
 it("a list of gaps alone, which takes no room in the store, takes none as it is read", async () => {
   const { kept } = await withPush(), gaps = Object.assign([], { length: 300_000_000 });
   for (const strange of [{ work: { ...kept.work, inputs: gaps } }, { queue: gaps }, { past: gaps }]) assert.equal(stateFrom({ ...kept, ...strange }, GAME), null);
+});
+
+it("a recording is looked for in a file of thousands in no time, though their text is nearly its own, and long", () => {
+  const long = `${GAME}\n${`(${"x".repeat(97)})\n`.repeat(9000)}`, own = `${long}(b)\n`, count = 30_000;
+  const file = fileOf([...Array.from({ length: count }, (_, number) => [`s${number}`, ["", [1, number % 5], "background:0,", 0]]), ["last", [own, [1, 2, 3], "background:0,", 0]]]);
+  const last = sessionOpened(withOtherFile(withGame(beginning(GAME), `${long}(a)\n`), file), count), begun = performance.now();
+  const { past } = sessionOpened({ ...last, work: { ...last.work, inputs: [1, 2, 3, 0] } }, 0);
+  assert.ok(performance.now() - begun < 5000);
+  assert.deepEqual(past.at(-1).work.inputs, [1, 2, 3, 0]);
 });
 
 it("of thousands of recordings over one text that text is kept once, and the file is there again byte for byte", async () => {
@@ -534,6 +614,29 @@ it("what a closed tab left can be put back in the one that goes on", async () =>
   assert.deepEqual([bench.state.text, bench.state.work.inputs], [BROKEN, [3]]);
   await bench.act(putBack);
   assert.deepEqual([bench.state.text, bench.state.work.inputs], [GAME, [1, 2]]);
+});
+
+// A value of the store with a sessions file of another tab, as it is with so many bytes.
+function keptWithFile(kept, bytes) {
+  const file = new TextEncoder().encode(`${JSON.stringify([["one", [GAME, [bytes % 4], "background:0,", 0]]]).slice(0, -1).padEnd(bytes - 1)}]`);
+  return { ...kept, file: { name: `${bytes}.json`, bytes: file }, isUnsaved: true };
+}
+
+it("what closed tabs left takes the room of 256 MiB that is left beside what can be put back, and waits where there is none", async () => {
+  const { kept } = await played(1), big = 60 * 2 ** 20, entries = [0, 1, 2, 3, 4, 5].map((number) => ({ name: `${number}`, value: keptWithFile(kept, big + number) }));
+  const { state, read: names, waiting } = stateOfVisit(entries, GAME);
+  assert.deepEqual([state.past.map(({ file }) => file?.bytes.length), names, waiting], [[1, 2, 3, 4].map((number) => big + number), ["0", "1", "2", "3", "4"], 1]);
+});
+
+it("what a closed tab left waits whole where there isn't room for all of it, and what stood in it was lost last, whatever numbers the others have", async () => {
+  const one = await played(1), other = await played(2), pastOf = (count) => Array.from({ length: count }, (_, number) => ({ number: number + 7, text: `${GAME}(${number})` }));
+  const visit = (count) => {
+    other.begin({ ...other.state, past: pastOf(count) });
+    return stateOfVisit([{ name: "one", value: one.kept }, { name: "other", value: structuredClone(other.kept) }], GAME);
+  };
+  assert.deepEqual([visit(60).state.past, visit(60).read, visit(60).waiting], [[], ["one"], 1]);
+  const { past } = visit(59).state;
+  assert.deepEqual([past.length, past.at(-1).work.inputs, past.map(({ number }) => number)], [60, [2], Array.from({ length: 60 }, (_, number) => number + 1)]);
 });
 
 it("a visit after one that ended while a file was played is held, unless that took but a moment", async () => {
