@@ -17,6 +17,7 @@ const MOST_DEPTH = 8; // an entry holds a body, which holds its inputs; behind o
 const LEAST_LETTERS = 9; // of anything that is taken or skipped by name
 const LEAST_READ = 100_000; // letters of what is quoted are read in vain at most, beside four times those of the text
 const OF_A_STEP = 64; // places where a recording may begin that are looked at in a step
+const TOKENS_OF_A_STEP = 10_000; // of one list
 const MOST_OF_A_HEAD = 4000; // letters of a source in which its first heading is looked for, where it is cut off
 const HEADING = /objects/giu;
 
@@ -67,7 +68,7 @@ class Search {
       const begin = BEGIN.exec(this.text);
       if (begin === null) return this;
       const { list, html } = begin.groups;
-      if (list !== undefined) at = this.readList(begin.index);
+      if (list !== undefined) at = yield* this.readList(begin.index);
       else if (this.isInner) at = begin.index + begin[0].length;
       else if (html !== undefined) {
         yield* this.readInner(begin.index, fromHtml(this.text.slice(begin.index)));
@@ -96,9 +97,10 @@ class Search {
   }
 
   // Reads the list that begins at a place, as far as it goes; where the search goes on.
-  readList(begin) {
+  *readList(begin) {
     const lists = [];
-    for (let at = begin; ;) {
+    for (let at = begin, count = 1; ; count += 1) {
+      if (count % TOKENS_OF_A_STEP === 0) yield [at, this.text.length];
       const token = tokenAt(this.text, at);
       if (token === null || (token.kind === "[" && lists.length === MOST_DEPTH)) {
         this.tellCut(lists, at);

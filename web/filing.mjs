@@ -88,6 +88,7 @@ export function withOtherFile(state, file, isUnsaved = false) {
 
 // Adds recordings that were found in a text: those that aren't there yet. What was skipped beside them is told.
 export function withRecordings(state, recordings, skipped = [], titles = undefined) {
+  if (recordings.length > 4 * MOST_SESSIONS) throw new Refusal(`there are ${recordings.length.toLocaleString("en")} recordings: more than 65,536 sessions have no room here`);
   const one = theOneText({ entries: recordings }), isUntouched = state.text.trim() === "" || state.text === state.example;
   const text = state.file === null && isUntouched ? one ?? state.text : state.text, former = state.file ?? SessionFile.empty(RECORDINGS);
   const found = toAdd(recordings, former.entries, text, titles);

@@ -50,10 +50,10 @@ export class Store {
     const store = new Store(), { name: former, isLeft, isCut } = formerVisit();
     let timer = 0;
     const late = new Promise((_, refuse) => { timer = setTimeout(refuse, most); });
-    // two tabs that begin at once take nothing of each other: one takes once the other has what it goes on with
-    const isTaking = await isFree(TAKING, PATIENCE);
+    // one tab at a time takes over what closed ones left, and has its own name before that: of two that begin at once none waits without it
+    const isOwn = former !== null && (await isFree(former)), isTaking = await isFree(TAKING, PATIENCE);
     const names = new Set([...(await readBefore(late, (it) => it.getAllKeys()).catch(() => [])), ...namesNoted()]);
-    if (former !== null && (await isFree(former, isLeft ? PATIENCE : 0))) store.name = former;
+    if (isOwn || (former !== null && (await isFree(former, isLeft ? PATIENCE : 0)))) store.name = former;
     for (const name of names) {
       if (isTaking && String(name).startsWith(FIRST) && name !== former && (await isFree(name))) store.left.push(name);
     }

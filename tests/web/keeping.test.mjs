@@ -368,8 +368,9 @@ test("a tab takes nothing of closed ones while another takes over what those lef
   await visit.written();
   assert.deepEqual([textsOf(visit.state), browser.database.entries.has("work left"), browser.locks.held.has("saxtegun work left")], [[GAME], true, false]);
   browser.leave();
-  const next = await Visit.of();
-  assert.ok(browser.locks.held.has("saxtegun taking"));
+  const { name } = visit.store, next = await Visit.of();
+  // a tab has its own name before it waits for those of others
+  assert.deepEqual([...browser.locks.held], [name, "taking", "work left"].map((it) => `saxtegun ${it}`));
   await next.written();
   assert.deepEqual([textsOf(next.state), [...browser.database.entries.keys()].length, browser.locks.held.has("saxtegun taking")], [[GAME, "title left"], 1, false]);
 });

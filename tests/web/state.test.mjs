@@ -2,7 +2,7 @@
 import assert from "node:assert/strict";
 import test from "node:test";
 import { Ending } from "../../web/comparing.mjs";
-import { findingsIn } from "../../web/console.mjs";
+import { findingsIn, searching } from "../../web/console.mjs";
 import { KeptOpen } from "../../web/kept-open.mjs";
 import { stateFrom, stateOfVisit } from "../../web/kept-work.mjs";
 import { playedBy } from "../../web/page-engine.mjs";
@@ -567,6 +567,15 @@ it("a text can be put back of which an edit leaves little, and none of which it 
     await bench.act(edited, text);
     assert.deepEqual([text.length, bench.state.past.map((lost) => [lost.text, lost.work.inputs])], [text.length, isLost ? [[GAME, [1, 2]]] : []]);
   }
+});
+
+test("a search of one long list may be stopped in its midst, and a million recordings are refused before they are named", () => {
+  const work = searching(`["a",${"1,".repeat(100_000)}`);
+  let steps = 0;
+  while (!work.next().done) steps += 1;
+  assert.ok(steps > 15);
+  const many = Array(300_000).fill({ name: "a", source: GAME, inputs: [1], level: "", index: 0 });
+  assert.throws(() => withRecordings(beginning(GAME), many), { message: "there are 300,000 recordings: more than 65,536 sessions have no room here" });
 });
 
 it("what was pasted is no file of a disk: it can be put back where another takes its place", async () => {
