@@ -1,6 +1,6 @@
 // Recordings in any text: what an editor's console prints, with whatever stands around it, or published test data. The twin of
 // python/saxtegun/recording_search.py, which holds what is looked for; both are held to the texts of tests/forms.
-import { ROUNDS, WHITE_SPACE, behindSpace, endOfEscaped, endOfText, tokenAt, unescaped } from "./javascript.mjs";
+import { ROUNDS, WHITE_SPACE, behindSpace, endOfEscaped, endOfText, replacing, tokenAt, unescaping } from "./javascript.mjs";
 import { atOnce } from "./pieces.mjs";
 import { faultOf, restOf } from "./session-file.mjs";
 
@@ -35,7 +35,7 @@ function letterOfHtml(whole, decimal, hexadecimal, ...names) {
   return number === 0 || number > 0x10ffff ? "\ufffd" : String.fromCodePoint(number);
 }
 
-const fromHtml = (text) => text.replace(HTML_LETTER, letterOfHtml);
+const fromHtml = (text) => replacing(text, HTML_LETTER, letterOfHtml);
 
 // How many lines end between two places. Nothing is looked for beyond the second.
 function feedsIn(text, low, high) {
@@ -71,10 +71,17 @@ class Search {
       if (list !== undefined) at = yield* this.readList(begin.index);
       else if (this.isInner) at = begin.index + begin[0].length;
       else if (html !== undefined) {
-        yield* this.readInner(begin.index, fromHtml(this.text.slice(begin.index)));
+        yield* this.readInner(begin.index, yield* this.working(begin.index, fromHtml(this.text.slice(begin.index))));
         return this;
       } else at = yield* this.readQuoted(begin.index, begin.groups.escaped !== undefined);
     }
+  }
+
+  // What some work at a place comes to, with a step of the search for each of its own.
+  *working(at, work) {
+    let step = work.next();
+    for (; !step.done; step = work.next()) yield [at, this.text.length];
+    return step.value;
   }
 
   // Searches a text that was quoted; whether something was in it.
@@ -92,7 +99,7 @@ class Search {
     const end = isEscaped ? endOfEscaped(this.text, at) : endOfText(this.text, at);
     this.left -= Math.abs(end) - at;
     if (end - at < LEAST_LETTERS) return at + 1;
-    const text = unescaped(isEscaped ? this.text.slice(at, end) : this.text.slice(at + 1, end - 1));
+    const text = yield* this.working(at, unescaping(isEscaped ? this.text.slice(at, end) : this.text.slice(at + 1, end - 1)));
     return text !== null && (yield* this.readInner(at, text)) ? end : at + 1;
   }
 

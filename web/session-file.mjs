@@ -31,6 +31,7 @@ function hasText(value, isOne) {
 }
 
 const HALF = "a text of it holds half a letter (a lone surrogate)";
+const MOST_ELEMENTS = 10_000; // of an entry and its body, of which five have a meaning
 const MOST_DEEP = 127; // lists and objects that stand in one another
 
 function isTooDeep(value, most) {
@@ -88,6 +89,7 @@ export function bodyFault([source, inputs, level, index = null]) {
 export function faultOf(entry) {
   if (!Array.isArray(entry) || typeof entry[0] !== "string" || !Array.isArray(entry[1])) return "it is no list of a name and a list";
   const [name, body, ...rest] = entry;
+  if (body.length + rest.length > MOST_ELEMENTS) return `its lists have more than ${MOST_ELEMENTS.toLocaleString("en")} elements`;
   return bodyFault(body) ?? (hasHalfALetter(name) ? HALF : null) ?? ignoredFault(body.slice(4), MOST_DEEP - 3) ?? ignoredFault(rest, MOST_DEEP - 2) ?? demandFault(entry);
 }
 

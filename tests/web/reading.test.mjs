@@ -189,6 +189,13 @@ test("an answer with more frames or stages than the page takes in a moment is ha
   }
 });
 
+test("an answer with more headings and lines in its stages than the page takes in a moment is handed over as none", () => {
+  const heading = [0, 0, "a", "right"], answerOf = (count) => ({ stages: [{ stage: "movement", headings: new Array(2 ** 18).fill(heading) }, { stage: "end", lines: new Array(count).fill(7) }], fault: null });
+  const whole = answerOf(2 ** 18);
+  assert.equal(readableAnswer(whole), whole);
+  assert.deepEqual([readableAnswer(answerOf(2 ** 18 + 1)).stages, readableAnswer(answerOf(2 ** 18 + 1)).fault], [[], "memory"]);
+});
+
 test("an answer whose levels take more room than the page has for them is handed over as none", () => {
   for (const [letter, most] of [["a", 128], ["\u20ac", 64]]) {
     const level = letter.repeat(2 ** 21), answerOf = (count) => ({ frames: new Array(count - 1).fill({ at: 0, kind: "start", level }), stages: [{ stage: "end", level }], cause: null, fault: null });

@@ -578,6 +578,20 @@ test("a search of one long list may be stopped in its midst, and a million recor
   assert.throws(() => withRecordings(beginning(GAME), many), { message: "there are 300,000 recordings: more than 65,536 sessions have no room here" });
 });
 
+test("a recording in megabytes of HTML, or of what was quoted, is found in steps, and a million elements behind one are refused", () => {
+  const recording = ["one", [GAME, [1, 2], "background:0,", 0]], stepsOf = (text) => {
+    const work = searching(text);
+    let steps = 0, step = work.next();
+    for (; !step.done; step = work.next()) steps += 1;
+    return [steps > 40, step.value.found.map(({ name, source, inputs }) => [name, source === GAME, inputs])];
+  };
+  const inHtml = JSON.stringify(recording).replaceAll("&", "&amp;").replaceAll('"', "&quot;"), quoted = JSON.stringify(JSON.stringify(recording));
+  assert.deepEqual(stepsOf(`<p>[&quot;x&quot;] ${"&lt;&gt;".repeat(300_000)} ${inHtml}`), [true, [["one", true, [1, 2]]]]);
+  assert.deepEqual(stepsOf(`"${quoted.slice(1, -1)} ${"\\n".repeat(700_000)}"`), [true, [["one", true, [1, 2]]]]);
+  assert.throws(() => fileOf([["one", [GAME, [], "b", 0, ...Array(9997).fill(1)]]]), { message: "mine.json, session 0: its lists have more than 10,000 elements" });
+  assert.equal(fileOf([["one", [GAME, [], "b", 0, ...Array(9996 - 1).fill(1)], 5]]).entries.length, 1);
+});
+
 it("what was pasted is no file of a disk: it can be put back where another takes its place", async () => {
   const bench = new Bench();
   await bench.act(withOtherFile, fileOf(DAY), true);
