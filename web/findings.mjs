@@ -61,7 +61,7 @@ class Titles {
   // The name of a recording: its own; or the title with the level, where it has none or the title, as the editor writes it.
   nameOf({ name, source, index }) {
     const { title, numbers } = this.of(source), level = numbers[index] ?? numbers.at(-1);
-    return WITHOUT_NAME.includes(name) || fold(name) === fold(title) ? `${title}, level ${level}` : name;
+    return WITHOUT_NAME.includes(name) || (name.length === title.length && fold(name) === fold(title)) ? `${title}, level ${level}` : name;
   }
 }
 

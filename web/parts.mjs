@@ -1,5 +1,6 @@
 // Sessions that are more than the engine takes in one file: they are played in parts, whose lines are joined as if they were one.
 import { numbered } from "../engine/saxtegun.mjs";
+import { rest } from "./pieces.mjs";
 
 function joinedBytes(pieces) {
   const whole = new Uint8Array(pieces.reduce((sum, piece) => sum + piece.length, 0));
@@ -9,6 +10,20 @@ function joinedBytes(pieces) {
     at += piece.length;
   }
   return whole;
+}
+
+const NUMBERED_AT_ONCE = 2 ** 22; // bytes
+
+// The lines of a part with the numbers of its sessions in the whole, some at a time: the page answers between them.
+async function numberedInPieces(lines, first, signal) {
+  const pieces = [];
+  for (let begin = 0, end = 0; begin < lines.length; begin = end) {
+    end = lines.indexOf(0x0a, begin + NUMBERED_AT_ONCE) + 1 || lines.length;
+    pieces.push(numbered(lines.subarray(begin, end), first));
+    await rest();
+    signal.throwIfAborted();
+  }
+  return pieces;
 }
 
 // A fault that names a session of a part.
@@ -29,7 +44,7 @@ export async function playedInParts(engine, parts, count, { order, signal, progr
     if (isWhole) return answer;
     signal.throwIfAborted();
     if (answer.fault !== null) return { fault: faultOfPart(answer.fault, first), lines: null };
-    pieces.push(numbered(answer.lines, first));
+    pieces.push(...(await numberedInPieces(answer.lines, first, signal)));
     most -= answer.lines.length;
   }
   return { fault: null, lines: joinedBytes(pieces) };

@@ -30,7 +30,7 @@ export function withTexts(past, text) {
 // The same where this text is at hand no more: those that would be played over it still are.
 export function leavingText(past, text) {
   const last = past.findLastIndex((lost) => lost.text !== undefined || isOverAny(lost));
-  return last < 0 || past[last].text !== undefined ? past : past.with(last, { ...past[last], text });
+  return last < 0 || past[last].text !== undefined ? past : past.map((lost, place) => (place === last ? { ...lost, text } : lost));
 }
 
 // Whether a sessions file, played over a text, has these very inputs over this source.
@@ -49,7 +49,7 @@ function alike(one, other, isEnd) {
 
 const distinctLinesOf = (text) => new Set(text.split("\n").map((line) => line.trim()).filter((line) => line !== ""));
 
-// Whether an edit leaves less than half of a text, as where all of it is replaced: neither half of its letters in one piece, nor half of its lines.
+// Whether an edit leaves less than half of a text, as where all of it is replaced: neither half of its letters at its begin and its end, nor half of its lines.
 export function isReplaced(text, by) {
   if (2 * (alike(text, by, false) + alike(text, by, true)) >= text.length) return false;
   const lines = distinctLinesOf(text), left = distinctLinesOf(by);
@@ -115,7 +115,8 @@ export function lostNow(things, past) {
   return things.map((lost, place) => ({ ...lost, number: last + 1 + place }));
 }
 
-const bytesOf = ({ text = "", work, file = null }) => text.length + (work?.own?.length ?? 0) + (file?.bytes.length ?? 0);
+const roomOfWork = ({ own, name, inputs }) => (own?.length ?? 0) + name.length + inputs.length;
+const bytesOf = ({ text = "", work, file = null }) => text.length + (work ? roomOfWork(work) : 0) + (file?.bytes.length ?? 0);
 
 // Of things that can be put back the last that were lost, in their places: as many as stay beside others, and as have room; one in any case where there are
 // no others.

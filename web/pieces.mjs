@@ -2,7 +2,7 @@
 // Such work is a generator: before each step it tells how many things of how many are done, and at its end what came of it.
 const PIECE = 30; // milliseconds, or as long as one step takes
 
-const rest = () => new Promise((settle) => { setTimeout(settle); });
+export const rest = () => new Promise((settle) => { setTimeout(settle); });
 
 // What some work comes to, or null where it was stopped.
 export async function inPieces(work, signal, progress = () => {}) {

@@ -18,32 +18,43 @@ const isInput = (value) => WORDS.includes(value) || (Number.isInteger(value) && 
 
 const hasHalfALetter = (text) => HALF_A_LETTER.test(text);
 
-// Whether one of the texts of a value, or of the names in its objects, passes a test. Lists may stand in one another however deep.
-function hasText(value, isOne) {
-  for (const left = [value]; left.length > 0; ) {
-    const it = left.pop();
-    if (typeof it === "string" && isOne(it)) return true;
-    if (it === null || typeof it !== "object") continue;
-    if (!Array.isArray(it)) left.push(Object.keys(it));
-    for (const one of Object.values(it)) left.push(one);
-  }
-  return false;
-}
-
 const HALF = "a text of it holds half a letter (a lone surrogate)";
-const MOST_ELEMENTS = 10_000; // of an entry and its body, of which five have a meaning
+const DEMAND = "solved";
+const MOST_ELEMENTS = 10_000; // of an entry and its body, of which five have a meaning, and of the lists and objects behind those
 const MOST_DEEP = 127; // lists and objects that stand in one another
 
-function isTooDeep(value, most) {
-  let level = [value];
-  for (let depth = 0; depth < most && level.length > 0; depth += 1) level = level.flatMap((one) => Object.values(one)).filter((it) => it !== null && typeof it === "object");
-  return level.length > 0;
+const isHolder = (value) => value !== null && typeof value === "object";
+
+// What there is in an element that the engine ignores: whether a text or a name in it has half a letter, whether one holds the demand, how deep its lists and
+// objects go, and how many things they have, each as far as is asked for. Each is listed once: an object with a million members takes long.
+function contentOf(element) {
+  const content = { isHalf: false, isDemand: false, depth: 0, count: 0 };
+  const see = (text) => {
+    content.isHalf ||= hasHalfALetter(text);
+    content.isDemand ||= text.toLowerCase().includes(DEMAND);
+  };
+  if (typeof element === "string") see(element);
+  for (let level = [element].filter(isHolder); level.length > 0 && content.count <= MOST_ELEMENTS && content.depth <= MOST_DEEP; content.depth += 1) {
+    const inside = [];
+    for (const holder of level) {
+      const names = Array.isArray(holder) ? [] : Object.keys(holder), { length } = Array.isArray(holder) ? holder : names;
+      content.count += length;
+      if (content.count > MOST_ELEMENTS) break;
+      names.forEach(see);
+      for (const value of Array.isArray(holder) ? holder : names.map((name) => holder[name])) {
+        if (typeof value === "string") see(value);
+        else if (isHolder(value)) inside.push(value);
+      }
+    }
+    level = inside;
+  }
+  return content;
 }
 
-// What of elements that the engine ignores the command's program would not read, or null.
-function ignoredFault(elements, most) {
-  if (elements.some((it) => hasText(it, hasHalfALetter))) return HALF;
-  return elements.some((it) => it !== null && typeof it === "object" && isTooDeep(it, most)) ? `its lists and objects are more than ${MOST_DEEP} deep` : null;
+// What of such elements the command's program would not read, or null; `most` is how deep they may be.
+function ignoredFault(contents, most) {
+  if (contents.some(({ isHalf }) => isHalf)) return HALF;
+  return contents.some(({ depth }) => depth > most) ? `its lists and objects are more than ${MOST_DEEP} deep` : null;
 }
 
 // How many letters of a word stand in a text in their order.
@@ -57,20 +68,23 @@ function lettersInOrder(word, text) {
   return most[word.length];
 }
 
-const DEMAND = "solved";
 const ALIKE = new Map([[4, 4], [5, 5], [6, 5], [7, 6], [8, 6], [9, 6]]); // a text of so many letters is nearly that word if so many of its letters stand there in their order
 
 // Whether a further element of an entry is meant to demand, and doesn't: another text that is nearly the word or holds it, or a list or an object that holds it.
-function isNearlyDemand(value) {
-  if (typeof value !== "string") return hasText(value, (text) => text.toLowerCase().includes(DEMAND));
+function isNearlyDemand(value, { isDemand }) {
+  if (typeof value !== "string") return isDemand;
   const lower = value.toLowerCase(), letters = lower.length > 18 ? [] : [...lower]; // 9 letters have at most 18 units
-  return value !== DEMAND && (lower.includes(DEMAND) || (ALIKE.has(letters.length) && lettersInOrder(DEMAND, letters) >= ALIKE.get(letters.length)));
+  return value !== DEMAND && (isDemand || (ALIKE.has(letters.length) && lettersInOrder(DEMAND, letters) >= ALIKE.get(letters.length)));
 }
 
-// What is nearly a demand in an entry that the engine can play, and would demand nothing; null where nothing is.
-function demandFault([, body, ...rest]) {
-  if (body.slice(4).some((it) => it === DEMAND || isNearlyDemand(it))) return `its second list holds "${DEMAND}" or nearly that, which would demand nothing there: it stands behind that list`;
-  const nearly = rest.find(isNearlyDemand);
+// What makes elements that are ignored, in a body or behind it, none that may stand there; null where nothing does.
+function furtherFault(body, rest) {
+  const [inBody, behind] = [body, rest].map((elements) => elements.map(contentOf)), count = [...inBody, ...behind].reduce((sum, content) => sum + content.count, body.length + rest.length);
+  if (count > MOST_ELEMENTS) return `its lists have more than ${MOST_ELEMENTS.toLocaleString("en")} elements`;
+  const ignored = ignoredFault(inBody, MOST_DEEP - 3) ?? ignoredFault(behind, MOST_DEEP - 2);
+  if (ignored !== null) return ignored;
+  if (body.some((it, place) => it === DEMAND || isNearlyDemand(it, inBody[place]))) return `its second list holds "${DEMAND}" or nearly that, which would demand nothing there: it stands behind that list`;
+  const nearly = rest.find((it, place) => isNearlyDemand(it, behind[place]));
   if (nearly === undefined) return null;
   const told = typeof nearly === "string" ? `${JSON.stringify(nearly.slice(0, 60))} is nearly` : `that is ${Array.isArray(nearly) ? "a list" : "an object"} holds`;
   return `its further element ${told} "${DEMAND}", and would demand nothing`;
@@ -90,7 +104,7 @@ export function faultOf(entry) {
   if (!Array.isArray(entry) || typeof entry[0] !== "string" || !Array.isArray(entry[1])) return "it is no list of a name and a list";
   const [name, body, ...rest] = entry;
   if (body.length + rest.length > MOST_ELEMENTS) return `its lists have more than ${MOST_ELEMENTS.toLocaleString("en")} elements`;
-  return bodyFault(body) ?? (hasHalfALetter(name) ? HALF : null) ?? ignoredFault(body.slice(4), MOST_DEEP - 3) ?? ignoredFault(rest, MOST_DEEP - 2) ?? demandFault(entry);
+  return bodyFault(body) ?? (hasHalfALetter(name) ? HALF : null) ?? furtherFault(body.slice(4), rest);
 }
 
 // A span of bytes without the white space around it.

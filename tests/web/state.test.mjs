@@ -590,6 +590,9 @@ test("a recording in megabytes of HTML, or of what was quoted, is found in steps
   assert.deepEqual(stepsOf(`"${quoted.slice(1, -1)} ${"\\n".repeat(700_000)}"`), [true, [["one", true, [1, 2]]]]);
   assert.throws(() => fileOf([["one", [GAME, [], "b", 0, ...Array(9997).fill(1)]]]), { message: "mine.json, session 0: its lists have more than 10,000 elements" });
   assert.equal(fileOf([["one", [GAME, [], "b", 0, ...Array(9996 - 1).fill(1)], 5]]).entries.length, 1);
+  const members = (count) => Object.fromEntries(Array.from({ length: count }, (_, number) => [`${number}x`, 0]));
+  assert.throws(() => fileOf([["one", [GAME, [], "b", 0], members(5000), [members(4998)]]]), { message: "mine.json, session 0: its lists have more than 10,000 elements" });
+  assert.equal(fileOf([["one", [GAME, [], "b", 0], members(5000), [members(4997)]]]).entries.length, 1);
 });
 
 it("what was pasted is no file of a disk: it can be put back where another takes its place", async () => {
