@@ -1,6 +1,6 @@
 //! The program's command line.
 
-ghost use Rattle.std.specs.Prelude.{◌≡◌, ◌≢◌, ◌≤◌, map, IfOk, IfErr, IfSome, Some, None, option_map, codes, string_bytes};
+ghost use Rattle.std.specs.Prelude.{◌≡◌, ◌≢◌, ◌↔◌, ◌≤◌, map, IfOk, IfErr, IfSome, Some, None, option_map, codes, string_bytes};
 ghost use Rattle.clap.specs.Words.{app_of, first_value, found_of, kind_of};
 ghost use Rattle.clap.specs.declared.error.kind.ErrorKind.TheVariants.{OutOfMemory};
 ghost use Rattle.pz_console.specs.Options.{command, workers_of, order_of, choice_of, options_of};
@@ -55,7 +55,7 @@ fn command<'a>(alloc: Global) -> Result<Command<'a>, AllocError>
 }
 
 fn refused(error: &Error) -> OptionsFault
-    ensures { result ≢ OptionsFault.Memory → kind_of error.now ≢ OutOfMemory }
+    ensures { (result ≡ OptionsFault.Memory) ↔ (kind_of error.now ≡ OutOfMemory) }
 {
     match error.kind() {
         ErrorKind::OutOfMemory => OptionsFault::Memory,
@@ -113,30 +113,23 @@ fn file(alloc: Global, text: Option<&str>) -> Result<Option<Text>, AllocError>
 }
 
 /// What the matches of a command line choose.
-fn choose(alloc: Global, matches: &ArgMatches) -> Result<Chosen, OptionsFault>
-    ensures chosen { IfOk result (λ chosen. choice_of (first_value (found_of matches.now) (codes "workers"))
-        (first_value (found_of matches.now) (codes "order")) (first_value (found_of matches.now) (codes "file")) ≡
-        Some chosen) }
-    ensures refused { IfErr result
-        (λ fault. fault ≢ OptionsFault.Memory → choice_of (first_value (found_of matches.now) (codes "workers"))
-        (first_value (found_of matches.now) (codes "order")) (first_value (found_of matches.now) (codes "file")) ≡
-        None) }
-    ensures some { IfOk result (λ chosen. 1 ≤ chosen.options.workers) }
-    ensures few { IfOk result (λ chosen. chosen.options.workers ≤ MOST_WORKERS) }
+fn choose(alloc: Global, matches: &ArgMatches) -> Result<Option<Chosen>, AllocError>
+    ensures chosen { IfOk result (λ chosen. chosen ≡ choice_of (first_value (found_of matches.now) (codes "workers"))
+        (first_value (found_of matches.now) (codes "order")) (first_value (found_of matches.now) (codes "file"))) }
+    ensures some { IfOk result (λ chosen. IfSome chosen (λ chosen. 1 ≤ chosen.options.workers)) }
+    ensures few { IfOk result (λ chosen. IfSome chosen (λ chosen. chosen.options.workers ≤ MOST_WORKERS)) }
 {
     let Some(workers) = workers(matches.get_str("workers")) else {
-        return Err(OptionsFault::BadLine);
+        return Ok(None);
     };
     let Some(order) = order(matches.get_str("order")) else {
-        return Err(OptionsFault::BadLine);
+        return Ok(None);
     };
-    let Ok(file) = file(alloc, matches.get_str("file")) else {
-        return Err(OptionsFault::Memory);
-    };
-    Ok(Chosen {
+    let file = file(alloc, matches.get_str("file"))?;
+    Ok(Some(Chosen {
         options: Options { workers, order },
         file,
-    })
+    }))
 }
 
 /// What the words of a command line choose: `[--workers N] [--order rows|columns] [FILE]`, the program's name before them. A line
@@ -155,5 +148,9 @@ pub fn read_options<'a>(alloc: Global, words: &'a [String]) -> Result<Chosen, Op
         Ok(matches) => matches,
         Err(error) => return Err(refused(&error)),
     };
-    choose(alloc, &matches)
+    match choose(alloc, &matches) {
+        Ok(Some(chosen)) => Ok(chosen),
+        Ok(None) => Err(OptionsFault::BadLine),
+        Err(_) => Err(OptionsFault::Memory),
+    }
 }

@@ -1,5 +1,7 @@
 -- The entries of a file, case by case and one after the other.
 use Rattle.std.proofs.Common.{◌≡◌, ℕ, suc, ◌+◌, ◌<◌, ◌≤◌, List, [], ◌∷◌, ◌++◌, map, length, drop, get_or, Some, None, Result, Ok, Err, refl, ap, sym, ◌∙◌, add-one}
+use Rattle.std.specs.Prelude.{IfOk, IfErr}
+use Rattle.std.specs.Result.{result_map_both}
 use Rattle.std.proofs.lemmas.Bool.{lt-ltb, le-ltb}
 use Rattle.std.proofs.lemmas.List.{length-map, append_assoc, at_drop_more}
 use Rattle.serde_json.specs.Data.{Data}
@@ -51,3 +53,12 @@ too_many text d vs h e list many = rw (le-ltb 16777216 (length text) h, e, list_
 pub listed_so : (text : List ℕ) (d : Data) (vs : List Value) → length text ≤ 16777216 → read text ≡ Some d → Some (items_view vs) ≡ as_array d → length vs ≤ 65536 → entries_of text ≡ entries_from 0 (map data_of vs)
 unfolding entries_of
 listed_so text d vs h e list few = rw (le-ltb 16777216 (length text) h, e, list_of-array d vs list, length-map vs data_of, le-ltb 65536 (length vs) few) refl
+
+-- what was read is what a definition says, seen by a view
+pub seen_ok : {A B E : Type 0} (view : A → B) (r : Result A E) (said : Result B E) → result_map_both view (λ fault. fault) r ≡ said → IfOk r (λ x. said ≡ Ok (view x))
+seen_ok view (Ok x) said e = sym e
+seen_ok view (Err fault) said e = tt
+
+pub seen_err : {A B E : Type 0} (view : A → B) (r : Result A E) (said : Result B E) → result_map_both view (λ fault. fault) r ≡ said → IfErr r (λ fault. said ≡ Err fault)
+seen_err view (Ok x) said e = tt
+seen_err view (Err fault) said e = sym e

@@ -1,10 +1,9 @@
 //! An entry of a file of sessions.
 #![tactic(auto, unfolding(crate::specs::Entry::written_of, crate::specs::Entry::entry_of))]
 
-ghost use Rattle.std.specs.Prelude.{◌≡◌, ◌≢◌, IfOk, IfErr, Ok, Err, option_map, option_and_then};
+ghost use Rattle.std.specs.Prelude.{◌≡◌, IfOk, option_map, option_and_then};
 ghost use Rattle.serde_json.specs.Find.{at, as_str};
 ghost use Rattle.serde_json.specs.View.{view as data_of};
-ghost use Rattle.pz_entries.specs.declared.fault.FileFault.TheVariants.{Memory};
 ghost use Rattle.pz_entries.specs.Entry.{index_of, written_of, entry_of};
 
 use crate::fault::FileFault;
@@ -92,12 +91,15 @@ fn read_written(alloc: Global, value: &Value) -> Result<Option<Written>, AllocEr
 }
 
 /// The entry of a number, or its fault. The text of its level is read last.
-pub(crate) fn read_entry(alloc: Global, number: u64, value: &Value) -> Result<Entry, FileFault>
-    ensures read { IfOk result (λ entry. entry_of number (data_of value.now) ≡ Ok entry) }
-    ensures refused { IfErr result (λ fault. fault ≢ Memory → entry_of number (data_of value.now) ≡ Err fault) }
+pub(crate) fn read_entry(
+    alloc: Global,
+    number: u64,
+    value: &Value,
+) -> Result<Result<Entry, FileFault>, AllocError>
+    ensures { IfOk result (λ entry. entry ≡ entry_of number (data_of value.now)) }
 {
     let Some(written) = read_written(alloc, value)? else {
-        return Err(FileFault::BadEntry(number));
+        return Ok(Err(FileFault::BadEntry(number)));
     };
     let Written {
         name,
@@ -107,13 +109,13 @@ pub(crate) fn read_entry(alloc: Global, number: u64, value: &Value) -> Result<En
         index,
     } = written;
     let Some(recorded) = read_level_text(alloc, level.as_str())? else {
-        return Err(FileFault::BadLevel(number));
+        return Ok(Err(FileFault::BadLevel(number)));
     };
-    Ok(Entry {
+    Ok(Ok(Entry {
         name,
         source,
         inputs,
         recorded,
         index,
-    })
+    }))
 }

@@ -1,6 +1,7 @@
 //! A file of sessions.
 
 ghost use Rattle.std.specs.Prelude.{◌≡◌, ◌≢◌, ◌≤◌, length, map, IfOk, IfErr, Ok, Err};
+ghost use Rattle.std.specs.Result.{result_map_both};
 ghost use Rattle.serde_json.specs.View.{view as data_of};
 ghost use Rattle.pz_entries.specs.declared.fault.FileFault.TheVariants.{Memory};
 ghost use Rattle.pz_entries.specs.File.{entries_from, entries_of};
@@ -9,7 +10,7 @@ use crate::entry::{Entry, read_entry};
 use crate::fault::FileFault;
 use pz_record::limits::MOST_ENTRIES;
 use serde_json::Value;
-use std::alloc::Global;
+use std::alloc::{AllocError, Global};
 
 /// The most bytes that a file has. Rule `file.list`.
 pub const MOST_BYTES: usize = 16_777_216;
@@ -20,17 +21,17 @@ pub fn bytes_are_limited()
 {}
 
 /// The entries of the values, or the first fault. Rule `file.refusals`.
-fn read_entries(alloc: Global, list: &[Value]) -> Result<Vec<Entry>, FileFault>
-    ensures read { IfOk result (λ entries. entries_from 0 (map data_of list.now) ≡ Ok entries.items) }
-    ensures refused { IfErr result (λ fault. fault ≢ Memory → entries_from 0 (map data_of list.now) ≡ Err fault) }
-    ensures count { IfOk result (λ entries. length entries.items ≡ length list.now) }
+fn read_entries(alloc: Global, list: &[Value]) -> Result<Result<Vec<Entry>, FileFault>, AllocError>
+    ensures read { IfOk result (λ entries.
+        result_map_both (λ entries. entries.items) (λ fault. fault) entries ≡ entries_from 0 (map data_of list.now)) }
+    ensures count { IfOk result (λ entries. IfOk entries (λ entries. length entries.items ≡ length list.now)) }
 {
     let mut entries = Vec::new(alloc);
     for (number, value) in list.iter().enumerate() {
-        let entry = read_entry(alloc, number as u64, value)?;
+        let entry = or_fault!(read_entry(alloc, number as u64, value)?);
         entries.push(entry)?;
     }
-    Ok(entries)
+    Ok(Ok(entries))
 }
 
 /// The entries of a file, or its first fault: the file is too long, is no JSON list, or has too many entries; then, entry by
@@ -55,5 +56,5 @@ pub fn read_sessions(alloc: Global, text: &str) -> Result<Vec<Entry>, FileFault>
     if list.len() > MOST_ENTRIES {
         return Err(FileFault::TooMany);
     }
-    read_entries(alloc, list)
+    read_entries(alloc, list)?
 }

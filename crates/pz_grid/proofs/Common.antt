@@ -17,7 +17,7 @@ pub use Rattle.pz_grid.specs.Movement.{AllStay, Leaves, Pass, Spot, Stays, headi
 pub use Rattle.pz_grid.specs.Places.{along, cell_holds, cells_before, distance, gap_count, head_of, holds_at, holds_behind, line_count, line_length, pairs, pairs_at, pairs_in, place_in, places, row_holds, searched, starts_with, still_holds}
 pub use Rattle.pz_grid.specs.Rewriting.{in_rewrite, rewritten_along, rewritten_row}
 pub use Rattle.pz_grid.specs.Staying.{IsMove, IsStill, IsStillInColumn, IsStillInRow, KeepsStill}
-pub use Rattle.pz_grid.specs.declared.placing.GridFault.TheVariants.{MatchLimit, Memory}
+pub use Rattle.pz_grid.specs.declared.placing.GridFault.TheVariants.{MatchLimit}
 pub use Rattle.pz_grid.specs.declared.placing.Place.{Place}
 pub use Rattle.pz_grid.specs.declared.placing.TheConstants.{MATCH_LIMIT}
 pub use Rattle.pz_sets.specs.Sets.{IsWithin, member}
@@ -29,7 +29,7 @@ pub use Rattle.pz_sheet.specs.Movement.{AreColumnsStill, AreStill, IsStillAt, ca
 pub use Rattle.pz_sheet.specs.Presence.{cell_of, in_column, in_line, in_row, is_in, stands_in_line}
 pub use Rattle.pz_sheet.specs.Runs.{holds_along, run_holds}
 pub use Rattle.pz_sheet.specs.Searching.{HoldsInLine, HoldsSomewhere, SoughtRun, run_holds_from}
-pub use Rattle.std.proofs.Common.{Bool, Err, List, None, Ok, Option, Some, [], add-one, ap, arith, cond, false, filter, get_or, inl, inr, length, length-take, map, min, mul-le-mul_right, nat_eq, refl, rules, set, subst, suc, sym, take, true, zero, ℕ, ◌&&◌, ◌*◌, ◌++◌, ◌+◌, ◌-◌, ◌<◌, ◌||◌, ◌∙◌, ◌∷◌, ◌≡◌, ◌≢◌, ◌≤◌, ◌⊎◌}
+pub use Rattle.std.proofs.Common.{Bool, Err, List, None, Ok, Option, Some, [], add-one, ap, arith, cond, false, filter, get_or, inl, inr, length, length-take, map, min, mul-le-mul_right, nat_eq, refl, rules, set, subst, suc, sym, take, true, zero, ℕ, ◌&&◌, ◌*◌, ◌++◌, ◌+◌, ◌-◌, ◌<◌, ◌||◌, ◌∙◌, ◌∷◌, ◌≡◌, ◌≤◌, ◌⊎◌}
 pub use Rattle.std.proofs.lemmas.Bool.{and_from, and_parts, cases_eq, cases_lt, eq-eqb, eqb-true, le-leb, leb-true, lt-leb, ltb-false, ltb-true, or_left, or_right}
 pub use Rattle.std.proofs.lemmas.Grind.{common_steps}
 pub use Rattle.std.proofs.lemmas.List.{append-nil, get_or-set_other, get_or-set_same, get_or-take, get_or_default, get_or_past, length-set, map-set, set_past, take_all, take_more}
@@ -37,7 +37,6 @@ pub use Rattle.std.proofs.lemmas.List.Elements.{All-contains, All-contains_itsel
 pub use Rattle.std.proofs.lemmas.List.Folds.{Any-from_list_any, list_all_at, list_all_more, list_any_at, list_any_more}
 pub use Rattle.std.proofs.lemmas.List.FromFn.{get_or-map-range_with_len, get_or-range_with_len, length-enumerate_from, length-map-range_with_len, length-range_with_len}
 pub use Rattle.std.proofs.lemmas.List.Sums.{AllPass-from_list_all, fold-append, list_all-from_AllPass, sum_by-cons, sum_by-le, sum_by-set}
-pub use Rattle.std.proofs.lemmas.Result.{err_from_is_err_and}
 pub use Rattle.std.proofs.lemmas.Slice.Zip.{get_or-zip, length-zip}
 pub use Rattle.std.specs.List.{count_by, enumerate_from, flat_map, list_all, list_any, range_with_len, sum_by, zip}
 pub use Rattle.std.specs.Prelude.{All, Contains, IfSome, IsTrue, fold, if◌then◌else◌, is_some, ◌↔◌}

@@ -1,7 +1,7 @@
 -- The places of a row of a rule: each start cell with each gap for which all cells of the row are on the map and hold. A cell
 -- of a rule *holds* where it fits. Left and right scan row by row from the top, each from the left. Up and down scan column by
 -- column from the left, each from the top. At a start cell gaps ascend. A row without `...` has only the gap 0.
-use Rattle.std.specs.Prelude.{ℕ, ◌+◌, List, [], ◌∷◌, take, map, filter, length, Bool, Option, Some, None, Result, Ok, Err, nat_lt, nat_le, nat_eq, ◌&&◌, ◌||◌, if◌then◌else◌, is_some}
+use Rattle.std.specs.Prelude.{◌≡◌, ⊤, ℕ, ◌+◌, ◌<◌, List, [], ◌∷◌, ◌++◌, take, map, filter, length, Bool, Option, Some, None, Result, Ok, Err, nat_lt, nat_le, nat_eq, ◌&&◌, ◌||◌, if◌then◌else◌, is_some}
 use Rattle.std.specs.List.{list_all, enumerate_from, flat_map, range_with_len, zip}
 use Rattle.pz_game.specs.declared.direction.Dir.{Dir}
 use Rattle.pz_program.specs.declared.instance.Instance.{Instance}
@@ -85,6 +85,11 @@ places grid row dir = filter (row_holds grid row dir) (pairs grid row dir)
 -- match.limit: the places of a row, unless there are more than the limit
 unfoldable pub searched : Grid → RuleRow → Dir → Result (List Place) GridFault
 searched grid row dir = if nat_lt MATCH_LIMIT (length (places grid row dir)) then Err MatchLimit else Ok (places grid row dir)
+
+-- a search adds these places to those found before, unless there are too many together
+abbrev pub Adds : List Place → List Place → List Place → Result ⊤ GridFault → Type 0
+Adds before more after (Ok added) = after ≡ before ++ more
+Adds before more after (Err fault) = MATCH_LIMIT < length (before ++ more)
 
 -- a row holds at a place; the place has the gap 0 if the row has no gap
 abbrev pub still_holds : Grid → Dir → RuleRow × Place → Bool

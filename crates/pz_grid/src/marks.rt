@@ -1,6 +1,6 @@
 //! The marks of a level: the objects that each row, each column and the whole may have.
 
-ghost use Rattle.std.specs.Prelude.{◌≡◌, ℕ, ◌<◌, ◌&&◌, All, IfOk, IfErr, OnOk, OnErr, true, length, nat_eq, []};
+ghost use Rattle.std.specs.Prelude.{◌≡◌, ℕ, ◌<◌, ◌&&◌, All, IfOk, OnOk, OnErr, true, length, nat_eq, []};
 ghost use Rattle.pz_sets.specs.Sets.{member};
 ghost use Rattle.pz_sets.specs.declared.set.TheConstants.{CAPACITY};
 ghost use Rattle.pz_sheet.specs.Grid.{IsOnMap, IsLawful};
@@ -11,7 +11,6 @@ ghost use Rattle.pz_bare.specs.Loading.{loaded};
 ghost use Rattle.pz_grid.specs.Marks.{is_marked, IsExact, IsMore};
 
 use crate::Level;
-use crate::placing::GridFault;
 use pz_bare::BareLevel;
 use pz_game::game::Game;
 use pz_game::masks::names;
@@ -22,37 +21,17 @@ use std::alloc::{AllocError, Global};
 
 impl Level {
     /// Loads the entry of LEVELS of this number, which must be a level. Entries are numbered from 0. Err: memory was refused.
-    pub fn load(alloc: Global, game: &Game, index: usize) -> Result<Level, GridFault>
+    pub fn load(alloc: Global, game: &Game, index: usize) -> Result<Level, AllocError>
         requires { is_playable (entry_at game.now index) ≡ true }
         ensures loaded { IfOk result (λ level. level.grid ≡ loaded game.now index) }
         ensures lawful { IfOk result (λ level. IsLawful level.grid) }
         ensures exact { IfOk result IsExact }
-        ensures fault { IfErr result (λ fault. fault ≡ GridFault.Memory) }
     {
-        let Ok(bare) = BareLevel::load(alloc, game, index) else {
-            return Err(GridFault::Memory);
-        };
-        match Level::marked(alloc, bare) {
-            Ok(level) => Ok(level),
-            Err(_) => Err(GridFault::Memory),
-        }
+        Level::marked(alloc, BareLevel::load(alloc, game, index)?)
     }
 
     /// A copy of the level. The marks of the copy are exactly what stands in each line. Err: memory was refused.
-    pub fn copy(&self) -> Result<Level, GridFault>
-        ensures copied { IfOk result (λ level. level.grid ≡ self.now.grid) }
-        ensures lawful { IfOk result (λ level. IsLawful level.grid) }
-        ensures exact { IfOk result IsExact }
-        ensures fault { IfErr result (λ fault. fault ≡ GridFault.Memory) }
-    {
-        match self.copied() {
-            Ok(level) => Ok(level),
-            Err(_) => Err(GridFault::Memory),
-        }
-    }
-
-    /// Like `copy`, for callers whose only fault is want of memory.
-    pub fn copied(&self) -> Result<Level, AllocError>
+    pub fn copy(&self) -> Result<Level, AllocError>
         ensures copied { IfOk result (λ level. level.grid ≡ self.now.grid) }
         ensures lawful { IfOk result (λ level. IsLawful level.grid) }
         ensures exact { IfOk result IsExact }
@@ -68,7 +47,7 @@ impl Level {
         ensures kept { OnErr result (self.new.grid ≡ self.old.grid) }
     {
         if !self.bare.same_size(&other.bare) {
-            *self = other.copied()?;
+            *self = other.copy()?;
             return Ok(());
         }
         self.bare.copy_from(&other.bare)?;

@@ -1,11 +1,12 @@
 //! The places of a row of a rule. A row holds at a place if all its cells are on the map and fit there.
 
 ghost use Rattle.std.specs.List.{list_all, enumerate_from};
-ghost use Rattle.std.specs.Prelude.{◌≡◌, ◌≢◌, take, true, ◌+◌, ◌*◌, ◌<◌, ◌≤◌, cond, [], ◌∷◌, ◌++◌, ◌^◌, filter, length, OnOk, IfOk, IfErr, IfSome, MatchOption, Ok, Err};
+ghost use Rattle.std.specs.Prelude.{◌≡◌, take, true, ◌+◌, ◌*◌, ◌<◌, ◌≤◌, cond, [], ◌∷◌, ◌^◌, filter, length, IfOk, IfSome, MatchOption};
+ghost use Rattle.std.specs.Result.{result_map_both};
 ghost use Rattle.pz_game.specs.declared.limits.TheConstants.{MOST_SIDE};
 ghost use Rattle.pz_game.specs.Pattern.{AreOf, IsRowOf, AreRowsOf};
 ghost use Rattle.pz_grid.specs.Admitted.{admitted, searches_line, starts_in, start_count};
-ghost use Rattle.pz_grid.specs.Places.{position_of, distance, cell_holds, row_holds, line_count, line_length, place_in, holds_behind, pairs_at, head_of, pairs_in, places, searched, starts_with, still_holds, still_matches};
+ghost use Rattle.pz_grid.specs.Places.{Adds, position_of, distance, cell_holds, row_holds, line_count, line_length, place_in, holds_behind, pairs_at, head_of, pairs_in, places, searched, starts_with, still_holds, still_matches};
 ghost use Rattle.pz_sets.specs.Next.{IsNext};
 ghost use Rattle.pz_sheet.specs.Grid.{IsLawful};
 ghost use Rattle.pz_sheet.specs.Line.{IsOnLine, dir_of, line_count as lines_along};
@@ -18,7 +19,7 @@ use pz_program::instance::Instance;
 use pz_sheet::Sheet;
 use pz_sheet::line::{Axis, Walk, Way, axis_of};
 use pz_sheet::runs::RunSearch;
-use std::alloc::Global;
+use std::alloc::{AllocError, Global};
 use std::marker::Model;
 
 /// The most places that a row may have. Rule `limits.places`.
@@ -53,11 +54,20 @@ impl Model for Found {
     ghost invariant = { λ a. length a.places.items ≤ MATCH_LIMIT };
 }
 
-/// Why a search has no answer: memory was refused, or the row has more places than `MATCH_LIMIT`.
+/// Why a search has no answer: the row has more places than `MATCH_LIMIT`.
 #[derive(Clone, Copy, Debug, PartialEq, Eq)]
 pub enum GridFault {
-    Memory,
     MatchLimit,
+}
+
+/// What a call found, or else the end of the function with the fault that it found.
+macro_rules! or_fault {
+    ($found:expr) => {
+        match $found {
+            Ok(found) => found,
+            Err(fault) => return Ok(Err(fault)),
+        }
+    };
 }
 
 impl Level {
@@ -177,20 +187,17 @@ fn search_in<'a, const N: usize>(sheet: &'a Sheet<N>, row: &'a Row, walk: Walk) 
 impl Found {
     /// Adds a place, unless there are `MATCH_LIMIT` already. (Inlined: each place that a search finds comes here.)
     #[inline(always)]
-    fn add(&mut self, place: Place) -> Result<(), GridFault>
-        ensures added { OnOk result (self.new ≡ self.old ++ (place ∷ [])) }
-        ensures limit { result ≡ Err GridFault.MatchLimit → MATCH_LIMIT < length (self.old ++ (place ∷ [])) }
+    fn add(&mut self, place: Place) -> Result<Result<(), GridFault>, AllocError>
+        ensures { IfOk result (Adds self.old (place ∷ []) self.new) }
     {
         if self.places.len() == MATCH_LIMIT {
-            return Err(GridFault::MatchLimit);
+            return Ok(Err(GridFault::MatchLimit));
         }
-        if self.places.is_empty() && self.places.reserve(SOME_PLACES).is_err() {
-            return Err(GridFault::Memory);
+        if self.places.is_empty() {
+            self.places.reserve(SOME_PLACES)?;
         }
-        if self.places.push(place).is_err() {
-            return Err(GridFault::Memory);
-        }
-        Ok(())
+        self.places.push(place)?;
+        Ok(Ok(()))
     }
 
     /// All of them.
@@ -210,18 +217,16 @@ fn add_place<const N: usize>(
     place: Place,
     from: usize,
     found: &mut Found,
-) -> Result<(), GridFault>
+) -> Result<Result<(), GridFault>, AllocError>
     requires of_game { IsRowOf sheet.now.grid.layers row.now }
     requires begun { list_all (cell_holds sheet.now.grid row.now dir place)
         (take from (enumerate_from 0 row.now.cells)) ≡ true }
-    ensures added { OnOk result (found.new ≡ found.old ++ filter (row_holds sheet.now.grid row.now dir) (place ∷ [])) }
-    ensures limit { result ≡ Err GridFault.MatchLimit →
-        MATCH_LIMIT < length (found.old ++ filter (row_holds sheet.now.grid row.now dir) (place ∷ [])) }
+    ensures { IfOk result (Adds found.old (filter (row_holds sheet.now.grid row.now dir) (place ∷ [])) found.new) }
 {
     if spread_holds(sheet, row, dir, place, from) {
         found.add(place)
     } else {
-        Ok(())
+        Ok(Ok(()))
     }
 }
 
@@ -272,26 +277,23 @@ fn add_places_with_gaps<const N: usize>(
     start: u32,
     at: u32,
     found: &mut Found,
-) -> Result<(), GridFault>
+) -> Result<Result<(), GridFault>, AllocError>
     requires of_game { IsRowOf sheet.now.grid.layers row.now }
     requires on_line { IsOnLine sheet.now.grid walk.line start }
     requires gap_at { row.now.gap_at ≡ Some at }
     requires starts { starts_with sheet.now.grid (dir_of walk) walk.line.number (head_of row.now) start ≡ true }
-    ensures added { OnOk result
-        (found.new ≡ found.old ++ filter (row_holds sheet.now.grid row.now (dir_of walk))
-        (pairs_at sheet.now.grid row.now (dir_of walk) walk.line.number start)) }
-    ensures limit { result ≡ Err GridFault.MatchLimit →
-        MATCH_LIMIT < length (found.old ++ filter (row_holds sheet.now.grid row.now (dir_of walk))
-        (pairs_at sheet.now.grid row.now (dir_of walk) walk.line.number start)) }
+    ensures { IfOk result
+        (Adds found.old (filter (row_holds sheet.now.grid row.now (dir_of walk))
+        (pairs_at sheet.now.grid row.now (dir_of walk) walk.line.number start)) found.new) }
 {
     let behind = &row.cells()[at as usize];
     let mut from = 0;
     'gaps: while let Some(gap) = next_gap(sheet, walk, start, from, at, behind) {
         let place = place_in(walk, start, gap);
-        add_place(sheet, row, dir_of(walk), place, at as usize + 1, found)?;
+        or_fault!(add_place(sheet, row, dir_of(walk), place, at as usize + 1, found)?);
         from = gap + 1;
     }
-    Ok(())
+    Ok(Ok(()))
 }
 
 /// Adds the places that start in a cell. From there the row's cells before its gap hold.
@@ -301,16 +303,13 @@ fn add_places_at<const N: usize>(
     walk: Walk,
     start: u32,
     found: &mut Found,
-) -> Result<(), GridFault>
+) -> Result<Result<(), GridFault>, AllocError>
     requires of_game { IsRowOf sheet.now.grid.layers row.now }
     requires on_line { IsOnLine sheet.now.grid walk.line start }
     requires starts { starts_with sheet.now.grid (dir_of walk) walk.line.number (head_of row.now) start ≡ true }
-    ensures added { OnOk result
-        (found.new ≡ found.old ++ filter (row_holds sheet.now.grid row.now (dir_of walk))
-        (pairs_at sheet.now.grid row.now (dir_of walk) walk.line.number start)) }
-    ensures limit { result ≡ Err GridFault.MatchLimit →
-        MATCH_LIMIT < length (found.old ++ filter (row_holds sheet.now.grid row.now (dir_of walk))
-        (pairs_at sheet.now.grid row.now (dir_of walk) walk.line.number start)) }
+    ensures { IfOk result
+        (Adds found.old (filter (row_holds sheet.now.grid row.now (dir_of walk))
+        (pairs_at sheet.now.grid row.now (dir_of walk) walk.line.number start)) found.new) }
 {
     match row.gap_at() {
         None => found.add(place_in(walk, start, 0)),
@@ -325,25 +324,22 @@ fn add_places_in<const N: usize>(
     row: &Row,
     walk: Walk,
     found: &mut Found,
-) -> Result<(), GridFault>
+) -> Result<Result<(), GridFault>, AllocError>
     requires of_game { IsRowOf sheet.now.grid.layers row.now }
     requires line_in { walk.line.number < lines_along sheet.now.grid walk.line.axis }
-    ensures added { OnOk result
-        (found.new ≡ found.old ++ filter (row_holds sheet.now.grid row.now (dir_of walk))
-        (pairs_in sheet.now.grid row.now (dir_of walk) walk.line.number)) }
-    ensures limit { result ≡ Err GridFault.MatchLimit →
-        MATCH_LIMIT < length (found.old ++ filter (row_holds sheet.now.grid row.now (dir_of walk))
-        (pairs_in sheet.now.grid row.now (dir_of walk) walk.line.number)) }
+    ensures { IfOk result
+        (Adds found.old (filter (row_holds sheet.now.grid row.now (dir_of walk))
+        (pairs_in sheet.now.grid row.now (dir_of walk) walk.line.number)) found.new) }
 {
     // (brings the proof how short a line is)
     let _ = sheet.line_length(walk.line.axis);
     let search = search_in(sheet, row, walk);
     let mut from = 0;
     'starts: while let Some(start) = search.next(from) {
-        add_places_at(sheet, row, walk, start, found)?;
+        or_fault!(add_places_at(sheet, row, walk, start, found)?);
         from = start + 1;
     }
-    Ok(())
+    Ok(Ok(()))
 }
 
 /// In how many cells of a line the search tests whether a row starts there, if it doesn't skip the line.
@@ -376,18 +372,15 @@ impl Level {
         dir: Dir,
         line: u32,
         found: &mut Found,
-    ) -> Result<(), GridFault>
+    ) -> Result<Result<(), GridFault>, AllocError>
         requires of_game { IsRowOf self.now.grid.layers row.now }
         requires line_in { line < line_count self.now.grid dir }
-        ensures added { OnOk result
-            (found.new ≡ found.old ++ filter (row_holds self.now.grid row.now dir)
-            (pairs_in self.now.grid row.now dir line)) }
-        ensures limit { result ≡ Err GridFault.MatchLimit →
-            MATCH_LIMIT < length (found.old ++ filter (row_holds self.now.grid row.now dir)
-            (pairs_in self.now.grid row.now dir line)) }
+        ensures { IfOk result
+            (Adds found.old (filter (row_holds self.now.grid row.now dir)
+            (pairs_in self.now.grid row.now dir line)) found.new) }
     {
         let Some(walk) = self.walk_for(row, dir, line) else {
-            return Ok(());
+            return Ok(Ok(()));
         };
         match self.bare().sheet() {
             AnySheet::Small(sheet) => add_places_in(sheet, row, walk, found),
@@ -430,22 +423,28 @@ impl Level {
 
 /// The places of a row in a level, in the order of the scan. Left and right scan row by row from the top, each from the left. Up and down
 /// scan column by column from the left, each from the top. At one start gaps ascend. `MatchLimit`: there are more than `MATCH_LIMIT`.
-/// `Memory`: memory was refused. Rule `match.places`.
-pub fn places(alloc: Global, level: &Level, row: &Row, dir: Dir) -> Result<Vec<Place>, GridFault>
+/// Rule `match.places`.
+pub fn places(
+    alloc: Global,
+    level: &Level,
+    row: &Row,
+    dir: Dir,
+) -> Result<Result<Vec<Place>, GridFault>, AllocError>
     requires of_game { IsRowOf level.now.grid.layers row.now }
-    ensures found { IfOk result (λ found. searched level.now.grid row.now dir ≡ Ok found.items) }
-    ensures fault { IfErr result (λ fault. fault ≢ GridFault.Memory → searched level.now.grid row.now dir ≡ Err fault) }
+    ensures { IfOk result
+        (λ found. result_map_both (λ places. places.items) (λ fault. fault) found ≡
+        searched level.now.grid row.now dir) }
 {
     if !level.is_searched_for(row) {
-        return Ok(Vec::new(alloc));
+        return Ok(Ok(Vec::new(alloc)));
     }
     let mut found = Found {
         places: Vec::new(alloc),
     };
     for line in 0..level.line_count(dir) {
-        level.add_searched(row, dir, line, &mut found)?;
+        or_fault!(level.add_searched(row, dir, line, &mut found)?);
     }
-    Ok(found.all())
+    Ok(Ok(found.all()))
 }
 
 /// The places of a row as `places` gives them, and how many cells a search tests as starts of the row. It tests only lines that `admitted`
@@ -456,16 +455,19 @@ pub fn places_counted(
     level: &Level,
     row: &Row,
     dir: Dir,
-) -> Result<(Vec<Place>, u64), GridFault>
+) -> Result<Result<(Vec<Place>, u64), GridFault>, AllocError>
     requires of_game { IsRowOf level.now.grid.layers row.now }
-    ensures found { IfOk result (λ r. searched level.now.grid row.now dir ≡ Ok r.0.items) }
-    ensures fault { IfErr result (λ fault. fault ≢ GridFault.Memory → searched level.now.grid row.now dir ≡ Err fault) }
-    ensures low { IfOk result (λ r. start_count level.now.grid dir r.0.items ≤ r.1) }
-    ensures high { IfOk result (λ r. r.1 ≤ admitted level.now row.now dir * line_length level.now.grid dir) }
+    ensures found { IfOk result
+        (λ counted. result_map_both (λ both. both.0.items) (λ fault. fault) counted ≡
+        searched level.now.grid row.now dir) }
+    ensures low { IfOk result
+        (λ counted. IfOk counted (λ both. start_count level.now.grid dir both.0.items ≤ both.1)) }
+    ensures high { IfOk result
+        (λ counted. IfOk counted (λ both. both.1 ≤ admitted level.now row.now dir * line_length level.now.grid dir)) }
 {
-    let found = places(alloc, level, row, dir)?;
+    let found = or_fault!(places(alloc, level, row, dir)?);
     let tested = level.tested_in_all(row, dir);
-    Ok((found, tested))
+    Ok(Ok((found, tested)))
 }
 
 /// The number of lines that are admitted for a row: those whose marks have every object that the row's first cell names as present. A line

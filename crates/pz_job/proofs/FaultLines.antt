@@ -9,6 +9,7 @@ use Rattle.pz_game.specs.declared.game.GameParts.{GameParts}
 use Rattle.pz_game.specs.declared.rule_line.RuleLine.{RuleLine}
 use Rattle.pz_program.specs.declared.instance.Program.{Program}
 use Rattle.pz_source.specs.Reading.{source_of, line_count}
+use Rattle.pz_source.proofs.LineLemmas.{Names}
 use Rattle.pz_source.proofs.FaultLines.{source-fault}
 use Rattle.pz_source.proofs.RuleNumbers.{result-ruled}
 use Rattle.pz_rules.specs.Drafts.{program_of}
@@ -57,10 +58,15 @@ from_source source (Err first) later named within each fault is =
     let same : first ≡ fault = (let both : Err (Source first) ≡ Err (Source fault) = is in cc) in
     subst (λ (f : SourceFault). f.line ≤ line_count source) same named
 
+-- a fault of a text names a line of it
+line_of : {A : Type 0} (n : ℕ) (r : Result A SourceFault) → IfErr r (Names n) → IfErr r (λ fault. fault.line ≤ n)
+line_of n (Ok x) named = tt
+line_of n (Err fault) named = named.1
+
 plan_names : (source : List ℕ) (inputs : List Input) (recorded : List (List (List ℕ))) (index : ℕ) (order : Order) → NamesALine source (plan_of source inputs recorded index order)
 unfolding plan_of
 plan_names source inputs recorded index order =
-    from_source source (source_of source) _ (source-fault source) (result-ruled source (source_of source) (given_is (source_of source))) (λ game within.
+    from_source source (source_of source) _ (line_of (line_count source) (source_of source) (source-fault source)) (result-ruled source (source_of source) (given_is (source_of source))) (λ game within.
     from_program source game.rules (program_of game) _ within (program_of-lined game) (λ program.
     from_level source (level_from game index) (plan_at game program inputs recorded order)))
 

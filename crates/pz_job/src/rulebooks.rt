@@ -1,7 +1,7 @@
 //! The rulebooks of sources.
 #![tactic(auto, unfolding(crate::specs::Rulebooks::rulebook_of))]
 
-ghost use Rattle.std.specs.Prelude.{◌≡◌, ◌≢◌, IfOk, IfErr, Ok, Err};
+ghost use Rattle.std.specs.Prelude.{◌≡◌, ◌≢◌, IfOk, OnErr, Ok, Err};
 ghost use Rattle.pz_rules.specs.Drafts.{program_of};
 ghost use Rattle.std.specs.Arc.{arc_value};
 ghost use Rattle.pz_job.specs.Rulebooks.{or_refused, rulebook_of, shared_in, AreKept, IsProgramFor};
@@ -23,23 +23,16 @@ use std::sync::Arc;
 /// What a source gives: its rulebook, or why its sessions are refused.
 pub(crate) type Answer = Result<Arc<Rulebook>, Refusal>;
 
-/// The refusal for a fault of a source. Want of memory is no fault of the source.
-fn refusal_of(fault: SourceFault) -> Result<Refusal, AllocError>
-    ensures refusal { IfOk result (λ refusal. (refusal ≡ Refusal.Source fault) × (fault.code ≢ Code.Memory)) }
-    ensures wanted { IfErr result (λ _. fault.code ≡ Code.Memory) }
+/// What a source with a fault gives. Want of memory is no fault of the source.
+fn refused(fault: SourceFault) -> Result<Answer, AllocError>
+    ensures refused { IfOk result
+        (λ answer. (shared_in answer ≡ Err (Refusal.Source fault)) × (fault.code ≢ Code.Memory)) }
+    ensures wanted { OnErr result (fault.code ≡ Code.Memory) }
 {
     match fault.code {
         Code::Memory => Err(AllocError),
-        _ => Ok(Refusal::Source(fault)),
+        _ => Ok(Err(Refusal::Source(fault))),
     }
-}
-
-/// What a source with a fault gives.
-fn refused(fault: SourceFault) -> Result<Answer, AllocError>
-    ensures { IfOk result (λ answer. (shared_in answer ≡ Err (Refusal.Source fault)) × (fault.code ≢ Code.Memory)) }
-{
-    let refusal = refusal_of(fault)?;
-    Ok(Err(refusal))
 }
 
 /// What a game with a known program gives.

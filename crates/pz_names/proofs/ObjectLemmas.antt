@@ -3,8 +3,8 @@ use Rattle.std.proofs.Common.{◌≡◌, ℕ, ◌<◌, ◌≤◌, ◌+◌, ◌-�
 use Rattle.std.specs.Prelude.{Option, Some, None, Ok, Err, All, if◌then◌else◌, cond, nat_le, nat_lt, map}
 use Rattle.std.proofs.lemmas.List.{length-append, length-map, map-append, flat_map_more}
 use Rattle.pz_base.proofs.ListLemmas.{take-next}
-use Rattle.pz_base.specs.Fault.{first_fault}
-use Rattle.pz_base.proofs.FaultLemmas.{unless-pass, unless-hit}
+use Rattle.pz_base.specs.Fault.{first_fault, unless}
+use Rattle.pz_base.proofs.FaultLemmas.{unless-pass}
 use Rattle.pz_base.specs.declared.fault.Code.{Code}
 use Rattle.pz_base.specs.declared.fault.SourceFault.{SourceFault}
 use Rattle.pz_text.specs.declared.line.Line.{Line}
@@ -54,17 +54,22 @@ object_names-next xs i x names lt is there =
     let next : map name_line_of (take (i + 1) xs) ≡ before ++ x.line ∷ [] = ap (map name_line_of) (take-next xs i x lt is) ∙ map-append name_line_of (take i xs) (x ∷ []) in
     ap (λ ns. ns ++ x.line.names) there ∙ (flat_map_more (λ (line : NameLine). line.names) [] before x.line ∙ ap object_names (sym next))
 
+-- what was found where a check names no line
+pub found-none : {A : Type 0} (check : Option SourceFault) (found later : A) → Ok found ≡ unless check (Ok later) → check ≡ None
+found-none None found later e = refl
+found-none (Some fault) found later e = cc
+
+pub found-later : {A : Type 0} (check : Option SourceFault) (found later : A) → Ok found ≡ unless check (Ok later) → found ≡ later
+found-later None found later e = cc
+found-later (Some fault) found later e = cc
+
 -- the objects by the paragraphs that were read
-pub objects_of-read : (lines : List Line) (paragraphs looked : List Paragraph) (objects : List NameLine) → paragraphs ≡ paragraphs_of lines → looked ≡ paragraphs
-    → first_fault paragraph_at misnames [] looked ≡ None → objects ≡ map name_line_of paragraphs → objects_of lines ≡ Ok objects
-objects_of-read lines paragraphs looked objects read same none mapped =
+pub objects_of-read : {A : Type 0} (lines : List Line) (paragraphs looked : List Paragraph) (objects : List NameLine) (names later : A) → paragraphs ≡ paragraphs_of lines → looked ≡ paragraphs
+    → Ok names ≡ unless (first_fault paragraph_at misnames [] looked) (Ok later) → objects ≡ map name_line_of paragraphs → objects_of lines ≡ Ok objects
+objects_of-read lines paragraphs looked objects names later read same found mapped =
+    let none = found-none (first_fault paragraph_at misnames [] looked) names later found in
     unless-pass (first_fault paragraph_at misnames [] (paragraphs_of lines)) (Ok (map name_line_of (paragraphs_of lines))) (ap (first_fault paragraph_at misnames []) (sym (same ∙ read)) ∙ none)
     ∙ (ap (λ bs. Ok (map name_line_of bs)) (sym read) ∙ ap (λ os. Ok os) (sym mapped))
-
-pub objects_of-refused : (lines : List Line) (paragraphs looked : List Paragraph) (fault : SourceFault) → paragraphs ≡ paragraphs_of lines → looked ≡ paragraphs
-    → first_fault paragraph_at misnames [] looked ≡ Some fault → objects_of lines ≡ Err fault
-objects_of-refused lines paragraphs looked fault read same some =
-    unless-hit (first_fault paragraph_at misnames [] (paragraphs_of lines)) (Ok (map name_line_of (paragraphs_of lines))) fault (ap (first_fault paragraph_at misnames []) (sym (same ∙ read)) ∙ some)
 
 -- ---- what is known of the objects of a source
 

@@ -1,8 +1,8 @@
 //! The lines of LEGEND.
 
-ghost use Rattle.std.specs.Prelude.{◌≡◌, ◌≢◌, ◌==◌, ◌++◌, [], ◌∷◌, IfOk, IfErr, OnOk, IfSome, None, Some, option_map, map, position, not, if◌then◌else◌};
+ghost use Rattle.std.specs.Prelude.{◌≡◌, ◌==◌, ◌++◌, [], ◌∷◌, IfOk, IfSome, None, Some, Ok, option_map, map, position, not, if◌then◌else◌};
 ghost use Rattle.std.specs.List.{list_any};
-ghost use Rattle.pz_base.specs.Fault.{first_fault};
+ghost use Rattle.pz_base.specs.Fault.{first_fault, unless, and_then};
 ghost use Rattle.pz_base.specs.NameSet.{is_name_of};
 ghost use Rattle.pz_base.specs.declared.fault.Code.TheVariants as code;
 ghost use Rattle.pz_names.specs.Objects.{is_blank};
@@ -138,85 +138,51 @@ pub fn read_definition(alloc: Global, line: &Line) -> Result<Option<Definition>,
     defined_by(alloc, line.number, left.items(), right.items())
 }
 
-/// Adds the name of a definition, or gives the fault at the line of this number: `Duplicate` or `TooLarge`.
+/// Adds the name of a definition, or gives its fault: `Duplicate` or `TooLarge`.
 fn note_name(
     alloc: Global,
     names: &mut NameSet,
-    number: u32,
     definition: &Definition,
-) -> Result<(), SourceFault>
-    ensures refused { IfErr result
-        (λ fault. fault.code ≢ code.Memory → misnames_by names.old (Some definition.now) ≡ Some fault.code) }
-    ensures there { IfErr result (λ fault. fault.code ≢ code.Memory → fault.line ≡ number) }
-    ensures whole { IfErr result (λ fault. fault.code ≡ code.Memory → fault.line ≡ 0) }
-    ensures sound { OnOk result (misnames_by names.old (Some definition.now) ≡ None) }
-    ensures noted { OnOk result (names.new ≡ names.old ++ definition.now.name ∷ []) }
+) -> Result<Option<Code>, AllocError>
+    ensures found { IfOk result (λ fault. fault ≡ misnames_by names.old (Some definition.now)) }
+    ensures noted { IfOk result (λ fault. fault ≡ None → names.new ≡ names.old ++ definition.now.name ∷ []) }
 {
     let name = definition.name.as_str();
     if names.contains(name) {
-        return Err(SourceFault {
-            code: Code::Duplicate,
-            line: number,
-        });
+        return Ok(Some(Code::Duplicate));
     }
     if names.len() >= MOST_NAMES {
-        return Err(SourceFault {
-            code: Code::TooLarge,
-            line: number,
-        });
+        return Ok(Some(Code::TooLarge));
     }
     names.add(alloc, name)?;
-    Ok(())
+    Ok(None)
 }
 
-/// Reads the definition on a line, and adds its name; or gives the line's fault.
-fn new_definition(
-    alloc: Global,
-    names: &mut NameSet,
-    line: &Line,
-) -> Result<Definition, SourceFault>
-    ensures refused { IfErr result
-        (λ fault. fault.code ≢ code.Memory → misnames_by names.old (definition_of line.now) ≡ Some fault.code) }
-    ensures there { IfErr result (λ fault. fault.code ≢ code.Memory → fault.line ≡ line.now.number) }
-    ensures whole { IfErr result (λ fault. fault.code ≡ code.Memory → fault.line ≡ 0) }
-    ensures sound { IfOk result (λ _. misnames_by names.old (definition_of line.now) ≡ None) }
-    ensures definition { IfOk result (λ d. definition_of line.now ≡ Some d) }
-    ensures noted { IfOk result (λ d. names.new ≡ names.old ++ d.name ∷ []) }
-{
-    let Some(definition) = read_definition(alloc, line)? else {
-        return Err(SourceFault {
-            code: Code::BadLegend,
-            line: line.number,
-        });
-    };
-    note_name(alloc, names, line.number, &definition)?;
-    Ok(definition)
-}
-
-/// Reads a line that may be blank, and adds its definition and its name. Rule `checks.legend`.
+/// Reads a line that may be blank, and adds its definition and its name; or gives the line's fault. Rule `checks.legend`.
 fn define(
     alloc: Global,
     names: &mut NameSet,
     definitions: &mut Vec<Definition>,
     line: &Line,
-) -> Result<(), SourceFault>
-    ensures refused { IfErr result
-        (λ fault. fault.code ≢ code.Memory →
-        (if is_blank line.now then None else misnames_by names.old (definition_of line.now)) ≡ Some fault.code) }
-    ensures there { IfErr result (λ fault. fault.code ≢ code.Memory → fault.line ≡ line.now.number) }
-    ensures whole { IfErr result (λ fault. fault.code ≡ code.Memory → fault.line ≡ 0) }
-    ensures sound { OnOk result
-        ((if is_blank line.now then None else misnames_by names.old (definition_of line.now)) ≡ None) }
-    ensures definitions { OnOk result
-        (definitions.new.items ≡ definitions.old.items ++ definitions_of (line.now ∷ [])) }
-    ensures noted { OnOk result (names.new ≡ names.old ++ map (λ d. d.name) (definitions_of (line.now ∷ []))) }
+) -> Result<Option<Code>, AllocError>
+    ensures found { IfOk result
+        (λ fault. fault ≡ (if is_blank line.now then None else misnames_by names.old (definition_of line.now))) }
+    ensures definitions { IfOk result
+        (λ fault. fault ≡ None → definitions.new.items ≡ definitions.old.items ++ definitions_of (line.now ∷ [])) }
+    ensures noted { IfOk result
+        (λ fault. fault ≡ None → names.new ≡ names.old ++ map (λ d. d.name) (definitions_of (line.now ∷ []))) }
 {
     if is_blank(line) {
-        return Ok(());
+        return Ok(None);
     }
-    let definition = new_definition(alloc, names, line)?;
+    let Some(definition) = read_definition(alloc, line)? else {
+        return Ok(Some(Code::BadLegend));
+    };
+    if let Some(code) = note_name(alloc, names, &definition)? {
+        return Ok(Some(code));
+    }
     definitions.push(definition)?;
-    Ok(())
+    Ok(None)
 }
 
 /// Reads the definitions of LEGEND, and adds their names. Or the fault of the first line that is no definition (`BadLegend`), defines a
@@ -225,19 +191,23 @@ pub fn definitions(
     alloc: Global,
     names: &mut NameSet,
     lines: &[Line],
-) -> Result<Vec<Definition>, SourceFault>
-    ensures refused { IfErr result
-        (λ fault. fault.code ≢ code.Memory → first_fault line_number (misnames names.old) [] lines.now ≡ Some fault) }
-    ensures whole { IfErr result (λ fault. fault.code ≡ code.Memory → fault.line ≡ 0) }
-    ensures sound { IfOk result (λ _. first_fault line_number (misnames names.old) [] lines.now ≡ None) }
-    ensures definitions { IfOk result (λ r. r.items ≡ definitions_of lines.now) }
-    ensures noted { IfOk result (λ r. names.new ≡ names.old ++ map (λ d. d.name) r.items) }
+) -> Result<Result<Vec<Definition>, SourceFault>, AllocError>
+    ensures read { IfOk result
+        (λ read. and_then (λ found. Ok found.items) read ≡
+        unless (first_fault line_number (misnames names.old) [] lines.now) (Ok (definitions_of lines.now))) }
+    ensures noted { IfOk result
+        (λ read. IfOk read (λ found. names.new ≡ names.old ++ map (λ d. d.name) found.items)) }
 {
     let mut definitions = Vec::new(alloc);
     for line in lines {
-        define(alloc, names, &mut definitions, line)?;
+        if let Some(code) = define(alloc, names, &mut definitions, line)? {
+            return Ok(Err(SourceFault {
+                code,
+                line: line.number,
+            }));
+        }
     }
-    Ok(definitions)
+    Ok(Ok(definitions))
 }
 
 impl Said {

@@ -1,9 +1,8 @@
 //! OBJECTS: its objects, and their names.
 
-ghost use Rattle.std.specs.Prelude.{◌≡◌, ◌≢◌, ◌≤◌, ◌++◌, ◌∷◌, [], ℕ, suc, length, map, IfOk, IfErr, IfSome, OnOk, Ok, Err, Some, None, false, All};
+ghost use Rattle.std.specs.Prelude.{◌≡◌, ◌≤◌, ◌++◌, ◌∷◌, [], ℕ, suc, length, map, IfOk, Ok, None, false, All};
 ghost use Rattle.std.specs.List.{list_all};
-ghost use Rattle.pz_base.specs.Fault.{first_fault};
-ghost use Rattle.pz_base.specs.declared.fault.Code.TheVariants as code;
+ghost use Rattle.pz_base.specs.Fault.{first_fault, unless, and_then};
 ghost use Rattle.pz_names.specs.Objects.{object_names, is_blank, is_pixel, is_sprite_row, sprite_rows, is_wide, is_sprite, is_whole, behind_paragraph, paragraphs_within, paragraphs_of, name_line_of, has_repeat, paragraph_at, paragraph_fault, fault_below, misnames, objects_of, IsNamed};
 
 use crate::name_line::NameLine;
@@ -184,22 +183,12 @@ fn note_paragraph(
     above: &mut NameSet,
     count: usize,
     paragraph: &Paragraph,
-) -> Result<(), SourceFault>
-    ensures refused { IfErr result
-        (λ fault. fault.code ≢ code.Memory → fault_below above.old count paragraph.now ≡ Some fault.code) }
-    ensures there { IfErr result (λ fault. fault.code ≢ code.Memory → fault.line ≡ paragraph_at paragraph.now) }
-    ensures whole { IfErr result (λ fault. fault.code ≡ code.Memory → fault.line ≡ 0) }
-    ensures sound { OnOk result (fault_below above.old count paragraph.now ≡ None) }
-    ensures noted { OnOk result (above.new ≡ above.old ++ paragraph.now.line.names) }
+) -> Result<Option<Code>, AllocError>
+    ensures found { IfOk result (λ fault. fault ≡ fault_below above.old count paragraph.now) }
+    ensures noted { IfOk result (λ fault. fault ≡ None → above.new ≡ above.old ++ paragraph.now.line.names) }
 {
     let repeats = note_names(alloc, above, paragraph.line.names.items())?;
-    if let Some(code) = paragraph_fault(paragraph, repeats, count, above.len()) {
-        return Err(SourceFault {
-            code,
-            line: paragraph.line.number,
-        });
-    }
-    Ok(())
+    Ok(paragraph_fault(paragraph, repeats, count, above.len()))
 }
 
 /// Adds the names of the paragraphs to an empty set, or gives the first fault of a paragraph.
@@ -207,31 +196,37 @@ fn note_paragraphs(
     alloc: Global,
     names: &mut NameSet,
     paragraphs: &[Paragraph],
-) -> Result<(), SourceFault>
+) -> Result<Option<SourceFault>, AllocError>
     requires { names.old ≡ [] }
-    ensures sound { OnOk result (first_fault paragraph_at misnames [] paragraphs.now ≡ None) }
-    ensures names { OnOk result (names.new ≡ object_names (map name_line_of paragraphs.now)) }
-    ensures refused { IfErr result
-        (λ fault. fault.code ≢ code.Memory → first_fault paragraph_at misnames [] paragraphs.now ≡ Some fault) }
-    ensures whole { IfErr result (λ fault. fault.code ≡ code.Memory → fault.line ≡ 0) }
+    ensures found { IfOk result (λ fault. fault ≡ first_fault paragraph_at misnames [] paragraphs.now) }
+    ensures names { IfOk result
+        (λ fault. fault ≡ None → names.new ≡ object_names (map name_line_of paragraphs.now)) }
 {
     for (count, paragraph) in paragraphs.iter().enumerate() {
-        note_paragraph(alloc, names, count, paragraph)?;
+        if let Some(code) = note_paragraph(alloc, names, count, paragraph)? {
+            return Ok(Some(SourceFault {
+                code,
+                line: paragraph.line.number,
+            }));
+        }
     }
-    Ok(())
+    Ok(None)
 }
 
 /// The names of the paragraphs, or the first fault of a paragraph.
-fn names_of_paragraphs(alloc: Global, paragraphs: &[Paragraph]) -> Result<NameSet, SourceFault>
-    ensures sound { IfOk result (λ _. first_fault paragraph_at misnames [] paragraphs.now ≡ None) }
-    ensures names { IfOk result (λ names. names ≡ object_names (map name_line_of paragraphs.now)) }
-    ensures refused { IfErr result
-        (λ fault. fault.code ≢ code.Memory → first_fault paragraph_at misnames [] paragraphs.now ≡ Some fault) }
-    ensures whole { IfErr result (λ fault. fault.code ≡ code.Memory → fault.line ≡ 0) }
+fn names_of_paragraphs(
+    alloc: Global,
+    paragraphs: &[Paragraph],
+) -> Result<Result<NameSet, SourceFault>, AllocError>
+    ensures { IfOk result
+        (λ names. names ≡ unless (first_fault paragraph_at misnames [] paragraphs.now)
+        (Ok (object_names (map name_line_of paragraphs.now)))) }
 {
     let mut names = NameSet::new(alloc);
-    note_paragraphs(alloc, &mut names, paragraphs)?;
-    Ok(names)
+    if let Some(fault) = note_paragraphs(alloc, &mut names, paragraphs)? {
+        return Ok(Err(fault));
+    }
+    Ok(Ok(names))
 }
 
 fn name_line_of(paragraph: Paragraph) -> NameLine
@@ -248,18 +243,18 @@ fn name_lines(alloc: Global, paragraphs: Vec<Paragraph>) -> Result<Vec<NameLine>
 }
 
 /// The name line of each object, and all names of OBJECTS; or the first fault, at the name line of an object. It is `BadObject` (no colours
-/// directly after the name line, or sprite rows that aren't five of five), `Duplicate` or `TooLarge`. `Memory`, with line 0, may come in
-/// place of either. Rule `objects.names`.
-pub fn read_objects(alloc: Global, lines: &[Line]) -> Result<(Vec<NameLine>, NameSet), SourceFault>
-    ensures read { IfOk result (λ r. objects_of lines.now ≡ Ok r.0.items) }
-    ensures names { IfOk result (λ r. r.1 ≡ object_names r.0.items) }
-    ensures few { IfOk result (λ r. length r.0.items ≤ MOST_OBJECTS) }
-    ensures named { IfOk result (λ r. All IsNamed r.0.items) }
-    ensures refused { IfErr result (λ fault. fault.code ≢ code.Memory → objects_of lines.now ≡ Err fault) }
-    ensures whole { IfErr result (λ fault. fault.code ≡ code.Memory → fault.line ≡ 0) }
+/// directly after the name line, or sprite rows that aren't five of five), `Duplicate` or `TooLarge`. Rule `objects.names`.
+pub fn read_objects(
+    alloc: Global,
+    lines: &[Line],
+) -> Result<Result<(Vec<NameLine>, NameSet), SourceFault>, AllocError>
+    ensures read { IfOk result (λ read. and_then (λ both. Ok both.0.items) read ≡ objects_of lines.now) }
+    ensures names { IfOk result (λ read. IfOk read (λ both. both.1 ≡ object_names both.0.items)) }
+    ensures few { IfOk result (λ read. IfOk read (λ both. length both.0.items ≤ MOST_OBJECTS)) }
+    ensures named { IfOk result (λ read. IfOk read (λ both. All IsNamed both.0.items)) }
 {
     let paragraphs = paragraphs_of(alloc, lines)?;
-    let names = names_of_paragraphs(alloc, paragraphs.as_slice())?;
+    let names = or_fault!(names_of_paragraphs(alloc, paragraphs.as_slice())?);
     let objects = name_lines(alloc, paragraphs)?;
-    Ok((objects, names))
+    Ok(Ok((objects, names)))
 }

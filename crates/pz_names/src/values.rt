@@ -1,8 +1,8 @@
 //! What each name of a source denotes.
 
-ghost use Rattle.std.specs.Prelude.{◌≡◌, ◌≢◌, length, IfOk, IfErr, None, Some, OnOk};
+ghost use Rattle.std.specs.Prelude.{◌≡◌, length, IfOk, Ok};
 ghost use Rattle.std.specs.List.{filter_map};
-ghost use Rattle.pz_base.specs.declared.fault.Code.TheVariants as code;
+ghost use Rattle.pz_base.specs.Fault.{unless, and_then};
 ghost use Rattle.pz_names.specs.Objects.{object_names};
 ghost use Rattle.pz_names.specs.Legend.{definitions_of};
 ghost use Rattle.pz_names.specs.Denotation.{values_of};
@@ -40,19 +40,17 @@ fn denoted(
     objects: &[NameLine],
     names: &NameSet,
     definitions: &[Definition],
-) -> Result<Vec<Denotation>, SourceFault>
+) -> Result<Result<Vec<Denotation>, SourceFault>, AllocError>
     requires first { first ≡ length (object_names objects.now) }
     requires named { names.now ≡ names_of_source objects.now definitions.now }
-    ensures sound { IfOk result (λ _. fault_of_definitions objects.now definitions.now ≡ None) }
     ensures denoted { IfOk result
-        (λ values. values.items ≡ values_of (meanings_of_source objects.now definitions.now)) }
-    ensures all { IfOk result (λ values. length values.items ≡ length names.now) }
-    ensures refused { IfErr result
-        (λ fault. fault.code ≢ code.Memory → fault_of_definitions objects.now definitions.now ≡ Some fault) }
-    ensures whole { IfErr result (λ fault. fault.code ≡ code.Memory → fault.line ≡ 0) }
+        (λ read. and_then (λ values. Ok values.items) read ≡
+        unless (fault_of_definitions objects.now definitions.now)
+        (Ok (values_of (meanings_of_source objects.now definitions.now)))) }
+    ensures all { IfOk result (λ read. IfOk read (λ values. length values.items ≡ length names.now)) }
 {
     if let Some(fault) = unknown_part(names, definitions) {
-        return Err(fault);
+        return Ok(Err(fault));
     }
     // (brings the proof that the names are few)
     let _count = names.len();
@@ -60,36 +58,34 @@ fn denoted(
     let meanings = meanings.as_slice();
     let known = denotations(alloc, meanings)?;
     if let Some(fault) = circle(alloc, first, meanings, known.as_slice(), definitions)? {
-        return Err(fault);
+        return Ok(Err(fault));
     }
     let values = known_values(alloc, known)?;
     if let Some(fault) = mixture(names, values.as_slice(), definitions) {
-        return Err(fault);
+        return Ok(Err(fault));
     }
-    Ok(values)
+    Ok(Ok(values))
 }
 
 /// What each name of a source denotes, or the first fault of its legend. Line by line it is `BadLegend` (the form), `Duplicate` or
 /// `TooLarge`. Then it is `Unknown`, then `BadLegend` (a name that reaches itself), then `Mixed`. `names` has the names of OBJECTS, and
-/// gets those of LEGEND after them. `Memory`, with line 0, may come in place of any.
+/// gets those of LEGEND after them.
 pub fn read_legend(
     alloc: Global,
     objects: &[NameLine],
     names: &mut NameSet,
     lines: &[Line],
-) -> Result<Vec<Denotation>, SourceFault>
+) -> Result<Result<Vec<Denotation>, SourceFault>, AllocError>
     requires { names.old ≡ object_names objects.now }
-    ensures sound { IfOk result (λ _. fault_of_legend objects.now lines.now ≡ None) }
-    ensures named { OnOk result (names.new ≡ names_of_source objects.now (definitions_of lines.now)) }
     ensures denoted { IfOk result
-        (λ values. values.items ≡ values_of (meanings_of_source objects.now (definitions_of lines.now))) }
-    ensures all { IfOk result (λ values. length values.items ≡ length names.new) }
-    ensures refused { IfErr result
-        (λ fault. fault.code ≢ code.Memory → fault_of_legend objects.now lines.now ≡ Some fault) }
-    ensures whole { IfErr result (λ fault. fault.code ≡ code.Memory → fault.line ≡ 0) }
+        (λ read. and_then (λ values. Ok values.items) read ≡
+        unless (fault_of_legend objects.now lines.now)
+        (Ok (values_of (meanings_of_source objects.now (definitions_of lines.now))))) }
+    ensures named { IfOk result
+        (λ read. IfOk read (λ _. names.new ≡ names_of_source objects.now (definitions_of lines.now))) }
+    ensures all { IfOk result (λ read. IfOk read (λ values. length values.items ≡ length names.new)) }
 {
     let first = names.len();
-    let definitions = definitions(alloc, names, lines)?;
-    let values = denoted(alloc, first, objects, names, definitions.as_slice())?;
-    Ok(values)
+    let definitions = or_fault!(definitions(alloc, names, lines)?);
+    denoted(alloc, first, objects, names, definitions.as_slice())
 }

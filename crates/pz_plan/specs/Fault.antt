@@ -5,7 +5,6 @@ use Rattle.pz_plan.specs.declared.fault.RuleFault.{RuleFault}
 use Rattle.pz_plan.specs.declared.fault.RuleFault.TheVariants as fault
 
 abbrev pub code_of : RuleFault → Code
-code_of fault.Memory = code.Memory
 code_of fault.BadRule = code.BadRule
 code_of fault.OutsideProfile = code.OutsideProfile
 code_of fault.TooLarge = code.TooLarge

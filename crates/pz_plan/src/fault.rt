@@ -2,15 +2,12 @@
 
 ghost use Rattle.std.specs.Prelude.{◌≡◌};
 ghost use Rattle.pz_plan.specs.Fault.{code_of};
-ghost use Rattle.pz_plan.specs.declared.fault.RuleFault.TheVariants.{Memory};
 
 use pz_base::fault::Code;
-use std::alloc::{AllocError, AllocFailed};
 
 /// What is wrong with a rule line.
 #[derive(Clone, Copy)]
 pub enum RuleFault {
-    Memory,
     BadRule,
     OutsideProfile,
     TooLarge,
@@ -29,7 +26,6 @@ impl RuleFault {
         ensures { result ≡ code_of self }
     {
         match self {
-            RuleFault::Memory => Code::Memory,
             RuleFault::BadRule => Code::BadRule,
             RuleFault::OutsideProfile => Code::OutsideProfile,
             RuleFault::TooLarge => Code::TooLarge,
@@ -41,21 +37,5 @@ impl RuleFault {
             RuleFault::TooManyRules => Code::TooManyRules,
             RuleFault::RightClash => Code::RightClash,
         }
-    }
-}
-
-impl From<AllocError> for RuleFault {
-    ghost from_gives = { λ _ fault. fault ≡ Memory };
-
-    fn from(_: AllocError) -> RuleFault {
-        RuleFault::Memory
-    }
-}
-
-impl<T: Drop> From<AllocFailed<T>> for RuleFault {
-    ghost from_gives = { λ _ fault. fault ≡ Memory };
-
-    fn from(_: AllocFailed<T>) -> RuleFault {
-        RuleFault::Memory
     }
 }

@@ -1,8 +1,7 @@
 //! The plan of a rule, or its first fault.
 #![tactic(auto, unfolding(crate::specs::Planning::planned, crate::specs::Planning::with_right, crate::specs::Planning::plan_of))]
 
-ghost use Rattle.std.specs.Prelude.{◌≡◌, ◌≢◌, true, Ok, Err, IfOk, IfErr};
-ghost use Rattle.pz_plan.specs.declared.fault.RuleFault.TheVariants.{Memory};
+ghost use Rattle.std.specs.Prelude.{◌≡◌, true, IfOk};
 ghost use Rattle.pz_plan.specs.Planning.{planned, plan_of};
 ghost use Rattle.pz_plan.specs.Shape.{AreShaped};
 ghost use Rattle.pz_grammar.specs.Written.{is_whole};
@@ -18,7 +17,7 @@ use crate::spelling::{Side, rows_spelled_out};
 use pz_base::listed::Listed;
 use pz_game::denotation::Denotation;
 use pz_grammar::rule::Rule;
-use std::alloc::Global;
+use std::alloc::{AllocError, Global};
 
 /// The plan of a rule whose names are spelled out.
 fn planned(
@@ -26,21 +25,20 @@ fn planned(
     rule: &Rule,
     left: &[PlanRow<Mention>],
     right: &[PlanRow<Mention>],
-) -> Result<Plan, RuleFault>
-    ensures plan { IfOk result (λ plan. planned rule.now left.now right.now ≡ Ok plan) }
-    ensures fault { IfErr result (λ fault. fault ≢ Memory → planned rule.now left.now right.now ≡ Err fault) }
+) -> Result<Result<Plan, RuleFault>, AllocError>
+    ensures { IfOk result (λ plan. plan ≡ planned rule.now left.now right.now) }
 {
     let mut choices = Vec::new(alloc);
     let terms = number_rows(alloc, left, &mut choices)?;
     match decided_rows(alloc, &choices, right)? {
-        Some(decided) => Ok(Plan {
+        Some(decided) => Ok(Ok(Plan {
             directions: directions_of(alloc, rule)?,
             choices: Listed::new(choices),
             left: terms,
             right: decided,
             commands: commands_given(rule.commands.items()),
-        }),
-        None => Err(RuleFault::AmbiguousRight),
+        })),
+        None => Ok(Err(RuleFault::AmbiguousRight)),
     }
 }
 
@@ -50,12 +48,11 @@ fn read_plan(
     table: &[Denotation],
     is_late: bool,
     rule: &Rule,
-) -> Result<Plan, RuleFault>
-    ensures plan { IfOk result (λ plan. plan_of table.now is_late rule.now ≡ Ok plan) }
-    ensures fault { IfErr result (λ fault. fault ≢ Memory → plan_of table.now is_late rule.now ≡ Err fault) }
+) -> Result<Result<Plan, RuleFault>, AllocError>
+    ensures { IfOk result (λ plan. plan ≡ plan_of table.now is_late rule.now) }
 {
     if let Some(fault) = fault_of(table, is_late, rule) {
-        return Err(fault);
+        return Ok(Err(fault));
     }
     let left = rows_spelled_out(alloc, Side::Left, table, rule.left.items())?;
     let right = rows_spelled_out(alloc, Side::Right, table, rule.right.items())?;
@@ -69,11 +66,10 @@ pub fn plan_of(
     table: &[Denotation],
     is_late: bool,
     rule: &Rule,
-) -> Result<Plan, RuleFault>
+) -> Result<Result<Plan, RuleFault>, AllocError>
     requires whole { is_whole rule.now ≡ true }
-    ensures plan { IfOk result (λ plan. plan_of table.now is_late rule.now ≡ Ok plan) }
-    ensures fault { IfErr result (λ fault. fault ≢ Memory → plan_of table.now is_late rule.now ≡ Err fault) }
-    ensures shaped { IfOk result (λ plan. AreShaped plan.left × AreShaped plan.right) }
+    ensures plan { IfOk result (λ plan. plan ≡ plan_of table.now is_late rule.now) }
+    ensures shaped { IfOk result (λ plan. IfOk plan (λ plan. AreShaped plan.left × AreShaped plan.right)) }
 {
     read_plan(alloc, table, is_late, rule)
 }

@@ -288,17 +288,17 @@ some-object n values (Some k) h some =
     ] in
     by (slice_get values k) (each-get (denotes n) values k h) some
 
-pub program-owned : (game : GameParts) (program : Program) → IsGame game → program_of game ≡ Ok program → IsProgramOf game.layers program
-program-owned game program is e =
+program-owned : (layers : List ℕ) (r : Result Program SourceFault) → ProgramsOf layers r → IfOk r (IsProgramOf layers)
+program-owned layers (Ok program) a =
+    record {
+      early = owned (block_is_of layers) (IsBlockOf layers) (block-owned layers) program.early a.0;
+      late = owned (block_is_of layers) (IsBlockOf layers) (block-owned layers) program.late a.1;
+    }
+program-owned layers (Err fault) a = tt
+
+-- the program of a game is of its objects
+pub program_of-owned : (game : GameParts) → IsGame game → IfOk (program_of game) (IsProgramOf game.layers)
+program_of-owned game is =
     let table = table-has game is in
     let has : HasTable game.layers game.values = record { some = some-object (length game.layers) game.values (number_in game.names (codes "player")) table is.player; entries = table } in
-    let a : ProgramsOf game.layers (Ok program) = subst (ProgramsOf game.layers) e (program_of-is_of game has) in
-    record {
-      early = owned (block_is_of game.layers) (IsBlockOf game.layers) (block-owned game.layers) program.early a.0;
-      late = owned (block_is_of game.layers) (IsBlockOf game.layers) (block-owned game.layers) program.late a.1;
-    }
-
--- and so is what stands for it where memory may fail
-pub result-owned : (game : GameParts) (r : Result Program SourceFault) → IsGame game → IfOk r (λ program. program_of game ≡ Ok program) → IfOk r (IsProgramOf game.layers)
-result-owned game (Ok program) is e = program-owned game program is e
-result-owned game (Err fault) is e = tt
+    program-owned game.layers (program_of game) (program_of-is_of game has)

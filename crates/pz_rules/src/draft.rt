@@ -1,8 +1,8 @@
 //! A program while its lines are read.
 #![tactic(auto, unfolding(crate::specs::Drafts::placed, crate::specs::Drafts::settled, crate::specs::Drafts::opened, crate::specs::Drafts::closed, crate::specs::Drafts::is_misplaced, crate::specs::Drafts::lateness, crate::specs::Drafts::before, crate::specs::Drafts::extended, crate::specs::Drafts::joins, crate::specs::Drafts::rule_added, crate::specs::Drafts::loop_added, crate::specs::Drafts::line_added))]
 
-ghost use Rattle.std.specs.Prelude.{◌≡◌, ◌≢◌, ◌++◌, true, None, Ok, Err, IfOk, IfErr, IfSome, OnOk, if◌then◌else◌};
-ghost use Rattle.pz_plan.specs.declared.fault.RuleFault.TheVariants.{Memory};
+ghost use Rattle.std.specs.Prelude.{◌≡◌, ◌++◌, true, None, IfOk, IfSome, OnOk, if◌then◌else◌};
+ghost use Rattle.std.specs.Result.{result_map_both};
 ghost use Rattle.pz_rules.specs.Drafts.{placed, settled, opened, loop_of, with_loop, closed, is_misplaced, lateness, with_instances, before, extended, rule_added, loop_added, line_added};
 ghost use Rattle.pz_grammar.specs.Parsed.{parsed};
 ghost use Rattle.pz_grammar.specs.Words.{tokens_of};
@@ -102,9 +102,8 @@ pub fn settled(mut draft: Draft) -> Result<Draft, AllocError>
 }
 
 /// Begins a loop.
-fn open(alloc: Global, draft: &mut Draft) -> Result<(), RuleFault>
-    ensures draft { OnOk result (draft.new ≡ opened draft.old) }
-    ensures fault { IfErr result (λ fault. fault ≡ Memory) }
+fn open(alloc: Global, draft: &mut Draft) -> Result<(), AllocError>
+    ensures { OnOk result (draft.new ≡ opened draft.old) }
 {
     settle(draft)?;
     draft.repeated = Some(no_sides(alloc));
@@ -132,14 +131,13 @@ fn add_loop(done: &mut Sides<Block>, groups: Sides<Group>) -> Result<(), AllocEr
 }
 
 /// Ends the open loop.
-fn close(draft: &mut Draft) -> Result<(), RuleFault>
-    ensures draft { OnOk result (draft.new ≡ closed draft.old) }
-    ensures fault { IfErr result (λ fault. fault ≡ Memory) }
+fn close(draft: &mut Draft) -> Result<(), AllocError>
+    ensures { OnOk result (draft.new ≡ closed draft.old) }
 {
     settle(draft)?;
     match draft.repeated.take() {
         None => Ok(()),
-        Some(groups) => Ok(add_loop(&mut draft.done, groups)?),
+        Some(groups) => add_loop(&mut draft.done, groups),
     }
 }
 
@@ -197,9 +195,8 @@ fn settle_before(draft: &mut Draft, rule: &Rule) -> Result<(), AllocError>
 }
 
 /// Adds the instances of a rule.
-fn extend(draft: &mut Draft, rule: &Rule, more: Expansion) -> Result<(), RuleFault>
-    ensures draft { OnOk result (draft.new ≡ extended draft.old rule.now more) }
-    ensures fault { IfErr result (λ fault. fault ≡ Memory) }
+fn extend(draft: &mut Draft, rule: &Rule, more: Expansion) -> Result<(), AllocError>
+    ensures { OnOk result (draft.new ≡ extended draft.old rule.now more) }
 {
     let Expansion { instances, pairs } = more;
     settle_before(draft, rule)?;
@@ -215,15 +212,15 @@ fn add_rule(
     draft: &mut Draft,
     below: usize,
     rule: &Rule,
-) -> Result<(), RuleFault>
+) -> Result<Result<(), RuleFault>, AllocError>
     requires whole { is_whole rule.now ≡ true }
-    ensures draft { OnOk result (rule_added game.now draft.old below rule.now ≡ Ok draft.new) }
-    ensures fault { IfErr result (λ fault. fault ≢ Memory → rule_added game.now draft.old below rule.now ≡ Err fault) }
+    ensures { IfOk result (λ added. result_map_both (λ _. draft.new) (λ fault. fault) added ≡
+        rule_added game.now draft.old below rule.now) }
 {
     if is_misplaced(draft, rule) {
-        return Err(RuleFault::BadRule);
+        return Ok(Err(RuleFault::BadRule));
     }
-    let more = expanded(
+    let more = or_fault!(expanded(
         patterns,
         game.values(),
         game.layers(),
@@ -231,8 +228,9 @@ fn add_rule(
         draft.pairs,
         lateness(draft, rule),
         rule,
-    )?;
-    extend(draft, rule, more)
+    )?);
+    extend(draft, rule, more)?;
+    Ok(Ok(()))
 }
 
 /// Adds a loop line, or names its fault. Rule `rules.loop-pairs`.
@@ -241,18 +239,18 @@ fn add_loop_line(
     draft: &mut Draft,
     below: &[RuleLine],
     word: LoopWord,
-) -> Result<(), RuleFault>
-    ensures draft { OnOk result (loop_added draft.old below.now word ≡ Ok draft.new) }
-    ensures fault { IfErr result (λ fault. fault ≢ Memory → loop_added draft.old below.now word ≡ Err fault) }
+) -> Result<Result<(), RuleFault>, AllocError>
+    ensures { IfOk result (λ added. result_map_both (λ _. draft.new) (λ fault. fault) added ≡
+        loop_added draft.old below.now word) }
 {
     match word {
         LoopWord::Start => match next_loop(below) {
-            Some(LoopWord::End) => open(alloc, draft),
-            _ => Err(RuleFault::BadRule),
+            Some(LoopWord::End) => Ok(Ok(open(alloc, draft)?)),
+            _ => Ok(Err(RuleFault::BadRule)),
         },
         LoopWord::End => match &draft.repeated {
-            Some(_) => close(draft),
-            None => Err(RuleFault::BadRule),
+            Some(_) => Ok(Ok(close(draft)?)),
+            None => Ok(Err(RuleFault::BadRule)),
         },
     }
 }
@@ -273,10 +271,9 @@ fn add_line(
     draft: &mut Draft,
     below: &[RuleLine],
     words: &[Name],
-) -> Result<(), RuleFault>
-    ensures draft { OnOk result (line_added game.now draft.old below.now words.now ≡ Ok draft.new) }
-    ensures fault { IfErr result
-        (λ fault. fault ≢ Memory → line_added game.now draft.old below.now words.now ≡ Err fault) }
+) -> Result<Result<(), RuleFault>, AllocError>
+    ensures { IfOk result (λ added. result_map_both (λ _. draft.new) (λ fault. fault) added ≡
+        line_added game.now draft.old below.now words.now) }
 {
     let alloc = patterns.alloc();
     if let Some(word) = loop_word(words) {
@@ -284,7 +281,7 @@ fn add_line(
     }
     match rule_of(alloc, game, words)? {
         Some(rule) => add_rule(patterns, game, draft, below.len(), &rule),
-        None => Err(RuleFault::BadRule),
+        None => Ok(Err(RuleFault::BadRule)),
     }
 }
 
@@ -295,10 +292,9 @@ pub fn line_added(
     mut draft: Draft,
     below: &[RuleLine],
     words: &[Name],
-) -> Result<Draft, RuleFault>
-    ensures draft { IfOk result (λ out. line_added game.now draft below.now words.now ≡ Ok out) }
-    ensures fault { IfErr result (λ fault. fault ≢ Memory → line_added game.now draft below.now words.now ≡ Err fault) }
+) -> Result<Result<Draft, RuleFault>, AllocError>
+    ensures { IfOk result (λ out. out ≡ line_added game.now draft below.now words.now) }
 {
-    add_line(patterns, game, &mut draft, below, words)?;
-    Ok(draft)
+    or_fault!(add_line(patterns, game, &mut draft, below, words)?);
+    Ok(Ok(draft))
 }

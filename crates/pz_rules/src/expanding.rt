@@ -3,7 +3,6 @@
 
 ghost use Rattle.std.specs.Prelude.{◌≡◌, ◌≢◌, Ok, Err, IfOk, IfErr, map, Contains};
 ghost use Rattle.pz_base.specs.declared.fault.Code.TheVariants.{Memory};
-ghost use Rattle.pz_plan.specs.declared.fault.RuleFault.TheVariants as rule_faults;
 ghost use Rattle.pz_rules.specs.Drafts.{nothing, finished, program_of};
 ghost use Rattle.pz_plan.specs.Fault.{code_of};
 ghost use Rattle.pz_program.specs.Instance.{IsProgramOf};
@@ -11,27 +10,19 @@ ghost use Rattle.pz_program.specs.Instance.{IsProgramOf};
 use crate::draft::{Draft, line_added, settled};
 use crate::patterns::Patterns;
 use crate::sides::{Sides, no_sides};
-use pz_base::fault::{Code, SourceFault};
+use pz_base::fault::SourceFault;
 use pz_game::game::Game;
 use pz_plan::fault::RuleFault;
 use pz_program::instance::Program;
 use std::alloc::{AllocError, Global};
 
-/// The refusal of a source for a fault of a rule line. Want of memory belongs to no line.
+/// The refusal of a source for a fault of a rule line.
 fn refusal(fault: RuleFault, line: u32) -> SourceFault
-    ensures named { result.code ≢ Memory → fault ≢ rule_faults.Memory }
-    ensures at { result.code ≢ Memory → result ≡ record { code = code_of fault; line = line } }
-    ensures whole { result.code ≡ Memory → result.line ≡ 0 }
+    ensures { result ≡ record { code = code_of fault; line = line } }
 {
-    match fault {
-        RuleFault::Memory => SourceFault {
-            code: Code::Memory,
-            line: 0,
-        },
-        other => SourceFault {
-            code: other.code(),
-            line,
-        },
+    SourceFault {
+        code: fault.code(),
+        line,
     }
 }
 
@@ -59,22 +50,20 @@ fn finished(draft: Draft) -> Result<Program, AllocError>
 }
 
 /// The program of the lines of a game, or the first fault of one.
-fn read_program(alloc: Global, game: &Game) -> Result<Program, SourceFault>
-    ensures program { IfOk result (λ program. program_of game.now ≡ Ok program) }
-    ensures refused { IfErr result (λ fault. fault.code ≢ Memory → program_of game.now ≡ Err fault) }
-    ensures whole { IfErr result (λ fault. fault.code ≡ Memory → fault.line ≡ 0) }
+fn read_program(alloc: Global, game: &Game) -> Result<Result<Program, SourceFault>, AllocError>
+    ensures { IfOk result (λ program. program ≡ program_of game.now) }
 {
     let mut patterns = Patterns::new(alloc)?;
     let mut draft = nothing(alloc);
     let mut rest = game.rules();
     while let Some((line, below)) = rest.split_first() {
-        draft = match line_added(&mut patterns, game, draft, below, line.words.items()) {
+        draft = match line_added(&mut patterns, game, draft, below, line.words.items())? {
             Ok(next) => next,
-            Err(fault) => return Err(refusal(fault, line.number)),
+            Err(fault) => return Ok(Err(refusal(fault, line.number))),
         };
         rest = below;
     }
-    Ok(finished(draft)?)
+    Ok(Ok(finished(draft)?))
 }
 
 /// The program of a game, or its first fault: the first fault of the first rule line that has one. `Memory`, with line 0, may
@@ -89,5 +78,5 @@ pub fn expand(alloc: Global, game: &Game) -> Result<Program, SourceFault>
 {
     // (brings the proof the law of games)
     let _layers = game.layers();
-    read_program(alloc, game)
+    read_program(alloc, game)?
 }

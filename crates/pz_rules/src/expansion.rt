@@ -1,9 +1,8 @@
 //! The instances of a rule, or its first fault.
 #![tactic(auto, unfolding(crate::specs::Expansion::unless_clash, crate::specs::Expansion::expansion_within, crate::specs::Expansion::expanded))]
 
-ghost use Rattle.std.specs.Prelude.{◌≡◌, ◌≢◌, ◌≤◌, ◌+◌, true, Ok, Err, IfOk, IfErr};
+ghost use Rattle.std.specs.Prelude.{◌≡◌, ◌≤◌, ◌+◌, true, IfOk};
 ghost use Rattle.std.specs.Option.{SomeIff};
-ghost use Rattle.pz_plan.specs.declared.fault.RuleFault.TheVariants.{Memory};
 ghost use Rattle.pz_rules.specs.Counting.{pair_count};
 ghost use Rattle.pz_rules.specs.Expansion.{unless_clash, expansion_within, expanded};
 ghost use Rattle.pz_plan.specs.Shape.{AreShaped};
@@ -20,6 +19,7 @@ use pz_plan::fault::RuleFault;
 use pz_plan::plan::Plan;
 use pz_plan::planning::plan_of;
 use pz_program::instance::Instance;
+use std::alloc::AllocError;
 
 /// How many pairs of a direction and a list of picks all rules of a game may have together. Rule `limits.pairs`.
 pub const PAIRS: u64 = 65_536;
@@ -66,20 +66,17 @@ fn expansion_within(
     below: usize,
     pairs: u64,
     plan: &Plan,
-) -> Result<Expansion, RuleFault>
+) -> Result<Result<Expansion, RuleFault>, AllocError>
     requires left { AreShaped plan.now.left }
     requires right { AreShaped plan.now.right }
-    ensures more { IfOk result
-        (λ more. expansion_within table.now layers.now below (pairs + pair_count table.now plan.now) plan.now ≡
-        Ok more) }
-    ensures fault { IfErr result
-        (λ fault. fault ≢ Memory →
-        expansion_within table.now layers.now below (pairs + pair_count table.now plan.now) plan.now ≡ Err fault) }
+    ensures { IfOk result (λ more. more ≡
+        expansion_within table.now layers.now below (pairs + pair_count table.now plan.now) plan.now) }
 {
     let Some(total) = total_within(table, pairs, plan) else {
-        return Err(RuleFault::TooManyRules);
+        return Ok(Err(RuleFault::TooManyRules));
     };
-    unless_clash(total, instances_of(patterns, table, layers, below, plan)?)
+    let instances = instances_of(patterns, table, layers, below, plan)?;
+    Ok(unless_clash(total, instances))
 }
 
 /// The instances of a rule, late or not, or its first fault. So many lines of RULES stand below it, and the rules above it have so many pairs.
@@ -91,12 +88,10 @@ pub fn expanded(
     pairs: u64,
     is_late: bool,
     rule: &Rule,
-) -> Result<Expansion, RuleFault>
+) -> Result<Result<Expansion, RuleFault>, AllocError>
     requires whole { is_whole rule.now ≡ true }
-    ensures more { IfOk result (λ more. expanded table.now layers.now below pairs is_late rule.now ≡ Ok more) }
-    ensures fault { IfErr result
-        (λ fault. fault ≢ Memory → expanded table.now layers.now below pairs is_late rule.now ≡ Err fault) }
+    ensures { IfOk result (λ more. more ≡ expanded table.now layers.now below pairs is_late rule.now) }
 {
-    let plan = plan_of(patterns.alloc(), table, is_late, rule)?;
+    let plan = or_fault!(plan_of(patterns.alloc(), table, is_late, rule)?);
     expansion_within(patterns, table, layers, below, pairs, &plan)
 }

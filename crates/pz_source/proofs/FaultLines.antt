@@ -1,39 +1,47 @@
--- The fault of a source names a line of its text, or 0.
-use Rattle.std.proofs.Common.{◌≡◌, ◌≢◌, ◌⊎◌, inl, inr, ℕ, ◌≤◌, zero, suc, Bool, true, false, not, ◌&&◌, ◌==◌, map, filter, List, [], ◌∷◌, ◌++◌, length, drop, take, Option, Some, None, IfSome, Result, Ok, Err, refl, subst, arith}
-use Rattle.std.specs.Prelude.{option_and_then, option_map, if◌then◌else◌, nat_lt, nat_le, IfOk, IfErr, codes}
+-- The fault of a source is no want of memory, and names a line of its text, or 0.
+use Rattle.std.proofs.Common.{◌≡◌, ◌≢◌, ◌+◌, sym, ◌||◌, ℕ, ◌≤◌, zero, suc, Bool, true, false, not, ◌&&◌, ◌==◌, map, filter, List, [], ◌∷◌, ◌++◌, length, drop, take, Option, Some, None, IfSome, Result, Ok, Err, refl, subst, arith}
+use Rattle.std.specs.Prelude.{option_and_then, option_map, if◌then◌else◌, nat_lt, nat_le, IfOk, IfErr, codes, is_some}
 use Rattle.std.specs.Option.{option_map_or}
 use Rattle.std.specs.List.{All, list_any, flat_map, enumerate_from}
-use Rattle.std.specs.Str.{chars}
+use Rattle.std.specs.Str.{chars, bytes_eq}
 use Rattle.std.proofs.lemmas.List.Elements.{All-nil, All-cons, All-head, All-tail, All-append, All-push, All-drop, All-map, All-filter}
-use Rattle.pz_text.specs.Check.{number_of, too_long, misplaces, misplaced_heading, has_section, missing_section, lines_of}
+use Rattle.pz_text.specs.Check.{number_of, too_long, misplaces, reaches_place, misplaced_heading, has_section, missing_section, lines_of}
 use Rattle.pz_text.specs.Cutting.{cut}
 use Rattle.pz_base.specs.Fault.{first_fault, or_else, unless, and_then}
-use Rattle.pz_text.specs.Section.{lines_in}
+use Rattle.pz_text.specs.Section.{lines_in, place_of}
+use Rattle.pz_base.specs.NameSet.{is_name_of, number_in}
 use Rattle.pz_text.specs.Words.{names_of}
 use Rattle.pz_text.specs.declared.line.Line.{Line}
 use Rattle.pz_text.specs.declared.line.Section.TheVariants as section
 use Rattle.pz_base.specs.declared.fault.Code.{Code}
 use Rattle.pz_base.specs.declared.fault.Code.TheVariants as code
 use Rattle.pz_base.specs.declared.fault.SourceFault.{SourceFault}
-use Rattle.pz_names.specs.Cycles.{reaches_itself}
+use Rattle.pz_names.specs.Cycles.{reaches_itself, is_on_cycle}
+use Rattle.pz_names.specs.declared.meaning.Meaning.{Meaning}
+use Rattle.pz_names.specs.declared.objects.Paragraph.{Paragraph}
+use Rattle.pz_names.specs.declared.objects.TheConstants.{MOST_NAMES}
+use Rattle.pz_game.specs.declared.limits.TheConstants.{MOST_OBJECTS, MOST_LAYERS}
+use Rattle.pz_game.specs.declared.denotation.Kind.{Kind}
+use Rattle.pz_game.specs.declared.denotation.Kind.TheVariants.{Aggregate}
+use Rattle.pz_game.specs.declared.win_line.Quantifier.{Quantifier}
 use Rattle.pz_names.specs.Denotation.{values_of}
 use Rattle.pz_game.specs.declared.game.GameParts.{GameParts}
-use Rattle.pz_names.specs.Kinds.{kind_in, mixes}
+use Rattle.pz_names.specs.Kinds.{kind_in, mixes, is_mixed, is_of_kind}
 use Rattle.pz_source.specs.Layers.{layer_names, layer_lines, name_line_at, layer_of, holds, lies_nowhere, layers_of, fault_of_layers}
 use Rattle.pz_source.specs.Layers as layers
-use Rattle.pz_names.specs.Legend.{sides, said_by, defined_by, definition_of, definitions_of, line_number, line_at, speaks_of_unknown}
+use Rattle.pz_names.specs.Legend.{sides, said_by, defined_by, definition_of, definitions_of, defined_names, misnames_by, is_full, names_in, line_number, line_at, speaks_of_unknown}
 use Rattle.pz_names.specs.Legend as legend
 use Rattle.pz_base.specs.Each.{each_ok}
 use Rattle.pz_game.specs.Level.{is_playable}
 use Rattle.pz_source.specs.Levels.{is_message, closed, entries_of, glyph_of, glyphs_of, filled, row_of, rows_of, is_too_large, entry_of, read_entries, levels_of}
 use Rattle.pz_names.specs.Meaning.{meanings_of}
 use Rattle.pz_source.specs.Missing.{names_single, fault_of_needs}
-use Rattle.pz_names.specs.Objects.{object_names, is_blank, sprite_rows, paragraph_of, behind_paragraph, paragraphs_within, paragraphs_of, name_line_of, paragraph_at, misnames, objects_of}
-use Rattle.pz_source.specs.Profile.{leaves_profile, outside_profile, options_of}
+use Rattle.pz_names.specs.Objects.{object_names, is_blank, sprite_rows, paragraph_of, behind_paragraph, paragraphs_within, paragraphs_of, name_line_of, has_repeat, paragraph_at, misnames, objects_of}
+use Rattle.pz_source.specs.Profile.{leaves_profile, is_outside, outside_profile, options_of}
 use Rattle.pz_source.specs.Reading.{line_count, first_names, game_over, game_of_objects, game_of_lines, source_of}
 use Rattle.pz_source.specs.Rules.{rule_lines}
 use Rattle.pz_names.specs.Values.{names_of_source, meanings_of_source, fault_of_definitions, fault_of_legend}
-use Rattle.pz_source.specs.Wins.{at_line, win_of, win_at, wins_of}
+use Rattle.pz_source.specs.Wins.{at_line, win_about, quantifier_of, win_of, win_at, wins_of}
 use Rattle.pz_game.specs.declared.denotation.Denotation.{Denotation}
 use Rattle.pz_names.specs.declared.legend.Definition.{Definition}
 use Rattle.pz_names.specs.declared.legend.Said.{Said}
@@ -43,7 +51,91 @@ use Rattle.pz_game.specs.declared.level.LevelEntry.TheVariants.{Message, Level}
 use Rattle.pz_names.specs.declared.name_line.NameLine.{NameLine}
 use Rattle.pz_game.specs.declared.win_line.WinLine.{WinLine}
 use Rattle.pz_base.proofs.EachLemmas.{each-fault, All-numbered}
-use Rattle.pz_source.proofs.LineLemmas.{IsWithin, Names, All-filter_map, lines_in-all, first_fault-within, or_else-within, unless-within, unless-ok, any-ok, and_then-within, cut-within, lines-all}
+use Rattle.pz_source.proofs.LineLemmas.{IsWithin, IsOfText, Names, All-filter_map, lines_in-all, first_fault-within, or_else-within, unless-within, unless-ok, any-ok, and_then-within, cut-within, lines-all}
+
+-- what the checks name of their things is no want of memory
+
+paragraph-sound : (above : List Paragraph) (paragraph : Paragraph) → IfSome (misnames above paragraph) IsOfText
+paragraph-sound above paragraph =
+    let names = object_names (map name_line_of above) in
+    by paragraph.is_whole (has_repeat names paragraph.line.names) (nat_le MOST_OBJECTS (length above) || nat_lt MOST_NAMES (length (names ++ paragraph.line.names)))
+  where
+    by : (whole repeats many : Bool) → IfSome (if not whole then Some code.BadObject else (if repeats then Some code.Duplicate else (if many then Some code.TooLarge else None))) IsOfText
+    by false repeats many = λ e. cc
+    by true true many = λ e. cc
+    by true false true = λ e. cc
+    by true false false = tt
+
+line-sound : (objects : List (List ℕ)) (above : List Line) (line : Line) → IfSome (legend.misnames objects above line) IsOfText
+line-sound objects above line = by (is_blank line) (definition_of line)
+  where
+    there : List (List ℕ)
+    there = objects ++ defined_names above
+
+    named : (known full : Bool) → IfSome (if known then Some code.Duplicate else (if full then Some code.TooLarge else None)) IsOfText
+    named true full = λ e. cc
+    named false true = λ e. cc
+    named false false = tt
+
+    by : (blank : Bool) (definition : Option Definition) → IfSome (if blank then None else misnames_by there definition) IsOfText
+    by true definition = tt
+    by false None = λ e. cc
+    by false (Some definition) = named (is_name_of there definition.name) (is_full there)
+
+-- one code, if at all
+one-sound : (c : Code) → IsOfText c → (b : Bool) → IfSome (if b then Some c else None) IsOfText
+one-sound c sound true = sound
+one-sound c sound false = tt
+
+unknown-sound : (names : List (List ℕ)) (above : List Definition) (definition : Definition) → IfSome (speaks_of_unknown names above definition) IsOfText
+unknown-sound names above definition = one-sound code.Unknown (λ e. cc) (list_any (λ part. not (is_name_of names part)) (names_in definition.said))
+
+circle-sound : (first : ℕ) (meanings : List Meaning) (above : List Definition) (definition : Definition) → IfSome (reaches_itself first meanings above definition) IsOfText
+circle-sound first meanings above definition = one-sound code.BadLegend (λ e. cc) (is_on_cycle meanings (first + length above))
+
+mixture-sound : (kind : List ℕ → Option Kind) (above : List Definition) (definition : Definition) → IfSome (mixes kind above definition) IsOfText
+mixture-sound kind above definition = one-sound code.Mixed (λ e. cc) (is_mixed kind definition.said)
+
+layer-sound : (names : List (List ℕ)) (values : List Denotation) (above : List NameLine) (layer : NameLine) → IfSome (layers.misplaces names values above layer) IsOfText
+layer-sound names values above layer =
+    by (list_any (λ name. not (is_name_of names name)) layer.names) (list_any (λ name. is_of_kind Aggregate (kind_in names values name)) layer.names) (nat_le MOST_LAYERS (length above))
+  where
+    by : (unknown mixed many : Bool) → IfSome (if unknown then Some code.Unknown else (if mixed then Some code.Mixed else (if many then Some code.TooLarge else None))) IsOfText
+    by true mixed many = λ e. cc
+    by false true many = λ e. cc
+    by false false true = λ e. cc
+    by false false false = tt
+
+nowhere-sound : (layer : ℕ → Option ℕ) (above : List NameLine) (line : NameLine) → IfSome (lies_nowhere layer above line) IsOfText
+nowhere-sound layer above line = by (is_some (layer (length above)))
+  where
+    by : (b : Bool) → IfSome (if b then None else Some code.NoLayer) IsOfText
+    by true = tt
+    by false = λ e. cc
+
+profile-sound : (above : List Line) (line : Line) → IfSome (leaves_profile above line) IsOfText
+profile-sound above line = one-sound code.OutsideProfile (λ e. cc) (is_outside line.section line.text)
+
+heading-sound : (above : List Line) (line : Line) → IfSome (misplaces above line) IsOfText
+heading-sound above line = one-sound code.Section (λ e. cc) (line.is_heading && list_any (reaches_place (place_of line.section)) above)
+
+about-sound : (quantifier : Option Quantifier) (subject : Option ℕ) (on : Option (Option ℕ)) → IfErr (win_about quantifier subject on) IsOfText
+about-sound None subject on = λ e. cc
+about-sound (Some quantifier) None on = λ e. cc
+about-sound (Some quantifier) (Some subject) None = λ e. cc
+about-sound (Some quantifier) (Some subject) (Some on) = tt
+
+win-sound : (names words : List (List ℕ)) → IfErr (win_of names words) IsOfText
+win-sound names [] = λ e. cc
+win-sound names (word ∷ []) = λ e. cc
+win-sound names (word ∷ subject ∷ []) = about-sound (quantifier_of word) (number_in names subject) (Some None)
+win-sound names (word ∷ subject ∷ joint ∷ []) = λ e. cc
+win-sound names (word ∷ subject ∷ joint ∷ on ∷ []) = by (bytes_eq joint (codes "on"))
+  where
+    by : (b : Bool) → IfErr (if b then win_about (quantifier_of word) (number_in names subject) (option_map Some (number_in names on)) else Err code.BadWin) IsOfText
+    by true = about-sound (quantifier_of word) (number_in names subject) (option_map Some (number_in names on))
+    by false = λ e. cc
+win-sound names (word ∷ subject ∷ joint ∷ on ∷ other ∷ more) = λ e. cc
 
 module _ (n : ℕ) where
   -- OBJECTS
@@ -71,7 +163,7 @@ module _ (n : ℕ) where
   objects-fault : (lines : List Line) → All (IsWithin n) lines → IfErr (objects_of lines) (Names n)
   objects-fault lines all =
       unless-within n (first_fault paragraph_at misnames [] (paragraphs_of lines)) (Ok (map-of lines))
-      (first_fault-within n paragraph_at misnames [] (paragraphs_of lines) (paragraphs-within (length lines) lines all)) tt
+      (first_fault-within n paragraph_at misnames [] (paragraphs_of lines) paragraph-sound (paragraphs-within (length lines) lines all)) tt
     where
       map-of : List Line → List NameLine
       map-of ls = map name_line_of (paragraphs_of ls)
@@ -112,10 +204,10 @@ module _ (n : ℕ) where
       let mixed = first_fault line_at (mixes (kind_in names (values_of meanings))) [] definitions in
       let low = definitions-within lines all in
       or_else-within n (first_fault line_number (legend.misnames (object_names objects)) [] lines) (fault_of_definitions objects definitions)
-      (first_fault-within n line_number (legend.misnames (object_names objects)) [] lines all)
-      (or_else-within n unknown (or_else cycles mixed) (first_fault-within n line_at (speaks_of_unknown names) [] definitions low)
-      (or_else-within n cycles mixed (first_fault-within n line_at (reaches_itself (length (object_names objects)) meanings) [] definitions low)
-      (first_fault-within n line_at (mixes (kind_in names (values_of meanings))) [] definitions low)))
+      (first_fault-within n line_number (legend.misnames (object_names objects)) [] lines (line-sound (object_names objects)) all)
+      (or_else-within n unknown (or_else cycles mixed) (first_fault-within n line_at (speaks_of_unknown names) [] definitions (unknown-sound names) low)
+      (or_else-within n cycles mixed (first_fault-within n line_at (reaches_itself (length (object_names objects)) meanings) [] definitions (circle-sound (length (object_names objects)) meanings) low)
+      (first_fault-within n line_at (mixes (kind_in names (values_of meanings))) [] definitions (mixture-sound (kind_in names (values_of meanings))) low)))
 
   -- the names that each game needs
 
@@ -124,7 +216,7 @@ module _ (n : ℕ) where
     where
       by : (b : Bool) → IfSome (if b then None else (let fault : SourceFault = record { code = code.Missing; line = 0 } in Some fault)) (Names n)
       by true = tt
-      by false = omega arith
+      by false = (λ e. cc, omega arith)
 
   -- COLLISIONLAYERS
 
@@ -142,18 +234,18 @@ module _ (n : ℕ) where
   layers-fault objects names values lines there all =
       or_else-within n (first_fault name_line_at (layers.misplaces names values) [] (layer_lines lines))
       (first_fault name_line_at (lies_nowhere (layer_of (holds names values) (layer_lines lines))) [] objects)
-      (first_fault-within n name_line_at (layers.misplaces names values) [] (layer_lines lines) (layer_lines-within lines all))
-      (first_fault-within n name_line_at (lies_nowhere (layer_of (holds names values) (layer_lines lines))) [] objects there)
+      (first_fault-within n name_line_at (layers.misplaces names values) [] (layer_lines lines) (layer-sound names values) (layer_lines-within lines all))
+      (first_fault-within n name_line_at (lies_nowhere (layer_of (holds names values) (layer_lines lines))) [] objects (nowhere-sound (layer_of (holds names values) (layer_lines lines))) there)
 
   -- WINCONDITIONS
 
-  at_line-within : {A : Type 0} (number : ℕ) (r : Result A Code) → number ≤ n → IfErr (at_line number r) (Names n)
-  at_line-within number (Ok x) low = tt
-  at_line-within number (Err code) low = low
+  at_line-within : {A : Type 0} (number : ℕ) (r : Result A Code) → IfErr r IsOfText → number ≤ n → IfErr (at_line number r) (Names n)
+  at_line-within number (Ok x) sound low = tt
+  at_line-within number (Err code) sound low = (sound, low)
 
   wins-fault : (names : List (List ℕ)) (lines : List Line) → All (IsWithin n) lines → IfErr (wins_of names lines) (Names n)
   wins-fault names lines all =
-      each-fault (IsWithin n) (Names n) (win_at names) (λ line low. at_line-within line.number (win_of names (names_of line.text)) low) (filter (λ line. not (is_blank line)) lines)
+      each-fault (IsWithin n) (Names n) (win_at names) (λ line low. at_line-within line.number (win_of names (names_of line.text)) (win-sound names (names_of line.text)) low) (filter (λ line. not (is_blank line)) lines)
       (All-filter (λ line. not (is_blank line)) (IsWithin n) lines all)
 
   -- LEVELS
@@ -181,7 +273,7 @@ module _ (n : ℕ) where
   row-fault glyph width line low = by (glyphs_of glyph (take width line.text))
     where
       by : (o : Option (List ℕ)) → IfErr (option_map_or (λ row. Ok (filled width 0 row)) o (let fault : SourceFault = record { code = code.BadGlyph; line = line.number } in Err fault)) (Names n)
-      by None = low
+      by None = (λ e. cc, low)
       by (Some row) = tt
 
   rows-fault : (glyph : ℕ → Option ℕ) (width : ℕ) (lines : List Line) → All (IsWithin n) lines → IfErr (rows_of glyph width lines) (Names n)
@@ -208,9 +300,9 @@ module _ (n : ℕ) where
           else (if message then Ok Message
           else (if large then Err (record { code = code.TooLarge; line = first.number })
           else and_then drawn (rows_of glyph width (first ∷ rest))))) (Names n)
-      by true message large = All-head (IsWithin n) first rest all
+      by true message large = (λ e. cc, All-head (IsWithin n) first rest all)
       by false true large = tt
-      by false false true = All-head (IsWithin n) first rest all
+      by false false true = (λ e. cc, All-head (IsWithin n) first rest all)
       by false false false =
           and_then-within n (λ _. Unit {0}) drawn (rows_of glyph width (first ∷ rest)) (rows-fault glyph width (first ∷ rest) all) (any-ok (rows_of glyph width (first ∷ rest)))
           (λ cells read. tt)
@@ -231,7 +323,7 @@ module _ (n : ℕ) where
 
       by : (entries : List LevelEntry) (b : Bool) → IfErr (let r : Result (List LevelEntry) SourceFault = if b then Ok entries else Err (record { code = code.NoLevel; line = 0 }) in r) (Names n)
       by entries true = tt
-      by entries false = omega arith
+      by entries false = (λ e. cc, omega arith)
 
   -- the game
 
@@ -281,7 +373,7 @@ module _ (n : ℕ) where
   game_of_lines-fault lines all =
       let part = lines_in section.Objects lines in
       let low = lines_in-all (IsWithin n) section.Objects lines all in
-      unless-within n (outside_profile lines) (and_then (game_of_objects lines) (objects_of part)) (first_fault-within n number_of leaves_profile [] lines all)
+      unless-within n (outside_profile lines) (and_then (game_of_objects lines) (objects_of part)) (first_fault-within n number_of leaves_profile [] lines profile-sound all)
       (and_then-within n (All (λ line. name_line_at line ≤ n)) (game_of_objects lines) (objects_of part) (objects-fault part low) (objects-within part low)
       (λ objects there. game_of_objects-fault lines objects all there))
 
@@ -291,7 +383,7 @@ module _ (n : ℕ) where
   too_long-within text = by (nat_lt 1_048_576 (length text))
     where
       by : (b : Bool) → IfSome (if b then (let fault : SourceFault = record { code = code.TooLong; line = 0 } in Some fault) else None) (Names n)
-      by true = omega arith
+      by true = (λ e. cc, omega arith)
       by false = tt
 
   missing_section-within : (lines : List Line) → IfSome (missing_section lines) (Names n)
@@ -299,14 +391,14 @@ module _ (n : ℕ) where
     where
       by : (b : Bool) → IfSome (if b then None else (let fault : SourceFault = record { code = code.Section; line = 0 } in Some fault)) (Names n)
       by true = tt
-      by false = omega arith
+      by false = (λ e. cc, omega arith)
 
   lines-fault : (text : List ℕ) → All (IsWithin n) (cut (chars text)) → IfErr (lines_of text) (Names n)
   lines-fault text all =
       let lines = cut (chars text) in
       let whole : Result (List Line) SourceFault = unless (missing_section lines) (Ok lines) in
       unless-within n (too_long text) (unless (misplaced_heading lines) whole) (too_long-within text)
-      (unless-within n (misplaced_heading lines) whole (first_fault-within n number_of misplaces [] lines all)
+      (unless-within n (misplaced_heading lines) whole (first_fault-within n number_of misplaces [] lines heading-sound all)
       (unless-within n (missing_section lines) (Ok lines) (missing_section-within lines) tt))
 
 -- the fault of a text names a line of it, or 0
@@ -317,18 +409,23 @@ source-fault text =
     let all = cut-within (chars text) in
     and_then-within n (All (IsWithin n)) game_of_lines (lines_of text) (lines-fault n text all) (lines-all (IsWithin n) text all) (λ lines low. game_of_lines-fault n lines low)
 
-is_memory : (c : Code) → (c ≡ code.Memory) ⊎ (c ≢ code.Memory)
-is_memory code.Memory = inl refl
-is_memory c = inr (λ e. cc)
+-- what is read of a text: its game, or its fault
+module _ (text : List ℕ) where
+  pub given-game : (r : Result GameParts SourceFault) → r ≡ source_of text → IfOk r (λ game. source_of text ≡ Ok game)
+  given-game (Ok game) e = sym e
+  given-game (Err fault) e = tt
 
--- and so does the fault of a call, which may also be want of memory
-pub line-within : (text : List ℕ) (fault : SourceFault) → (fault.code ≢ code.Memory → source_of text ≡ Err fault) → (fault.code ≡ code.Memory → fault.line ≡ 0) → fault.line ≤ line_count text
-line-within text fault refused whole = elim (is_memory fault.code) [
-  | inl memory ↦ (let none = whole memory in omega arith)
-  | inr other ↦ subst (λ r. IfErr r (Names (line_count text))) (refused other) (source-fault text)
-]
+  pub given-fault : (r : Result GameParts SourceFault) → r ≡ source_of text → IfErr r (λ fault. fault.code ≢ code.Memory → source_of text ≡ Err fault)
+  given-fault (Ok game) e = tt
+  given-fault (Err fault) e = λ other. sym e
 
-pub result-within : {A : Type 0} (text : List ℕ) (r : Result A SourceFault) → IfErr r (λ fault. fault.code ≢ code.Memory → source_of text ≡ Err fault)
-    → IfErr r (λ fault. fault.code ≡ code.Memory → fault.line ≡ 0) → IfErr r (λ fault. fault.line ≤ line_count text)
-result-within text (Ok x) refused whole = tt
-result-within text (Err fault) refused whole = line-within text fault refused whole
+  given : (r : Result GameParts SourceFault) → r ≡ source_of text → IfErr r (Names (line_count text))
+  given r e = subst (λ r. IfErr r (Names (line_count text))) (sym e) (source-fault text)
+
+  pub given-memory : (r : Result GameParts SourceFault) → r ≡ source_of text → IfErr r (λ fault. fault.code ≡ code.Memory → fault.line ≡ 0)
+  given-memory (Ok game) e = tt
+  given-memory (Err fault) e = λ memory. absurd ((given (Err fault) e).0 memory)
+
+  pub given-line : (r : Result GameParts SourceFault) → r ≡ source_of text → IfErr r (λ fault. fault.line ≤ line_count text)
+  given-line (Ok game) e = tt
+  given-line (Err fault) e = (given (Err fault) e).1

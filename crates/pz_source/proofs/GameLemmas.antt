@@ -36,6 +36,7 @@ use Rattle.pz_game.specs.declared.win_line.WinLine.{WinLine}
 use Rattle.pz_game.specs.declared.options.Options.{Options}
 use Rattle.pz_source.proofs.LayerLemmas.{shallow, layered, laid}
 use Rattle.pz_source.proofs.DrawnLemmas.{glyph_below, levels-below}
+use Rattle.pz_source.proofs.FoundLemmas.{BothGive, both-refused}
 
 -- the names that each game needs are there
 needs : (names : List (List ℕ)) (values : List Denotation) → fault_of_needs names values ≡ None
@@ -116,13 +117,6 @@ module _ (objects : List NameLine) (names : List (List ℕ)) (values : List Deno
       → IsGame (record { objects = firsts; names = names; values = vs; layers = layers; depth = depth; rules = rules; wins = wins; levels = entries; options = options })
   is_game firsts vs layers depth a b d e = rw (a, b, d, e) made
 
--- what goes on behind two readings doesn't change their fault
-behind_err : {A B C : Type 0} (first : Result A SourceFault) (second : Result B SourceFault) (next : A → B → Result C SourceFault) (fault : SourceFault)
-    → and_then (λ x. second) first ≡ Err fault → and_then (λ x. and_then (next x) second) first ≡ Err fault
-behind_err (Err f) second next fault e = cc
-behind_err (Ok x) (Err f) next fault e = cc
-behind_err (Ok x) (Ok y) next fault e = cc
-
 module _ (lines : List Line) (objects : List NameLine) (names : List (List ℕ)) (values : List Denotation) (vs : List Denotation) (same : vs ≡ values)
     (needed : fault_of_needs names vs ≡ None) (ls : List Line) (layer_part : ls ≡ lines_in section.Layers lines) where
   -- the game by the parts that were read
@@ -158,11 +152,11 @@ module _ (lines : List Line) (objects : List NameLine) (names : List (List ℕ))
   at_layers fault e = whole (lines_in section.Wins lines) (lines_in section.Levels lines) refl refl ∙ rw (needed, e) refl
 
   pub at_behind : (fault : SourceFault) → fault_of_layers objects names vs ls ≡ None
-      → and_then (λ wins. levels_of (glyph_of names vs) (lines_in section.Levels lines)) (wins_of names (lines_in section.Wins lines)) ≡ Err fault → game_over lines objects names values ≡ Err fault
+      → BothGive (wins_of names (lines_in section.Wins lines)) (levels_of (glyph_of names vs) (lines_in section.Levels lines)) (Err fault) → game_over lines objects names values ≡ Err fault
   unfolding by_parts
   at_behind fault a e =
       whole (lines_in section.Wins lines) (lines_in section.Levels lines) refl refl
-      ∙ rw (needed, a) (behind_err (wins_of names (lines_in section.Wins lines)) (levels_of (glyph_of names vs) (lines_in section.Levels lines)) _ fault e)
+      ∙ rw (needed, a) (both-refused (wins_of names (lines_in section.Wins lines)) (levels_of (glyph_of names vs) (lines_in section.Levels lines)) _ fault e)
 
   pub at_end : (ws es : List Line) (wins : List WinLine) (entries : List LevelEntry) → ws ≡ lines_in section.Wins lines → es ≡ lines_in section.Levels lines
       → fault_of_layers objects names vs ls ≡ None → wins_of names ws ≡ Ok wins → levels_of (glyph_of names vs) es ≡ Ok entries
@@ -209,6 +203,13 @@ module _ (lines : List Line) (objects : List NameLine) (legend : List Line) (par
       → values ≡ values_of (meanings_of_source objects (definitions_of legend)) → game_of_objects lines objects ≡ game_over lines objects names values
   unfolding by_legend
   behind_legend names values sound named denoted = legend_read ∙ rw (sound, named, denoted) refl
+
+-- a fault of the profile, or of the objects
+pub at_profile : (lines : List Line) (fault : SourceFault) → outside_profile lines ≡ Some fault → game_of_lines lines ≡ Err fault
+at_profile lines fault hit = rw hit refl
+
+pub at_objects : (lines part : List Line) → part ≡ lines_in section.Objects lines → outside_profile lines ≡ None → (fault : SourceFault) → objects_of part ≡ Err fault → game_of_lines lines ≡ Err fault
+at_objects lines part same inside fault refused = rw (inside, sym (ap objects_of same), refused) refl
 
 -- behind the objects
 pub behind_objects : (lines : List Line) (objects : List NameLine) (part : List Line) → part ≡ lines_in section.Objects lines → outside_profile lines ≡ None → objects_of part ≡ Ok objects

@@ -8,5 +8,6 @@ pub mod GameLemmas
 pub mod ProfileLemmas
 pub mod LineLemmas
 pub mod FaultLines
+pub mod FoundLemmas
 pub mod RuleNumbers
 pub mod WorkedSections

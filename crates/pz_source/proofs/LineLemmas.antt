@@ -1,5 +1,5 @@
 -- Bounds on the numbers of lines, and on the lines that faults name.
-use Rattle.std.proofs.Common.{ℕ, ◌+◌, ◌<◌, ◌≤◌, ◌==◌, Bool, true, false, List, [], ◌∷◌, ◌++◌, length, Option, Some, None, IfSome, Result, Ok, Err, arith}
+use Rattle.std.proofs.Common.{◌≢◌, ℕ, ◌+◌, ◌<◌, ◌≤◌, ◌==◌, Bool, true, false, List, [], ◌∷◌, ◌++◌, length, Option, Some, None, IfSome, Result, Ok, Err, arith}
 use Rattle.std.specs.Prelude.{is_some, unwrap_or, if◌then◌else◌, IfOk, IfErr}
 use Rattle.std.specs.Option.{option_map_or}
 use Rattle.std.specs.Str.{chars}
@@ -16,6 +16,7 @@ use Rattle.pz_text.specs.declared.line.Section.{Section}
 use Rattle.pz_text.specs.declared.line.Section.TheVariants.{Prelude}
 use Rattle.pz_text.specs.declared.line.Line.{Line}
 use Rattle.pz_base.specs.declared.fault.Code.{Code}
+use Rattle.pz_base.specs.declared.fault.Code.TheVariants as code
 use Rattle.pz_base.specs.declared.fault.SourceFault.{SourceFault}
 
 -- what a function gives of things that pass a test passes another
@@ -53,9 +54,13 @@ module _ (P : Line → Type 0) where
 abbrev pub IsWithin : ℕ → Line → Type 0
 IsWithin n line = line.number ≤ n
 
--- and the line that a fault names
+-- a check gives no want of memory
+abbrev pub IsOfText : Code → Type 0
+IsOfText c = c ≢ code.Memory
+
+-- and the line that a fault of the text names
 abbrev pub Names : ℕ → SourceFault → Type 0
-Names n fault = fault.line ≤ n
+Names n fault = IsOfText fault.code × (fault.line ≤ n)
 
 -- the lines are numbered from the first on
 lines_from-numbered : (P : ℕ → Type 0) (section : Section) (depth number : ℕ) (raws : List (List ℕ)) → ((k : ℕ) → number ≤ k → k < number + length raws → P k)
@@ -76,14 +81,15 @@ lines_from-numbered P section depth number (raw ∷ more) each =
     by false read here rest all = All-cons (λ (line : Line). P line.number) read rest here all
 
 module _ (n : ℕ) where
-  pub first_fault-within : {A : Type 0} (at : A → ℕ) (names : List A → A → Option Code) (before xs : List A) → All (λ x. at x ≤ n) xs → IfSome (first_fault at names before xs) (Names n)
-  first_fault-within at names before [] all = tt
-  first_fault-within at names before (x ∷ xs) all =
-      by (names before x) (first_fault at names (before ++ x ∷ []) xs) (first_fault-within at names (before ++ x ∷ []) xs (All-tail (λ x. at x ≤ n) x xs all))
+  pub first_fault-within : {A : Type 0} (at : A → ℕ) (names : List A → A → Option Code) (before xs : List A) → ((above : List A) (x : A) → IfSome (names above x) IsOfText) → All (λ x. at x ≤ n) xs
+      → IfSome (first_fault at names before xs) (Names n)
+  first_fault-within at names before [] sound all = tt
+  first_fault-within at names before (x ∷ xs) sound all =
+      by (names before x) (sound before x) (first_fault at names (before ++ x ∷ []) xs) (first_fault-within at names (before ++ x ∷ []) xs sound (All-tail (λ x. at x ≤ n) x xs all))
     where
-      by : (o : Option Code) (later : Option SourceFault) → IfSome later (Names n) → IfSome (option_map_or (λ code. Some (record { code = code; line = at x })) o later) (Names n)
-      by None later rest = rest
-      by (Some code) later rest = All-head (λ x. at x ≤ n) x xs all
+      by : (o : Option Code) → IfSome o IsOfText → (later : Option SourceFault) → IfSome later (Names n) → IfSome (option_map_or (λ code. Some (record { code = code; line = at x })) o later) (Names n)
+      by None here later rest = rest
+      by (Some code) here later rest = (here, All-head (λ x. at x ≤ n) x xs all)
 
   pub or_else-within : (first later : Option SourceFault) → IfSome first (Names n) → IfSome later (Names n) → IfSome (or_else first later) (Names n)
   or_else-within None later a b = b

@@ -1,8 +1,8 @@
 //! The lines of COLLISIONLAYERS.
 
-ghost use Rattle.std.specs.Prelude.{◌≡◌, ◌≢◌, ◌==◌, ℕ, ◌<◌, ◌++◌, ◌∷◌, [], IfOk, IfErr, OnOk, IfSome, length, None, Some, map, if◌then◌else◌};
+ghost use Rattle.std.specs.Prelude.{◌≡◌, ◌==◌, ℕ, List, ◌<◌, ◌++◌, ◌∷◌, [], IfOk, OnOk, IfSome, length, Ok, Some, map, if◌then◌else◌};
 ghost use Rattle.std.specs.List.{list_any, filter_map};
-ghost use Rattle.pz_base.specs.Fault.{first_fault};
+ghost use Rattle.pz_base.specs.Fault.{first_fault, unless, and_then};
 ghost use Rattle.pz_base.specs.declared.fault.Code.TheVariants as code;
 ghost use Rattle.pz_source.specs.Layers.{layer_words, layer_names, layer_lines, name_line_at, misplaced, misplaces, members_of, holds, entry_at, layer_of, lies_nowhere, fault_of_layers, layers_of};
 
@@ -68,8 +68,7 @@ pub fn layer_lines(alloc: Global, lines: &[Line]) -> Result<Vec<NameLine>, Alloc
 
 /// What is wrong with a layer, if anything: `Unknown`, `Mixed` (an aggregate) or `TooLarge`. `above` is the number of layers above it.
 fn misplaced(names: &NameSet, values: &[Denotation], above: usize, layer: &[Name]) -> Option<Code>
-    ensures first { result ≡ misplaced names.now values.now above layer.now }
-    ensures other { IfSome result (λ c. c ≢ code.Memory) }
+    ensures { result ≡ misplaced names.now values.now above layer.now }
 {
     if has_unknown(names, layer) {
         Some(Code::Unknown)
@@ -88,8 +87,7 @@ pub fn misplacement(
     values: &[Denotation],
     layers: &[NameLine],
 ) -> Option<SourceFault>
-    ensures first { result ≡ first_fault name_line_at (misplaces names.now values.now) [] layers.now }
-    ensures other { IfSome result (λ fault. fault.code ≢ code.Memory) }
+    ensures { result ≡ first_fault name_line_at (misplaces names.now values.now) [] layers.now }
 {
     for (place, layer) in layers.iter().enumerate() {
         if let Some(code) = misplaced(names, values, place, layer.names.items()) {
@@ -198,31 +196,28 @@ fn known_layers(alloc: Global, table: Vec<Option<usize>>) -> Result<Vec<usize>, 
 }
 
 /// The layer of each object, and the number of layers; or the first fault of COLLISIONLAYERS. Line by line it is `Unknown`, `Mixed` (an
-/// aggregate) or `TooLarge`; then it is `NoLayer` at the name line of an object. `Memory`, with line 0, may come in place of any.
-/// Rule `layers.lines`.
+/// aggregate) or `TooLarge`; then it is `NoLayer` at the name line of an object. Rule `layers.lines`.
 pub fn read_layers(
     alloc: Global,
     objects: &[NameLine],
     names: &NameSet,
     values: &[Denotation],
     lines: &[Line],
-) -> Result<(Vec<usize>, usize), SourceFault>
-    ensures sound { IfOk result (λ _. fault_of_layers objects.now names.now values.now lines.now ≡ None) }
-    ensures layers { IfOk result (λ r. r.0.items ≡ layers_of objects.now names.now values.now lines.now) }
-    ensures depth { IfOk result (λ r. r.1 ≡ length (layer_lines lines.now)) }
-    ensures refused { IfErr result
-        (λ fault. fault.code ≢ code.Memory → fault_of_layers objects.now names.now values.now lines.now ≡ Some fault) }
-    ensures whole { IfErr result (λ fault. fault.code ≡ code.Memory → fault.line ≡ 0) }
+) -> Result<Result<(Vec<usize>, usize), SourceFault>, AllocError>
+    ensures { IfOk result
+        (λ read. and_then {B = List ℕ × ℕ} (λ placed. Ok (placed.0.items, placed.1)) read ≡
+        unless (fault_of_layers objects.now names.now values.now lines.now)
+        (Ok (layers_of objects.now names.now values.now lines.now, length (layer_lines lines.now)))) }
 {
     let layers = layer_lines(alloc, lines)?;
     let layers = layers.as_slice();
     if let Some(fault) = misplacement(names, values, layers) {
-        return Err(fault);
+        return Ok(Err(fault));
     }
     let table = layer_table(alloc, objects.len(), names, values, layers)?;
     if let Some(fault) = missing_layer(table.as_slice(), objects) {
-        return Err(fault);
+        return Ok(Err(fault));
     }
     let placed = known_layers(alloc, table)?;
-    Ok((placed, layers.len()))
+    Ok(Ok((placed, layers.len())))
 }

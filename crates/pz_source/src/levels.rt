@@ -1,8 +1,8 @@
 //! The lines of LEVELS.
 
-ghost use Rattle.std.specs.Prelude.{◌≡◌, ◌≢◌, ◌≤◌, ◌<◌, ◌+◌, ◌*◌, ◌^◌, length, drop, [], IfOk, IfErr, OnOk, Ok, Err, ◌++◌, map, take, option_map, get_or, true, Some};
+ghost use Rattle.std.specs.Prelude.{◌≡◌, ◌≤◌, ◌<◌, ◌+◌, ◌*◌, ◌^◌, length, drop, [], IfOk, OnOk, Ok, ◌++◌, map, take, option_map, get_or, true};
+ghost use Rattle.pz_base.specs.Fault.{and_then};
 ghost use Rattle.std.specs.List.{list_any, slice_range};
-ghost use Rattle.pz_base.specs.declared.fault.Code.TheVariants as code;
 ghost use Rattle.pz_game.specs.Level.{is_playable};
 ghost use Rattle.pz_source.specs.Levels.{is_message, closed, entries_of, is_entry, glyph_of, glyphs_of, filled, is_too_large, row_of, rows_of, entry_of, levels_of};
 
@@ -126,54 +126,32 @@ fn next_glyph(row: &[usize], column: usize, last: usize) -> usize
     row.get(column).copied().unwrap_or(last)
 }
 
-/// The numbers of the glyphs of a row, cut to this width. `BadGlyph`: a glyph of the cut row draws nothing. Rule `levels.long-rows`.
-fn read_row(
-    alloc: Global,
-    glyphs: &mut Glyphs,
-    width: usize,
-    line: &Line,
-) -> Result<Vec<usize>, SourceFault>
-    ensures read { IfOk result
-        (λ row. glyphs_of (glyph_of glyphs.old.names glyphs.old.values) (take width line.now.text) ≡ Some row.items) }
-    ensures refused { IfErr result
-        (λ fault. fault.code ≢ code.Memory →
-        row_of (glyph_of glyphs.old.names glyphs.old.values) width line.now ≡ Err fault) }
-    ensures whole { IfErr result (λ fault. fault.code ≡ code.Memory → fault.line ≡ 0) }
-    ensures same { glyphs.new ≡ glyphs.old }
-{
-    match numbers_of(alloc, glyphs, cut_to(line.text.items(), width))? {
-        Some(row) => Ok(row),
-        None => Err(SourceFault {
-            code: Code::BadGlyph,
-            line: line.number,
-        }),
-    }
-}
-
-/// The cells of the rows of a level, or `BadGlyph` at the first row with a glyph that draws nothing.
+/// The cells of the rows of a level, or `BadGlyph` at the first row with a glyph that draws nothing. Rule `levels.long-rows`.
 fn rows(
     alloc: Global,
     glyphs: &mut Glyphs,
     width: usize,
     lines: &[Line],
-) -> Result<Vec<usize>, SourceFault>
+) -> Result<Result<Vec<usize>, SourceFault>, AllocError>
     requires { width * length lines.now < 2 ^ 64 }
     ensures read { IfOk result
-        (λ cells. rows_of (glyph_of glyphs.old.names glyphs.old.values) width lines.now ≡ Ok cells.items) }
-    ensures count { IfOk result (λ cells. length cells.items ≡ width * length lines.now) }
-    ensures refused { IfErr result
-        (λ fault. fault.code ≢ code.Memory →
-        rows_of (glyph_of glyphs.old.names glyphs.old.values) width lines.now ≡ Err fault) }
-    ensures whole { IfErr result (λ fault. fault.code ≡ code.Memory → fault.line ≡ 0) }
+        (λ read. and_then (λ cells. Ok cells.items) read ≡
+        rows_of (glyph_of glyphs.old.names glyphs.old.values) width lines.now) }
+    ensures count { IfOk result (λ read. IfOk read (λ cells. length cells.items ≡ width * length lines.now)) }
     ensures same { glyphs.new ≡ glyphs.old }
 {
     let mut cells = Vec::new(alloc);
     cells.reserve(width * lines.len())?;
     for line in lines {
-        let row = read_row(alloc, glyphs, width, line)?;
+        let Some(row) = numbers_of(alloc, glyphs, cut_to(line.text.items(), width))? else {
+            return Ok(Err(SourceFault {
+                code: Code::BadGlyph,
+                line: line.number,
+            }));
+        };
         add_row(&mut cells, width, row.as_slice())?;
     }
-    Ok(cells)
+    Ok(Ok(cells))
 }
 
 fn cut_to(text: &[char], width: usize) -> &[char]
@@ -198,67 +176,63 @@ fn read_entry(
     glyphs: &mut Glyphs,
     above: usize,
     lines: &[Line],
-) -> Result<LevelEntry, SourceFault>
+) -> Result<Result<LevelEntry, SourceFault>, AllocError>
     requires { is_entry lines.now ≡ true }
     ensures read { IfOk result
-        (λ entry. entry_of (glyph_of glyphs.old.names glyphs.old.values) above lines.now ≡ Ok entry) }
-    ensures refused { IfErr result
-        (λ fault. fault.code ≢ code.Memory →
-        entry_of (glyph_of glyphs.old.names glyphs.old.values) above lines.now ≡ Err fault) }
-    ensures whole { IfErr result (λ fault. fault.code ≡ code.Memory → fault.line ≡ 0) }
+        (λ entry. entry ≡ entry_of (glyph_of glyphs.old.names glyphs.old.values) above lines.now) }
     ensures same { glyphs.new ≡ glyphs.old }
 {
     let Some((first, _)) = lines.split_first() else {
-        return Ok(LevelEntry::Message);
+        return Ok(Ok(LevelEntry::Message));
     };
     if above >= MOST_ENTRIES {
-        return Err(SourceFault {
+        return Ok(Err(SourceFault {
             code: Code::TooLarge,
             line: first.number,
-        });
+        }));
     }
     if is_message(first) {
-        return Ok(LevelEntry::Message);
+        return Ok(Ok(LevelEntry::Message));
     }
     let width = first.text.items().len();
     let height = lines.len();
     if is_too_large(width, height) {
-        return Err(SourceFault {
+        return Ok(Err(SourceFault {
             code: Code::TooLarge,
             line: first.number,
-        });
+        }));
     }
-    let cells = rows(alloc, glyphs, width, lines)?;
-    Ok(LevelEntry::Level(DrawnLevel::new(width as u32, height as u32, Listed::new(cells))))
+    let cells = or_fault!(rows(alloc, glyphs, width, lines)?);
+    let level = DrawnLevel::new(width as u32, height as u32, Listed::new(cells));
+    Ok(Ok(LevelEntry::Level(level)))
 }
 
 /// The entries of LEVELS, or their first fault: `TooLarge` or `BadGlyph` of an entry, then `NoLevel`, with line 0, if no entry is a level.
-/// `Memory`, with line 0, may come in place of any. Rule `checks.levels`.
+/// Rule `checks.levels`.
 pub fn read_levels(
     alloc: Global,
     names: &NameSet,
     values: &[Denotation],
     lines: &[Line],
-) -> Result<Vec<LevelEntry>, SourceFault>
-    ensures read { IfOk result (λ entries. levels_of (glyph_of names.now values.now) lines.now ≡ Ok entries.items) }
-    ensures refused { IfErr result
-        (λ fault. fault.code ≢ code.Memory → levels_of (glyph_of names.now values.now) lines.now ≡ Err fault) }
-    ensures whole { IfErr result (λ fault. fault.code ≡ code.Memory → fault.line ≡ 0) }
+) -> Result<Result<Vec<LevelEntry>, SourceFault>, AllocError>
+    ensures { IfOk result
+        (λ read. and_then (λ entries. Ok entries.items) read ≡
+        levels_of (glyph_of names.now values.now) lines.now) }
 {
     let blocks = entries(alloc, lines)?;
     let mut glyphs = Glyphs::new(names, values);
     let mut read = Vec::new(alloc);
     for block in &blocks {
-        let entry = read_entry(alloc, &mut glyphs, read.len(), block)?;
+        let entry = or_fault!(read_entry(alloc, &mut glyphs, read.len(), block)?);
         read.push(entry)?;
     }
     if !any_playable(read.as_slice()) {
-        return Err(SourceFault {
+        return Ok(Err(SourceFault {
             code: Code::NoLevel,
             line: 0,
-        });
+        }));
     }
-    Ok(read)
+    Ok(Ok(read))
 }
 
 fn any_playable(entries: &[LevelEntry]) -> bool

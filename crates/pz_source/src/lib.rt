@@ -2,6 +2,16 @@
 //! crate alone.
 #![tactic(auto)]
 
+/// What a call found, or else the end of the function with the fault that it found.
+macro_rules! or_fault {
+    ($found:expr) => {
+        match $found {
+            Ok(found) => found,
+            Err(fault) => return Ok(Err(fault)),
+        }
+    };
+}
+
 mod glyphs;
 pub mod layers;
 pub mod levels;

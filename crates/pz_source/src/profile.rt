@@ -1,7 +1,7 @@
 //! The profile: which keywords and words are outside it, and which options the prelude sets.
 
-ghost use Rattle.std.specs.Prelude.{◌≡◌, ◌≢◌, None, Some, IfOk, IfErr};
-ghost use Rattle.pz_base.specs.declared.fault.Code.TheVariants as code;
+ghost use Rattle.std.specs.Prelude.{◌≡◌, Ok, IfOk};
+ghost use Rattle.pz_base.specs.Fault.{unless, and_then};
 ghost use Rattle.pz_text.specs.Section.{lines_in};
 ghost use Rattle.pz_text.specs.declared.line.Section.TheVariants as section;
 ghost use Rattle.pz_source.specs.Rules.{rule_words, rule_lines};
@@ -63,40 +63,40 @@ fn is_outside(alloc: Global, line: &Line) -> Result<bool, AllocError>
     }
 }
 
-/// `OutsideProfile` at the first line outside the profile: of the prelude with the keyword `realtime_interval`, or of RULES with a word
-/// `random`, `randomdir` or `rigid`. `Memory`, with line 0, may come in place of either. Rule `checks.profile`.
-fn check_profile(alloc: Global, lines: &[Line]) -> Result<(), SourceFault>
-    ensures sound { IfOk result (λ _. outside_profile lines.now ≡ None) }
-    ensures refused { IfErr result (λ fault. fault.code ≢ code.Memory → outside_profile lines.now ≡ Some fault) }
-    ensures whole { IfErr result (λ fault. fault.code ≡ code.Memory → fault.line ≡ 0) }
+/// `OutsideProfile` at the first line outside the profile, if there is one: of the prelude with the keyword `realtime_interval`, or of RULES
+/// with a word `random`, `randomdir` or `rigid`. Rule `checks.profile`.
+fn outside_profile(alloc: Global, lines: &[Line]) -> Result<Option<SourceFault>, AllocError>
+    ensures { IfOk result (λ fault. fault ≡ outside_profile lines.now) }
 {
     for line in lines {
         if is_outside(alloc, line)? {
-            return Err(SourceFault {
+            return Ok(Some(SourceFault {
                 code: Code::OutsideProfile,
                 line: line.number,
-            });
+            }));
         }
     }
-    Ok(())
+    Ok(None)
 }
 
-/// The rule lines of lines that are in the profile: those that aren't blank, cut into words. Else OutsideProfile, at the first line that is outside.
-/// Memory, with line 0, may come in place of it.
-fn rules_in_profile(alloc: Global, lines: &[Line]) -> Result<Vec<RuleLine>, SourceFault>
-    ensures rules { IfOk result (λ rules. rules.items ≡ rule_lines lines.now) }
-    ensures sound { IfOk result (λ _. outside_profile lines.now ≡ None) }
-    ensures refused { IfErr result (λ fault. fault.code ≢ code.Memory → outside_profile lines.now ≡ Some fault) }
-    ensures whole { IfErr result (λ fault. fault.code ≡ code.Memory → fault.line ≡ 0) }
+/// The rule lines of lines that are in the profile: those that aren't blank, cut into words. Else `OutsideProfile`, at the first line that is
+/// outside.
+fn rules_in_profile(
+    alloc: Global,
+    lines: &[Line],
+) -> Result<Result<Vec<RuleLine>, SourceFault>, AllocError>
+    ensures { IfOk result
+        (λ read. and_then (λ rules. Ok rules.items) read ≡
+        unless (outside_profile lines.now) (Ok (rule_lines lines.now))) }
 {
     let mut rules = Vec::new(alloc);
     for line in lines {
         let words = rule_words(alloc, line.text.items())?;
         if is_outside_by(line, words.items()) {
-            return Err(SourceFault {
+            return Ok(Err(SourceFault {
                 code: Code::OutsideProfile,
                 line: line.number,
-            });
+            }));
         }
         if is_blank(line) {
             continue;
@@ -106,22 +106,28 @@ fn rules_in_profile(alloc: Global, lines: &[Line]) -> Result<Vec<RuleLine>, Sour
             words,
         })?;
     }
-    Ok(rules)
+    Ok(Ok(rules))
 }
 
-/// The rule lines of a source in the profile. Else OutsideProfile, at its line: the first line of the prelude with the keyword
-/// `realtime_interval`, or of RULES with a word `random`, `randomdir` or `rigid`. Memory, with line 0, may come in place of it.
-pub fn read_rules(alloc: Global, lines: &[Line]) -> Result<Vec<RuleLine>, SourceFault>
-    ensures rules { IfOk result (λ rules. rules.items ≡ rule_lines (lines_in section.Rules lines.now)) }
-    ensures sound { IfOk result (λ _. outside_profile lines.now ≡ None) }
-    ensures refused { IfErr result (λ fault. fault.code ≢ code.Memory → outside_profile lines.now ≡ Some fault) }
-    ensures whole { IfErr result (λ fault. fault.code ≡ code.Memory → fault.line ≡ 0) }
+/// The rule lines of a source in the profile. Else `OutsideProfile`, at its line: the first line of the prelude with the keyword
+/// `realtime_interval`, or of RULES with a word `random`, `randomdir` or `rigid`.
+pub fn read_rules(
+    alloc: Global,
+    lines: &[Line],
+) -> Result<Result<Vec<RuleLine>, SourceFault>, AllocError>
+    ensures { IfOk result
+        (λ read. and_then (λ rules. Ok rules.items) read ≡
+        unless (outside_profile lines.now) (Ok (rule_lines (lines_in section.Rules lines.now)))) }
 {
     let (before, own, behind) = around(Section::Rules, lines);
-    check_profile(alloc, before)?;
-    let rules = rules_in_profile(alloc, own)?;
-    check_profile(alloc, behind)?;
-    Ok(rules)
+    if let Some(fault) = outside_profile(alloc, before)? {
+        return Ok(Err(fault));
+    }
+    let rules = or_fault!(rules_in_profile(alloc, own)?);
+    if let Some(fault) = outside_profile(alloc, behind)? {
+        return Ok(Err(fault));
+    }
+    Ok(Ok(rules))
 }
 
 fn has_keyword(lines: &[Line], keyword: &[u8]) -> bool

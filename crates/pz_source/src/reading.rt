@@ -1,9 +1,11 @@
 //! Reads a source: section after section, in the order of the checks.
 
-ghost use Rattle.std.specs.Prelude.{◌≡◌, ◌≢◌, ◌≤◌, ◌<◌, length, All, [], get_or, IfOk, IfErr, Ok, Err};
+ghost use Rattle.std.specs.Prelude.{◌≡◌, ◌≢◌, ◌≤◌, ◌<◌, length, All, [], get_or, List, IfOk, IfErr, Ok, Err};
 ghost use Rattle.pz_base.specs.declared.fault.Code.TheVariants as code;
 ghost use Rattle.pz_names.specs.Objects.{IsNamed, object_names};
 ghost use Rattle.pz_game.specs.Denotation.{IsDenoted};
+ghost use Rattle.pz_game.specs.declared.level.LevelEntry.{LevelEntry};
+ghost use Rattle.pz_game.specs.declared.win_line.WinLine.{WinLine};
 ghost use Rattle.pz_base.specs.Fault.{and_then};
 ghost use Rattle.pz_game.specs.Game.{IsGame};
 ghost use Rattle.pz_text.specs.Section.{lines_in};
@@ -76,19 +78,16 @@ fn wins_and_levels(
     lines: &[Line],
     names: &NameSet,
     values: &[Denotation],
-) -> Result<(Vec<WinLine>, Vec<LevelEntry>), SourceFault>
-    ensures wins { IfOk result (λ r. wins_of names.now (lines_in section.Wins lines.now) ≡ Ok r.0.items) }
-    ensures levels { IfOk result
-        (λ r. levels_of (glyph_of names.now values.now) (lines_in section.Levels lines.now) ≡ Ok r.1.items) }
-    ensures refused { IfErr result
-        (λ fault. fault.code ≢ code.Memory →
-        and_then (λ wins. levels_of (glyph_of names.now values.now) (lines_in section.Levels lines.now))
-        (wins_of names.now (lines_in section.Wins lines.now)) ≡ Err fault) }
-    ensures whole { IfErr result (λ fault. fault.code ≡ code.Memory → fault.line ≡ 0) }
+) -> Result<Result<(Vec<WinLine>, Vec<LevelEntry>), SourceFault>, AllocError>
+    ensures { IfOk result
+        (λ read. and_then {B = List WinLine × List LevelEntry} (λ both. Ok (both.0.items, both.1.items)) read ≡
+        and_then (λ wins. and_then {B = List WinLine × List LevelEntry} (λ levels. Ok (wins, levels))
+        (levels_of (glyph_of names.now values.now) (lines_in section.Levels lines.now)))
+        (wins_of names.now (lines_in section.Wins lines.now))) }
 {
-    let wins = read_wins(alloc, names, lines_in(Section::Wins, lines))?;
-    let levels = read_levels(alloc, names, values, lines_in(Section::Levels, lines))?;
-    Ok((wins, levels))
+    let wins = or_fault!(read_wins(alloc, names, lines_in(Section::Wins, lines))?);
+    let levels = or_fault!(read_levels(alloc, names, values, lines_in(Section::Levels, lines))?);
+    Ok(Ok((wins, levels)))
 }
 
 /// What the sections after LEGEND give with these objects and names, and the rule lines that were read, or their first fault: `Missing`, then
@@ -100,33 +99,26 @@ fn read_sections(
     names: &NameSet,
     values: &[Denotation],
     rules: Vec<RuleLine>,
-) -> Result<Sections, SourceFault>
+) -> Result<Result<Sections, SourceFault>, AllocError>
     requires few { length objects.now ≤ MOST_OBJECTS }
     requires named { All IsNamed objects.now }
     requires all { length values.now ≡ length names.now }
     requires denoted { All (IsDenoted (length objects.now)) values.now }
     requires rules { rules.items ≡ rule_lines (lines_in section.Rules lines.now) }
     ensures read { IfOk result
-        (λ sections. game_over lines.now objects.now names.now values.now ≡
-        Ok (game_with names.now values.now sections)) }
-    ensures game { IfOk result (λ sections. IsGame (game_with names.now values.now sections)) }
-    ensures refused { IfErr result
-        (λ fault. fault.code ≢ code.Memory → game_over lines.now objects.now names.now values.now ≡ Err fault) }
-    ensures whole { IfErr result (λ fault. fault.code ≡ code.Memory → fault.line ≡ 0) }
+        (λ read. and_then (λ sections. Ok (game_with names.now values.now sections)) read ≡
+        game_over lines.now objects.now names.now values.now) }
+    ensures game { IfOk result
+        (λ read. IfOk read (λ sections. IsGame (game_with names.now values.now sections))) }
 {
     if let Some(fault) = missing_name(names, values) {
-        return Err(fault);
+        return Ok(Err(fault));
     }
-    let (layers, depth) = read_layers(
-        alloc,
-        objects,
-        names,
-        values,
-        lines_in(Section::Layers, lines),
-    )?;
-    let (wins, levels) = wins_and_levels(alloc, lines, names, values)?;
+    let of_layers = lines_in(Section::Layers, lines);
+    let (layers, depth) = or_fault!(read_layers(alloc, objects, names, values, of_layers)?);
+    let (wins, levels) = or_fault!(wins_and_levels(alloc, lines, names, values)?);
     let firsts = first_names(alloc, objects)?;
-    Ok(Sections {
+    Ok(Ok(Sections {
         objects: firsts,
         layers: Listed::new(layers),
         depth,
@@ -134,7 +126,7 @@ fn read_sections(
         wins: Listed::new(wins),
         levels: Listed::new(levels),
         options: options_of(lines_in(Section::Prelude, lines)),
-    })
+    }))
 }
 
 fn game_with(names: NameSet, values: Vec<Denotation>, sections: Sections) -> GameParts
@@ -170,19 +162,23 @@ fn read_over(
     names: NameSet,
     values: Vec<Denotation>,
     rules: Vec<RuleLine>,
-) -> Result<Game, SourceFault>
+) -> Result<Result<Game, SourceFault>, AllocError>
     requires few { length objects.now ≤ MOST_OBJECTS }
     requires named { All IsNamed objects.now }
     requires all { length values.items ≡ length names }
     requires denoted { All (IsDenoted (length objects.now)) values.items }
     requires rules { rules.items ≡ rule_lines (lines_in section.Rules lines.now) }
-    ensures read { IfOk result (λ game. game_over lines.now objects.now names values.items ≡ Ok game) }
-    ensures refused { IfErr result
-        (λ fault. fault.code ≢ code.Memory → game_over lines.now objects.now names values.items ≡ Err fault) }
-    ensures whole { IfErr result (λ fault. fault.code ≡ code.Memory → fault.line ≡ 0) }
+    ensures { IfOk result (λ game. game ≡ game_over lines.now objects.now names values.items) }
 {
-    let sections = read_sections(alloc, lines, objects, &names, values.as_slice(), rules)?;
-    Ok(Game::new(game_with(names, values, sections)))
+    let sections = or_fault!(read_sections(
+        alloc,
+        lines,
+        objects,
+        &names,
+        values.as_slice(),
+        rules
+    )?);
+    Ok(Ok(Game::new(game_with(names, values, sections))))
 }
 
 /// The game with these objects, or its first fault. Faults of the legend come before those of what follows.
@@ -192,29 +188,28 @@ fn read_over_objects(
     objects: &[NameLine],
     mut names: NameSet,
     rules: Vec<RuleLine>,
-) -> Result<Game, SourceFault>
+) -> Result<Result<Game, SourceFault>, AllocError>
     requires few { length objects.now ≤ MOST_OBJECTS }
     requires named { All IsNamed objects.now }
     requires names { names ≡ object_names objects.now }
     requires rules { rules.items ≡ rule_lines (lines_in section.Rules lines.now) }
-    ensures read { IfOk result (λ game. game_of_objects lines.now objects.now ≡ Ok game) }
-    ensures refused { IfErr result
-        (λ fault. fault.code ≢ code.Memory → game_of_objects lines.now objects.now ≡ Err fault) }
-    ensures whole { IfErr result (λ fault. fault.code ≡ code.Memory → fault.line ≡ 0) }
+    ensures { IfOk result (λ game. game ≡ game_of_objects lines.now objects.now) }
 {
-    let values = read_legend(alloc, objects, &mut names, lines_in(Section::Legend, lines))?;
+    let of_legend = lines_in(Section::Legend, lines);
+    let values = or_fault!(read_legend(alloc, objects, &mut names, of_legend)?);
     read_over(alloc, lines, objects, names, values, rules)
 }
 
 /// The game of lines whose headings are in order, or its first fault: `OutsideProfile`, then those of the objects, then those of what
 /// follows.
-fn read_game_of_lines(alloc: Global, lines: &[Line]) -> Result<Game, SourceFault>
-    ensures read { IfOk result (λ game. game_of_lines lines.now ≡ Ok game) }
-    ensures refused { IfErr result (λ fault. fault.code ≢ code.Memory → game_of_lines lines.now ≡ Err fault) }
-    ensures whole { IfErr result (λ fault. fault.code ≡ code.Memory → fault.line ≡ 0) }
+fn read_game_of_lines(
+    alloc: Global,
+    lines: &[Line],
+) -> Result<Result<Game, SourceFault>, AllocError>
+    ensures { IfOk result (λ game. game ≡ game_of_lines lines.now) }
 {
-    let rules = read_rules(alloc, lines)?;
-    let (objects, names) = read_objects(alloc, lines_in(Section::Objects, lines))?;
+    let rules = or_fault!(read_rules(alloc, lines)?);
+    let (objects, names) = or_fault!(read_objects(alloc, lines_in(Section::Objects, lines))?);
     read_over_objects(alloc, lines, objects.as_slice(), names, rules)
 }
 
@@ -228,6 +223,6 @@ pub fn read_game(alloc: Global, text: &str) -> Result<Game, SourceFault>
     ensures lined { IfErr result (λ fault. fault.line ≤ line_count text.now) }
     ensures ruled { IfOk result (λ game. All (λ line. 1 ≤ line.number × line.number ≤ line_count text.now) game.rules) }
 {
-    let lines = read_lines(alloc, text)?;
-    read_game_of_lines(alloc, lines.as_slice())
+    let lines = read_lines(alloc, text)??;
+    read_game_of_lines(alloc, lines.as_slice())?
 }

@@ -1,7 +1,7 @@
 //! The lines of WINCONDITIONS.
 
-ghost use Rattle.std.specs.Prelude.{◌≡◌, ◌≢◌, Ok, Err, IfOk, IfErr};
-ghost use Rattle.pz_base.specs.declared.fault.Code.TheVariants as code;
+ghost use Rattle.std.specs.Prelude.{◌≡◌, Ok, IfOk};
+ghost use Rattle.pz_base.specs.Fault.{and_then};
 ghost use Rattle.pz_source.specs.Wins.{quantifier_of, win_about, win_of, win_at, wins_of};
 
 use pz_base::fault::{Code, SourceFault};
@@ -11,7 +11,7 @@ use pz_game::win_line::{Quantifier, WinLine};
 use pz_names::objects::is_blank;
 use pz_text::line::Line;
 use pz_text::words::names_of;
-use std::alloc::Global;
+use std::alloc::{AllocError, Global};
 
 fn quantifier_of(word: &Name) -> Option<Quantifier>
     ensures { result ≡ quantifier_of word.now }
@@ -33,8 +33,7 @@ fn win_about(
     subject: Option<usize>,
     on: Option<Option<usize>>,
 ) -> Result<WinLine, Code>
-    ensures about { result ≡ win_about quantifier subject on }
-    ensures other { IfErr result (λ c. c ≢ code.Memory) }
+    ensures { result ≡ win_about quantifier subject on }
 {
     let quantifier = quantifier.ok_or(Code::BadWin)?;
     let subject = subject.ok_or(Code::Unknown)?;
@@ -48,8 +47,7 @@ fn win_about(
 
 /// The win line that these words make. Rule `wins.lines`.
 fn win_of(names: &NameSet, words: &[Name]) -> Result<WinLine, Code>
-    ensures line { result ≡ win_of names.now words.now }
-    ensures other { IfErr result (λ c. c ≢ code.Memory) }
+    ensures { result ≡ win_of names.now words.now }
 {
     match words {
         [word, subject] => win_about(
@@ -67,39 +65,38 @@ fn win_of(names: &NameSet, words: &[Name]) -> Result<WinLine, Code>
 }
 
 /// The win line of a line that isn't blank, or its fault. Rule `checks.wins`.
-fn read_win(alloc: Global, names: &NameSet, line: &Line) -> Result<WinLine, SourceFault>
-    ensures read { IfOk result (λ win. win_at names.now line.now ≡ Ok win) }
-    ensures refused { IfErr result (λ fault. fault.code ≢ code.Memory → win_at names.now line.now ≡ Err fault) }
-    ensures whole { IfErr result (λ fault. fault.code ≡ code.Memory → fault.line ≡ 0) }
+fn read_win(
+    alloc: Global,
+    names: &NameSet,
+    line: &Line,
+) -> Result<Result<WinLine, SourceFault>, AllocError>
+    ensures { IfOk result (λ win. win ≡ win_at names.now line.now) }
 {
     let words = names_of(alloc, line.text.items())?;
     match win_of(names, words.items()) {
-        Ok(win) => Ok(win),
-        Err(code) => Err(SourceFault {
+        Ok(win) => Ok(Ok(win)),
+        Err(code) => Ok(Err(SourceFault {
             code,
             line: line.number,
-        }),
+        })),
     }
 }
 
-/// The lines of WINCONDITIONS, or their first fault: `BadWin` (a line of another form) or `Unknown` (a name that is not there). `Memory`,
-/// with line 0, may come in place of any.
+/// The lines of WINCONDITIONS, or their first fault: `BadWin` (a line of another form) or `Unknown` (a name that is not there).
 pub fn read_wins(
     alloc: Global,
     names: &NameSet,
     lines: &[Line],
-) -> Result<Vec<WinLine>, SourceFault>
-    ensures read { IfOk result (λ wins. wins_of names.now lines.now ≡ Ok wins.items) }
-    ensures refused { IfErr result (λ fault. fault.code ≢ code.Memory → wins_of names.now lines.now ≡ Err fault) }
-    ensures whole { IfErr result (λ fault. fault.code ≡ code.Memory → fault.line ≡ 0) }
+) -> Result<Result<Vec<WinLine>, SourceFault>, AllocError>
+    ensures { IfOk result (λ read. and_then (λ wins. Ok wins.items) read ≡ wins_of names.now lines.now) }
 {
     let mut wins = Vec::new(alloc);
     for line in lines {
         if is_blank(line) {
             continue;
         }
-        let win = read_win(alloc, names, line)?;
+        let win = or_fault!(read_win(alloc, names, line)?);
         wins.push(win)?;
     }
-    Ok(wins)
+    Ok(Ok(wins))
 }

@@ -64,7 +64,10 @@ fn found_for(
     requires instance_of { IsInstanceOf game.now.layers instance.now }
 {
     match instance.left.items() {
-        [row, ..] => places(alloc, level, row, dir).map_err(|_| Fail::new("no places")),
+        [row, ..] => match places(alloc, level, row, dir) {
+            Ok(Ok(found)) => Ok(found),
+            Ok(Err(_)) | Err(_) => Err(Fail::new("no places")),
+        },
         _ => Err(Fail::new("no row")),
     }
 }

@@ -1,6 +1,7 @@
 //! The checks of a text: its length, and its headings.
 
-ghost use Rattle.std.specs.Prelude.{◌≡◌, ◌≢◌, IfOk, IfErr, IfSome, None, Ok, Err};
+ghost use Rattle.std.specs.Prelude.{◌≡◌, IfOk, IfErr, IfSome, None, Ok};
+ghost use Rattle.pz_base.specs.Fault.{and_then};
 ghost use Rattle.pz_text.specs.Check.{too_long, misplaced_heading, has_section, missing_section, lines_of};
 ghost use Rattle.pz_base.specs.declared.fault.Code.TheVariants as code;
 
@@ -9,7 +10,7 @@ use crate::cutting::cut;
 use crate::line::{Line, Section};
 use crate::section::{is_heading_of, place_of};
 use pz_base::fault::{Code, SourceFault};
-use std::alloc::Global;
+use std::alloc::{AllocError, Global};
 
 /// The most bytes that a source may have. Rule `limits.source`.
 pub const MOST_BYTES: usize = 1_048_576;
@@ -78,23 +79,21 @@ pub fn missing_section(lines: &[Line]) -> Option<SourceFault>
     }
 }
 
-/// The lines of a text, or its first fault: `TooLong`, then `Section`. `Memory`, with line 0, may come in place of `Section`.
-pub fn read_lines(alloc: Global, text: &str) -> Result<Vec<Line>, SourceFault>
-    ensures read { IfOk result (λ lines. lines_of text.now ≡ Ok lines.items) }
-    ensures refused { IfErr result (λ fault. fault.code ≢ code.Memory → lines_of text.now ≡ Err fault) }
-    ensures whole { IfErr result (λ fault. fault.code ≡ code.Memory → fault.line ≡ 0) }
-    ensures short { IfErr result (λ fault. fault.code ≡ code.Memory → too_long text.now ≡ None) }
+/// The lines of a text, or its first fault: `TooLong`, then `Section`. No memory is asked for where it is `TooLong`.
+pub fn read_lines(alloc: Global, text: &str) -> Result<Result<Vec<Line>, SourceFault>, AllocError>
+    ensures read { IfOk result (λ read. and_then (λ lines. Ok lines.items) read ≡ lines_of text.now) }
+    ensures short { IfErr result (λ _. too_long text.now ≡ None) }
 {
     if let Some(fault) = too_long(text) {
-        return Err(fault);
+        return Ok(Err(fault));
     }
     let characters = characters(alloc, text)?;
     let lines = cut(alloc, characters.as_slice())?;
     if let Some(fault) = misplaced_heading(lines.as_slice()) {
-        return Err(fault);
+        return Ok(Err(fault));
     }
     if let Some(fault) = missing_section(lines.as_slice()) {
-        return Err(fault);
+        return Ok(Err(fault));
     }
-    Ok(lines)
+    Ok(Ok(lines))
 }

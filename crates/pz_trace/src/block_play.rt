@@ -1,9 +1,10 @@
 //! A block in play, firing by firing.
 
-ghost use Rattle.std.specs.Prelude.{◌≡◌, ◌≢◌, ◌<◌, ◌≤◌, ◌+◌, Bool, Some, None, IfOk, IfErr, is_some, length, slice_get, true};
+ghost use Rattle.std.specs.Prelude.{◌≡◌, ◌<◌, ◌≤◌, ◌+◌, Bool, Some, None, IfOk, IfErr, is_some, length, slice_get, true};
 ghost use Rattle.pz_program.specs.Instance.{IsInstanceOf};
 ghost use Rattle.pz_sheet.specs.Grid.{Grid, SameSize};
-ghost use Rattle.pz_turn.specs.declared.outcome.StepFault.TheVariants.{LoopLimit, Memory};
+ghost use Rattle.pz_turn.specs.Outcome.{UnlessMemory};
+ghost use Rattle.pz_turn.specs.declared.outcome.StepFault.TheVariants.{LoopLimit};
 ghost use Rattle.pz_trace.specs.Firings.{Sequence, stopped, told_instance};
 ghost use Rattle.pz_trace.specs.FiringPlay.{IsAllowed, IsPlayed, Yields, YieldsOrNot, behind_group_at, behind_instance_at, behind_pass_at, behind_round_at, ends_left, goes_round, left, left_in, setting_of};
 
@@ -71,11 +72,11 @@ impl<'a> BlockPlay<'a> {
     /// Applies an instance, which is the next one.
     fn apply(&mut self, instance: &Instance) -> Result<Option<Firing>, StepFault>
         requires of_game { IsInstanceOf self.old.level.grid.layers instance.now }
-        ensures firing { IfOk result (λ firing. YieldsOrNot
+        ensures firing { UnlessMemory result
+            (λ firing. YieldsOrNot
             (λ later. told_instance self.old.rules.now self.old.spot.moment instance.now
-            later self.old.level.grid) firing self.new.level.grid) }
-        ensures fault { IfErr result
-            (λ fault. fault ≢ Memory → (later : Bool → Grid → Sequence) →
+            later self.old.level.grid) firing self.new.level.grid)
+            (λ fault. (later : Bool → Grid → Sequence) →
             told_instance self.old.rules.now self.old.spot.moment instance.now later self.old.level.grid ≡
             stopped fault) }
         ensures setting { setting_of self.new ≡ setting_of self.old }
@@ -98,16 +99,16 @@ impl<'a> BlockPlay<'a> {
     fn next_in_pass(&mut self, group: &Group) -> Result<Option<Firing>, StepFault>
         requires played { IsPlayed self.old }
         requires group { slice_get self.old.groups.now self.old.spot.moment.group ≡ Some group.now }
-        ensures firing { IfOk result
+        ensures firing { UnlessMemory result
             (λ firing. is_some firing ≡ true →
-            Yields (left_in self.old) firing self.new.level.grid (left_in self.new)) }
+            Yields (left_in self.old) firing self.new.level.grid (left_in self.new))
+            (λ fault. left_in self.old ≡ stopped fault) }
         ensures none { IfOk result (λ firing. firing ≡ None → left_in self.new ≡ left_in self.old) }
         ensures group { IfOk result
             (λ firing. firing ≡ None → self.new.spot.moment.group ≡ self.old.spot.moment.group) }
         ensures fewer { IfOk result
             (λ firing. firing ≡ None → (length group.now ≤ self.new.spot.moment.instance) ×
             (ends_left (setting_of self.new) self.new.spot ≡ ends_left (setting_of self.old) self.old.spot)) }
-        ensures fault { IfErr result (λ fault. fault ≢ Memory → left_in self.old ≡ stopped fault) }
         ensures setting { setting_of self.new ≡ setting_of self.old }
         ensures played { IsPlayed self.new }
         ensures size { SameSize self.old.level.grid self.new.level.grid }
@@ -219,9 +220,9 @@ impl<'a> BlockPlay<'a> {
     /// The next firing, or `None` after the last. Err: why there is none. Rule `stages.firings`.
     pub fn advance(&mut self) -> Result<Option<Firing>, StepFault>
         requires played { IsPlayed self.old }
-        ensures firing { IfOk result
-            (λ firing. Yields (left_in self.old) firing self.new.level.grid (left_in self.new)) }
-        ensures fault { IfErr result (λ fault. fault ≢ Memory → left_in self.old ≡ stopped fault) }
+        ensures firing { UnlessMemory result
+            (λ firing. Yields (left_in self.old) firing self.new.level.grid (left_in self.new))
+            (λ fault. left_in self.old ≡ stopped fault) }
         ensures played { IsPlayed self.new }
         ensures size { SameSize self.old.level.grid self.new.level.grid }
     {

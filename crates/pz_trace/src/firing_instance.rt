@@ -1,12 +1,12 @@
 //! An instance, applied with the places told at which it changes a cell.
 
-ghost use Rattle.std.specs.Prelude.{◌≡◌, ◌≢◌, ◌≤◌, ◌<◌, ◌+◌, ◌++◌, ◌∷◌, [], false, Ok, Err, IfOk, IfErr, OnOk, length, drop, map, fold};
+ghost use Rattle.std.specs.Prelude.{◌≡◌, ◌≤◌, ◌<◌, ◌+◌, ◌++◌, ◌∷◌, [], false, IfOk, OnOk, length, drop, map, fold};
 ghost use Rattle.pz_program.specs.Instance.{IsInstanceOf};
 ghost use Rattle.pz_sheet.specs.Grid.{SameSize};
 ghost use Rattle.pz_grid.specs.Rewriting.{in_rewrite};
 ghost use Rattle.pz_turn.specs.Combinations.{combinations};
 ghost use Rattle.pz_turn.specs.Applying.{applied_at};
-ghost use Rattle.pz_turn.specs.declared.outcome.StepFault.TheVariants.{Memory};
+ghost use Rattle.pz_turn.specs.Outcome.{Gives};
 ghost use Rattle.pz_trace.specs.Firings.{fired, fired_at};
 
 use crate::firing::Places;
@@ -105,9 +105,8 @@ pub(crate) fn fire(
     instance: &Instance,
 ) -> Result<Vec<Places>, StepFault>
     requires of_game { IsInstanceOf level.old.grid.layers instance.now }
-    ensures fired { IfOk result
-        (λ places. fired instance.now level.old.grid ≡ Ok (record { level = level.new.grid; places = places.items })) }
-    ensures fault { IfErr result (λ fault. fault ≢ Memory → fired instance.now level.old.grid ≡ Err fault) }
+    ensures fired { Gives (fired instance.now level.old.grid)
+        (λ places. record { level = level.new.grid; places = places.items }) result }
     ensures size { SameSize level.old.grid level.new.grid }
 {
     let found = take_places(alloc, level, instance)?;
@@ -117,8 +116,6 @@ pub(crate) fn fire(
     if combination_count(&lists) > COMBINATION_LIMIT {
         return Err(StepFault::MatchLimit);
     }
-    match fire_lists(alloc, level, instance, &lists) {
-        Ok(told) => Ok(told),
-        Err(_) => Err(StepFault::Memory),
-    }
+    let told = fire_lists(alloc, level, instance, &lists)?;
+    Ok(told)
 }

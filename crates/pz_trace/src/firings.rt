@@ -1,9 +1,9 @@
 //! The firings of a block, one by one.
 
-ghost use Rattle.std.specs.Prelude.{◌≡◌, ◌≢◌, IfOk, IfErr};
+ghost use Rattle.std.specs.Prelude.{◌≡◌, IfOk, IfErr};
 ghost use Rattle.pz_program.specs.Instance.{IsBlockOf};
 ghost use Rattle.pz_sheet.specs.Grid.{IsOfGame, SameSize};
-ghost use Rattle.pz_turn.specs.declared.outcome.StepFault.TheVariants.{Memory};
+ghost use Rattle.pz_turn.specs.Outcome.{UnlessMemory};
 ghost use Rattle.pz_trace.specs.Firings.{firings_of, stopped};
 ghost use Rattle.pz_trace.specs.FiringPlay.{Yields, first_spot, is_loop};
 ghost use Rattle.pz_trace.specs.SourceLines.{groups_of};
@@ -92,7 +92,7 @@ impl<'a> Firings<'a> {
         ensures { IfOk result (λ firings. firings ≡
             record { level = level.now.grid; sequence = firings_of game.now.rules block.now level.now.grid }) }
     {
-        let copy = level.copied()?;
+        let copy = level.copy()?;
         Ok(Firings {
             play: BlockPlay {
                 alloc,
@@ -116,9 +116,10 @@ impl<'a> Firings<'a> {
     /// The next firing, or `None` after the last. `LoopLimit` and `MatchLimit`: the block stops behind the firings so far. After a fault every
     /// later call gives it again.
     pub fn next(&mut self) -> Result<Option<Firing>, StepFault>
-        ensures firing { IfOk result (λ firing. Yields self.old.sequence firing self.new.level self.new.sequence) }
+        ensures firing { UnlessMemory result
+            (λ firing. Yields self.old.sequence firing self.new.level self.new.sequence)
+            (λ fault. self.old.sequence ≡ stopped fault) }
         ensures size { SameSize self.old.level self.new.level }
-        ensures fault { IfErr result (λ fault. fault ≢ Memory → self.old.sequence ≡ stopped fault) }
         ensures stays { IfErr result (λ fault. self.new.sequence ≡ stopped fault) }
     {
         if let Some(fault) = self.stop {

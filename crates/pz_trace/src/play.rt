@@ -1,15 +1,14 @@
 //! A step in play, stage by stage.
 
-ghost use Rattle.std.specs.Prelude.{◌≡◌, ◌≢◌, not, IfOk, IfErr};
+ghost use Rattle.std.specs.Prelude.{◌≡◌, not, Err, IfOk};
 ghost use Rattle.pz_game.specs.Game.{players_of};
 ghost use Rattle.pz_program.specs.Commands.{either};
 ghost use Rattle.pz_program.specs.Instance.{IsBlockOf};
 ghost use Rattle.pz_sheet.specs.Grid.{IsOfGame, SameSize};
 ghost use Rattle.pz_sheet.specs.Sameness.{same_grid};
 ghost use Rattle.pz_grid.specs.Movement.{resolved};
-ghost use Rattle.pz_turn.specs.Outcome.{GivesBoth};
+ghost use Rattle.pz_turn.specs.Outcome.{GivesBoth, UnlessMemory};
 ghost use Rattle.pz_turn.specs.Step.{block_runs, ended, given_input};
-ghost use Rattle.pz_turn.specs.declared.outcome.StepFault.TheVariants.{Memory};
 
 use crate::stage::{Part, Stage};
 use bitflags::Flags;
@@ -20,7 +19,7 @@ use pz_program::commands::{Commands, either};
 use pz_program::instance::{Block, Program};
 use pz_turn::stepping::{must_cancel, with_cancel};
 use pz_turn::{StepFault, rest, rest_loop};
-use std::alloc::Global;
+use std::alloc::{AllocError, Global};
 
 /// Gives the input to the level: a press its direction to the player, a tick none. Whether the level differs then.
 fn give_input(game: &Game, level: &mut Level, before: &Level, input: Option<Dir>) -> bool
@@ -37,20 +36,15 @@ fn give_input(game: &Game, level: &mut Level, before: &Level, input: Option<Dir>
 }
 
 /// Moves what heads somewhere. Whether the level differs then.
-fn move_all(game: &Game, level: &mut Level) -> Result<bool, StepFault>
+fn move_all(game: &Game, level: &mut Level) -> Result<bool, AllocError>
     requires level_of { IsOfGame game.now level.old.grid }
     ensures moved { IfOk result (λ changed. level.new.grid ≡ resolved level.old.grid) }
     ensures changed { IfOk result (λ changed. changed ≡ not (same_grid level.new.grid level.old.grid)) }
-    ensures fault { IfErr result (λ fault. fault ≡ Memory) }
     ensures size { SameSize level.old.grid level.new.grid }
 {
-    match level.copy() {
-        Ok(before) => {
-            resolve(game, level);
-            Ok(!level.same(&before))
-        }
-        Err(_) => Err(StepFault::Memory),
-    }
+    let before = level.copy()?;
+    resolve(game, level);
+    Ok(!level.same(&before))
 }
 
 /// Runs a block to rest.
@@ -73,21 +67,18 @@ fn run_block(
 }
 
 /// Leaves the level that a step ends with: the one before it, if the step is cancelled. Whether it differs from the one before.
-fn end_level(before: &Level, level: &mut Level, commands: Commands) -> Result<bool, StepFault>
+fn end_level(before: &Level, level: &mut Level, commands: Commands) -> Result<bool, AllocError>
     requires size { SameSize before.now.grid level.old.grid }
     ensures end { IfOk result
         (λ changed. ended before.now.grid level.old.grid commands ≡
         record { level = level.new.grid; commands = commands; changed = changed }) }
-    ensures fault { IfErr result (λ fault. fault ≡ Memory) }
     ensures size { SameSize before.now.grid level.new.grid }
 {
     if !commands.contains(Commands::CANCEL) {
         return Ok(!level.same(before));
     }
-    match level.copy_from(before) {
-        Ok(()) => Ok(false),
-        Err(_) => Err(StepFault::Memory),
-    }
+    level.copy_from(before)?;
+    Ok(false)
 }
 
 /// What comes next.
@@ -170,15 +161,15 @@ impl<'a> Play<'a> {
     fn block(&mut self, part: Part, block: &Block, next: Phase) -> Result<Stage, StepFault>
         requires block_of { IsBlockOf self.old.game.now.layers block.now }
         requires traced { IsTraced self.old }
-        ensures stage { IfOk result
+        ensures stage { UnlessMemory result
             (λ stage. (later : Standing → Course) →
             going_on part (standing_in self.old) later (block_runs block.now self.old.level.grid) ≡
-            preceded (with_level stage self.new.level.grid) (later (standing_in self.new))) }
+            preceded (with_level stage self.new.level.grid) (later (standing_in self.new)))
+            (λ fault. block_runs block.now self.old.level.grid ≡ Err fault) }
         ensures phase { IfOk result (λ stage. self.new.phase ≡ next) }
         ensures asked { asked_in self.new ≡ asked_in self.old }
         ensures before { self.new.before.now ≡ self.old.before.now }
         ensures traced { IsTraced self.new }
-        ensures fault { IfErr result (λ fault. fault ≢ Memory → block_runs block.now self.old.level.grid ≡ Err fault) }
     {
         let (commands, changed) = run_block(self.alloc, self.game, block, &mut self.level)?;
         self.phase = next;
@@ -186,14 +177,13 @@ impl<'a> Play<'a> {
     }
 
     /// The movement's stage. Rule `stages.movement`.
-    fn movement(&mut self) -> Result<Stage, StepFault>
+    fn movement(&mut self) -> Result<Stage, AllocError>
         requires traced { IsTraced self.old }
         ensures stage { IfOk result
             (λ stage. movement_from (asked_in self.old) (standing_in self.old) ≡
             preceded (with_level stage self.new.level.grid) (left self.new)) }
         ensures before { self.new.before.now ≡ self.old.before.now }
         ensures traced { IsTraced self.new }
-        ensures fault { IfErr result (λ fault. fault ≡ Memory) }
     {
         let changed = move_all(self.game, &mut self.level)?;
         self.phase = Phase::Late(0);
@@ -201,14 +191,13 @@ impl<'a> Play<'a> {
     }
 
     /// The last stage. Rule `stages.end`.
-    fn end(&mut self) -> Result<Stage, StepFault>
+    fn end(&mut self) -> Result<Stage, AllocError>
         requires traced { IsTraced self.old }
         ensures stage { IfOk result
             (λ stage. end_from (asked_in self.old) (standing_in self.old) ≡
             preceded (with_level stage self.new.level.grid) (left self.new)) }
         ensures before { self.new.before.now ≡ self.old.before.now }
         ensures traced { IsTraced self.new }
-        ensures fault { IfErr result (λ fault. fault ≡ Memory) }
     {
         let cancelled = must_cancel(self.game, self.input, self.before, &self.level);
         let commands = with_cancel(cancelled, self.commands);
@@ -224,10 +213,11 @@ impl<'a> Play<'a> {
     /// The next stage, or `None` after the end. Err: why there is none.
     pub fn advance(&mut self) -> Result<Option<Stage>, StepFault>
         requires traced { IsTraced self.old }
-        ensures stage { IfOk result (λ stage. Yields (left self.old) stage self.new.level.grid (left self.new)) }
+        ensures stage { UnlessMemory result
+            (λ stage. Yields (left self.old) stage self.new.level.grid (left self.new))
+            (λ fault. left self.old ≡ stopped fault) }
         ensures before { self.new.before.now ≡ self.old.before.now }
         ensures traced { IsTraced self.new }
-        ensures fault { IfErr result (λ fault. fault ≢ Memory → left self.old ≡ stopped fault) }
     {
         let program = self.program;
         match self.phase {

@@ -1,9 +1,9 @@
 //! The stages of a step, one by one.
 
-ghost use Rattle.std.specs.Prelude.{◌≡◌, ◌≢◌, IfOk, IfErr};
+ghost use Rattle.std.specs.Prelude.{◌≡◌, IfOk, IfErr};
 ghost use Rattle.pz_program.specs.Instance.{IsProgramOf};
 ghost use Rattle.pz_sheet.specs.Grid.{IsOfGame, SameSize};
-ghost use Rattle.pz_turn.specs.declared.outcome.StepFault.TheVariants.{Memory};
+ghost use Rattle.pz_turn.specs.Outcome.{UnlessMemory};
 ghost use Rattle.pz_trace.specs.Stages.{stages_of};
 
 use crate::play::{Phase, Play};
@@ -62,7 +62,7 @@ impl<'a> Tracing<'a> {
           course = stages_of game.now program.now level.now.grid input;
         }) }
     {
-        let copy = level.copied()?;
+        let copy = level.copy()?;
         Ok(Tracing {
             play: Play {
                 alloc,
@@ -88,9 +88,10 @@ impl<'a> Tracing<'a> {
     /// The next stage, or `None` after the end. `LoopLimit` and `MatchLimit`: the step stops behind the stages so far. After a fault every
     /// later call gives it again. Rule `stages.stop`.
     pub fn next(&mut self) -> Result<Option<Stage>, StepFault>
-        ensures stage { IfOk result (λ stage. Yields self.old.course stage self.new.level self.new.course) }
+        ensures stage { UnlessMemory result
+            (λ stage. Yields self.old.course stage self.new.level self.new.course)
+            (λ fault. self.old.course ≡ stopped fault) }
         ensures grid { self.new.grid ≡ self.old.grid }
-        ensures fault { IfErr result (λ fault. fault ≢ Memory → self.old.course ≡ stopped fault) }
         ensures stays { IfErr result (λ fault. self.new.course ≡ stopped fault) }
     {
         match self.play.advance() {

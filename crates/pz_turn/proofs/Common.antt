@@ -8,7 +8,7 @@ pub use Rattle.std.proofs.lemmas.List.Elements.{All-cons, All-drop, All-head, Al
 pub use Rattle.std.proofs.lemmas.List.Folds.{fold_stays}
 pub use Rattle.std.proofs.lemmas.List.FromFn.{get_or-map-range_with_len, get_or-range_with_len, length-map-range_with_len, length-range_with_len}
 pub use Rattle.std.proofs.lemmas.List.{append-nil, at_drop_more, drop-drop, drop_all, drop_at, drop_more, ext_get_or, get_or-drop, get_or_default, length-drop, length-map, length-set, map-append, nil_from_length, set-get_or, take-append-drop, take_all, take_at, take_more}
-pub use Rattle.std.proofs.lemmas.Result.{IfOk-weaker, err_from_is_err_and}
+pub use Rattle.std.proofs.lemmas.Result.{err_from_is_err_and}
 pub use Rattle.std.specs.List.{All, enumerate_from, find, flat_map, list_all, list_any, range_with_len, zip}
 pub use Rattle.std.specs.Prelude.{IfOk, codes}
 pub use Rattle.pz_cells.proofs.SameLemmas.{same_cell_is, same_cell_self}

@@ -30,13 +30,19 @@ abbrev pub followed_by : {L : Type 0} → Result (Outcome L) StepFault → (L �
 followed_by (Err fault) run = Err fault
 followed_by (Ok first) run = joined first (run first.level)
 
--- a call that leaves `level` answers this outcome or stop, unless memory was refused
+-- P of what a call answers, or Q of its stop: want of memory, which is no stop of the language, says nothing
+abbrev pub UnlessMemory : {X : Type 0} → Result X StepFault → (X → Type 0) → (StepFault → Type 0) → Type 0
+UnlessMemory (Ok answer) P Q = P answer
+UnlessMemory (Err fault) P Q = fault ≢ Memory → Q fault
+
+-- a call answers what a definition gives, seen so, or the definition's stop
+abbrev pub Gives : {A X : Type 0} → Result A StepFault → (X → A) → Result X StepFault → Type 0
+Gives given view result = UnlessMemory result (λ answer. given ≡ Ok (view answer)) (λ fault. given ≡ Err fault)
+
+-- a call that leaves `level` answers this outcome
 abbrev pub GivesOutcome : {L : Type 0} → Result (Outcome L) StepFault → L → Result Given StepFault → Type 0
-GivesOutcome outcome level (Ok given) =
-    outcome ≡ Ok (record { level = level; commands = given.commands; changed = given.changed })
-GivesOutcome outcome level (Err fault) = fault ≢ Memory → outcome ≡ Err fault
+GivesOutcome outcome level = Gives outcome (λ given. record { level = level; commands = given.commands; changed = given.changed })
 
 -- the same of a call that answers the commands and whether something changed as a pair
 abbrev pub GivesBoth : {L : Type 0} → Result (Outcome L) StepFault → L → Result (Commands × Bool) StepFault → Type 0
-GivesBoth outcome level (Ok (commands, changed)) = outcome ≡ Ok (record { level = level; commands = commands; changed = changed })
-GivesBoth outcome level (Err fault) = fault ≢ Memory → outcome ≡ Err fault
+GivesBoth outcome level = Gives outcome (λ both. record { level = level; commands = both.0; changed = both.1 })

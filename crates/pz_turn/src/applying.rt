@@ -1,6 +1,6 @@
 //! An instance of a rule, applied at each combination of places of its rows.
 
-ghost use Rattle.std.specs.Prelude.{◌≡◌, ◌≢◌, ◌≤◌, ◌<◌, ◌+◌, ◌*◌, ◌++◌, ◌∷◌, IfOk, IfErr, Ok, Err, MatchOption, true, false, [], length, drop, map, fold, min};
+ghost use Rattle.std.specs.Prelude.{◌≡◌, ◌≤◌, ◌<◌, ◌+◌, ◌*◌, ◌++◌, ◌∷◌, IfOk, Ok, Err, MatchOption, true, false, [], length, drop, map, fold, min};
 ghost use Rattle.pz_game.specs.declared.direction.Dir.{Dir};
 ghost use Rattle.pz_program.specs.Instance.{IsInstanceOf};
 ghost use Rattle.pz_game.specs.Pattern.{IsRowOf, AreRowsOf};
@@ -10,8 +10,7 @@ ghost use Rattle.pz_grid.specs.Rewriting.{in_rewrite};
 ghost use Rattle.pz_turn.specs.Calm.{IsCalm};
 ghost use Rattle.pz_turn.specs.Combinations.{combinations};
 ghost use Rattle.pz_turn.specs.Applying.{found_or_stop, places_of_rows, applied_at, applied, given_commands, HasNoEffect};
-ghost use Rattle.pz_turn.specs.Outcome.{GivesOutcome, untouched};
-ghost use Rattle.pz_turn.specs.declared.outcome.StepFault.TheVariants.{Memory};
+ghost use Rattle.pz_turn.specs.Outcome.{Gives, GivesOutcome, UnlessMemory, untouched};
 
 use crate::one_cell::{cells_of, rewrite_each};
 use crate::outcome::{Given, StepFault};
@@ -24,7 +23,7 @@ use pz_grid::Level;
 use pz_grid::placing::{GridFault, Place, places, still_matches};
 use pz_program::commands::Commands;
 use pz_program::instance::Instance;
-use std::alloc::Global;
+use std::alloc::{AllocError, Global};
 use std::slice;
 
 /// The most combinations that an instance may have. Rule `limits.combinations`.
@@ -43,7 +42,6 @@ impl From<GridFault> for StepFault {
 
     fn from(fault: GridFault) -> StepFault {
         match fault {
-            GridFault::Memory => StepFault::Memory,
             GridFault::MatchLimit => StepFault::MatchLimit,
         }
     }
@@ -52,11 +50,9 @@ impl From<GridFault> for StepFault {
 /// The places of a row, unless there are too many. Rule `match.limit`.
 fn search(alloc: Global, level: &Level, row: &Row, dir: Dir) -> Result<Listed<Place>, StepFault>
     requires of_game { IsRowOf level.now.grid.layers row.now }
-    ensures found { IfOk result (λ found. found_or_stop (searched level.now.grid row.now dir) ≡ Ok found) }
-    ensures fault { IfErr result
-        (λ fault. fault ≢ Memory → found_or_stop (searched level.now.grid row.now dir) ≡ Err fault) }
+    ensures { Gives (found_or_stop (searched level.now.grid row.now dir)) (λ found. found) result }
 {
-    let found = places(alloc, level, row, dir)?;
+    let found = places(alloc, level, row, dir)??;
     Ok(Listed::new(found))
 }
 
@@ -120,11 +116,10 @@ pub fn take_places(
     instance: &Instance,
 ) -> Result<Option<Vec<Listed<Place>>>, StepFault>
     requires of_game { AreRowsOf level.now.grid.layers instance.now.left }
-    ensures taken { IfOk result
+    ensures { UnlessMemory result
         (λ found. MatchOption found (applied instance.now level.now.grid ≡ Ok (untouched level.now.grid))
-        (λ lists. places_of_rows level.now.grid instance.now.scan instance.now.left ≡ Ok lists.items)) }
-    ensures fault { IfErr result
-        (λ fault. fault ≢ Memory → places_of_rows level.now.grid instance.now.scan instance.now.left ≡ Err fault) }
+        (λ lists. places_of_rows level.now.grid instance.now.scan instance.now.left ≡ Ok lists.items))
+        (λ fault. places_of_rows level.now.grid instance.now.scan instance.now.left ≡ Err fault) }
 {
     let mut lists = Vec::new(alloc);
     for row in instance.left.items() {
@@ -132,9 +127,7 @@ pub fn take_places(
         if found.items().is_empty() {
             return Ok(None);
         }
-        if lists.push(found).is_err() {
-            return Err(StepFault::Memory);
-        }
+        lists.push(found)?;
     }
     Ok(Some(lists))
 }
@@ -196,14 +189,10 @@ fn apply_all(
 }
 
 /// Room for a place of each row.
-fn room_for(alloc: Global, rows: usize) -> Result<Vec<Place>, StepFault>
-    ensures length { IfOk result (λ places. length places.items ≡ rows) }
-    ensures fault { IfErr result (λ fault. fault ≡ Memory) }
+fn room_for(alloc: Global, rows: usize) -> Result<Vec<Place>, AllocError>
+    ensures { IfOk result (λ places. length places.items ≡ rows) }
 {
-    match vec![in alloc; Place { x: 0, y: 0, gap: 0 }; rows] {
-        Ok(places) => Ok(places),
-        Err(_) => Err(StepFault::Memory),
-    }
+    vec![in alloc; Place { x: 0, y: 0, gap: 0 }; rows]
 }
 
 /// The commands of an instance, if it has a combination. Rule `match.commands`.

@@ -2,9 +2,11 @@
 
 ghost use Rattle.std.specs.Prelude.{◌≡◌, ◌||◌, false};
 ghost use Rattle.pz_program.specs.Commands.{no_commands, either};
+ghost use Rattle.pz_turn.specs.declared.outcome.StepFault.TheVariants.{Memory};
 
 use bitflags::Flags;
 use pz_program::commands::{Commands, either};
+use std::alloc::{AllocError, AllocFailed};
 
 /// Why a run of rules ended early. `Memory`: memory was refused. `LoopLimit`: the last allowed pass of a group or a loop still changed
 /// something. `MatchLimit`: a row has too many places, or an instance too many combinations.
@@ -13,6 +15,22 @@ pub enum StepFault {
     Memory,
     LoopLimit,
     MatchLimit,
+}
+
+impl From<AllocError> for StepFault {
+    ghost from_gives = { λ _ fault. fault ≡ Memory };
+
+    fn from(_: AllocError) -> StepFault {
+        StepFault::Memory
+    }
+}
+
+impl<T: Drop> From<AllocFailed<T>> for StepFault {
+    ghost from_gives = { λ _ fault. fault ≡ Memory };
+
+    fn from(_: AllocFailed<T>) -> StepFault {
+        StepFault::Memory
+    }
 }
 
 /// What a run of rules gave: its commands, and whether some rewriting changed a cell. `calm`: it is known that the same run, on the level

@@ -1,14 +1,13 @@
 //! Groups of instances, run to rest: passes repeat up to the first that changes nothing.
 
-ghost use Rattle.std.specs.Prelude.{◌≡◌, ◌≢◌, Result, Ok, Err, IfOk, IfErr, All, take, cond, true, false};
+ghost use Rattle.std.specs.Prelude.{◌≡◌, Result, Ok, IfOk, All, take, cond, true, false};
 ghost use Rattle.pz_program.specs.Instance.{IsGroupOf};
 ghost use Rattle.pz_sheet.specs.Grid.{Grid, IsLawful, IsOfGame, SameSize};
 ghost use Rattle.pz_turn.specs.Calm.{AreCalmFrom, IsCalm};
 ghost use Rattle.pz_turn.specs.Applying.{applied};
-ghost use Rattle.pz_turn.specs.Outcome.{Outcome, GivesOutcome, GivesBoth};
+ghost use Rattle.pz_turn.specs.Outcome.{Outcome, GivesOutcome, GivesBoth, UnlessMemory};
 ghost use Rattle.pz_turn.specs.Rest.{pass_of, rest_of};
 ghost use Rattle.pz_turn.specs.declared.outcome.StepFault.{StepFault};
-ghost use Rattle.pz_turn.specs.declared.outcome.StepFault.TheVariants.{Memory};
 
 use crate::group::rest_group;
 use crate::outcome::{Given, StepFault};
@@ -88,12 +87,11 @@ fn pass_after<T: Runnable>(
     calm_from: usize,
 ) -> Result<Passed, StepFault>
     requires of_game { All (T.is_of level.old.grid.layers whole.now) items.now }
-    ensures outcome { IfOk result
+    ensures outcome { UnlessMemory result
         (λ passed. pass_of (T.runs whole.now)
         (cond passed.given.changed items.now (take calm_from items.now)) level.old.grid ≡
-        Ok (record { level = level.new.grid; commands = passed.given.commands; changed = passed.given.changed })) }
-    ensures fault { IfErr result
-        (λ fault. fault ≢ Memory → pass_of (T.runs whole.now) items.now level.old.grid ≡ Err fault) }
+        Ok (record { level = level.new.grid; commands = passed.given.commands; changed = passed.given.changed }))
+        (λ fault. pass_of (T.runs whole.now) items.now level.old.grid ≡ Err fault) }
     ensures kept { IfOk result (λ passed. passed.given.changed ≡ false → level.new.grid ≡ level.old.grid) }
     ensures calm { IfOk result
         (λ passed. passed.given.changed ≡ true →

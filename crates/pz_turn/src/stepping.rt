@@ -19,7 +19,7 @@ use pz_game::game::Game;
 use pz_grid::{Level, push_players, resolve};
 use pz_program::commands::Commands;
 use pz_program::instance::{Block, Program};
-use std::alloc::Global;
+use std::alloc::{AllocError, Global};
 
 /// How a step ends: the level after it, the commands that it gave, and whether that level differs from the one before.
 #[derive(Drop)]
@@ -66,28 +66,21 @@ fn run_rules(
 }
 
 /// A copy of the level, in the memory of a spare one.
-fn renewed(level: &Level, spare: Level) -> Result<Level, StepFault>
-    ensures copied { IfOk result (λ copy. copy.grid ≡ level.now.grid) }
-    ensures fault { IfErr result (λ fault. fault ≡ Memory) }
+fn renewed(level: &Level, spare: Level) -> Result<Level, AllocError>
+    ensures { IfOk result (λ copy. copy.grid ≡ level.now.grid) }
 {
     let mut copy = spare;
-    match copy.copy_from(level) {
-        Ok(()) => Ok(copy),
-        Err(_) => Err(StepFault::Memory),
-    }
+    copy.copy_from(level)?;
+    Ok(copy)
 }
 
 /// A copy of the level, in the memory of a spare one if there is one.
-fn copy_in(level: &Level, spare: Option<Level>) -> Result<Level, StepFault>
-    ensures copied { IfOk result (λ copy. copy.grid ≡ level.now.grid) }
-    ensures fault { IfErr result (λ fault. fault ≡ Memory) }
+fn copy_in(level: &Level, spare: Option<Level>) -> Result<Level, AllocError>
+    ensures { IfOk result (λ copy. copy.grid ≡ level.now.grid) }
 {
     match spare {
         Some(spare) => renewed(level, spare),
-        None => match level.copy() {
-            Ok(copy) => Ok(copy),
-            Err(_) => Err(StepFault::Memory),
-        },
+        None => level.copy(),
     }
 }
 
@@ -97,22 +90,17 @@ fn with_input(
     level: &Level,
     spare: Option<Level>,
     input: Option<Dir>,
-) -> Result<Level, StepFault>
+) -> Result<Level, AllocError>
     requires level_of { IsOfGame game.now level.now.grid }
     ensures given { IfOk result (λ copy. copy.grid ≡ given_input (players_of game.now) input level.now.grid) }
     ensures size { IfOk result (λ copy. SameSize level.now.grid copy.grid) }
-    ensures fault { IfErr result (λ fault. fault ≡ Memory) }
 {
-    match copy_in(level, spare) {
-        Ok(mut copy) => {
-            match input {
-                Some(dir) => push_players(game, &mut copy, dir),
-                None => {}
-            }
-            Ok(copy)
-        }
-        Err(fault) => Err(fault),
+    let mut copy = copy_in(level, spare)?;
+    match input {
+        Some(dir) => push_players(game, &mut copy, dir),
+        None => {}
     }
+    Ok(copy)
 }
 
 fn some_player(players: &[usize], level: &Level) -> bool
@@ -173,34 +161,30 @@ pub fn with_cancel(cancelled: bool, commands: Commands) -> Commands
 }
 
 /// How a step ends that leads from one level to another. A cancelled step ends with the level before it. Rule `play.cancel`.
-fn end_of(before: &Level, after: Level, commands: Commands) -> Result<StepEnd, StepFault>
+fn end_of(before: &Level, after: Level, commands: Commands) -> Result<StepEnd, AllocError>
     requires size { SameSize before.now.grid after.grid }
     ensures end { IfOk result
         (λ end. ended before.now.grid after.grid commands ≡
         record { level = end.level.grid; commands = end.commands; changed = end.changed }) }
     ensures size { IfOk result (λ end. SameSize before.now.grid end.level.grid) }
     ensures lawful { IfOk result (λ end. IsLawful end.level.grid) }
-    ensures fault { IfErr result (λ fault. fault ≡ Memory) }
 {
     // (brings the proof the law of both levels)
     let _ = (before.width(), after.width());
     if commands.contains(Commands::CANCEL) {
-        match renewed(before, after) {
-            Ok(level) => Ok(StepEnd {
-                level,
-                commands,
-                changed: false,
-            }),
-            Err(fault) => Err(fault),
-        }
-    } else {
-        let changed = !after.same(before);
-        Ok(StepEnd {
-            level: after,
+        let level = renewed(before, after)?;
+        return Ok(StepEnd {
+            level,
             commands,
-            changed,
-        })
+            changed: false,
+        });
     }
+    let changed = !after.same(before);
+    Ok(StepEnd {
+        level: after,
+        commands,
+        changed,
+    })
 }
 
 /// Plays a step as `step` does, in the memory of a spare level if there is one. What the spare level held is lost. Rule `step.stop`.
@@ -225,7 +209,8 @@ pub fn step_in(
     let mut work = with_input(game, level, spare, input)?;
     let given = run_rules(alloc, game, &mut work, program)?;
     let cancelled = must_cancel(game, input, level, &work);
-    end_of(level, work, with_cancel(cancelled, given.commands))
+    let end = end_of(level, work, with_cancel(cancelled, given.commands))?;
+    Ok(end)
 }
 
 /// Plays a step of a game from a level: a press with its direction, or a tick (`None`). The level passed in is never changed. If a rule

@@ -1,5 +1,4 @@
 use Rattle.std.proofs.Common.{◌≡◌, ◌∙◌, ap, sym, subst, refl, codes, map, string_bytes, true, List, [], ◌∷◌, Option, None, inl, inr}
-use Rattle.std.proofs.lemmas.Result.{IfOk-weaker, IfErr-weaker}
 use Rattle.clap.specs.Words.{App, Kinds, IsAmong, kind_of, Text, fault_of, found_of, first_value, first_of, is_simple, is_simple_and_free, matches_of, rows_of}
 use Rattle.clap.proofs.WalkLemmas.{first_value-rows}
 use Rattle.clap.specs.declared.error.kind.ErrorKind.{ErrorKind}
@@ -32,7 +31,7 @@ returns-in-Err-clause-refused c = λ other.
     let words = map string_bytes c.args.words.now in
     let made = c.in-Ok.ensures in
     elim (c.in-Err.ensures.kinds (ap is_simple_and_free made ∙ free)) [
-      | inl memory ↦ absurd (c.refused.ensures other memory)
+      | inl memory ↦ absurd (other (c.refused.ensures.1 memory))
       | inr among ↦ refused words _ (subst (λ (a : App). IsAmong (kind_of c.in-Err.error) (fault_of a words)) made among)
     ]
 
@@ -44,16 +43,16 @@ choice_found words made found is rows none =
     let value : (id : Text) → first_value found id ≡ first_of id (matches_of command words) = λ id. first_value-rows found id ∙ ap (first_of id) here in
     rw (value (codes "workers"), value (codes "order"), value (codes "file")) (sym (taken words (sym (ap (λ (a : App). fault_of a words) is) ∙ none)))
 
-pub returns-clause-chosen : goal.returns-clause-chosen
-returns-clause-chosen c =
+pub returns-in-Ok-Some-clause-chosen : goal.returns-in-Ok-Some-clause-chosen
+returns-in-Ok-Some-clause-chosen c =
     let parse = c.in-Ok-try_get_matches_from.ensures in
     let made = c.in-Ok.ensures in
     let is = choice_found _ _ (found_of c.in-Ok-try_get_matches_from.matches) made (parse.matches (ap is_simple made ∙ simple)).0 (parse.kinds (ap is_simple_and_free made ∙ free)) in
-    IfOk-weaker c.choose.result _ _ (λ x h. sym is ∙ h) c.choose.ensures.chosen
+    sym is ∙ sym c.in-Ok-Some.ensures.chosen ∙ c.in-Ok-Some.field-0-is
 
-pub returns-clause-refused : goal.returns-clause-refused
-returns-clause-refused c =
+pub returns-in-Ok-None-clause-refused : goal.returns-in-Ok-None-clause-refused
+returns-in-Ok-None-clause-refused c = λ other.
     let parse = c.in-Ok-try_get_matches_from.ensures in
     let made = c.in-Ok.ensures in
     let is = choice_found _ _ (found_of c.in-Ok-try_get_matches_from.matches) made (parse.matches (ap is_simple made ∙ simple)).0 (parse.kinds (ap is_simple_and_free made ∙ free)) in
-    IfErr-weaker c.choose.result _ _ (λ x h other. sym is ∙ h other) c.choose.ensures.refused
+    sym is ∙ sym c.in-Ok-None.ensures.chosen ∙ c.in-Ok-None.field-0-is

@@ -1,30 +1,27 @@
-use Rattle.std.proofs.Common.{◌≡◌, [], ap, sym, ◌∙◌}
-use Rattle.std.specs.Prelude.{None}
-use Rattle.std.proofs.lemmas.Result.{err_from_is_err_and}
-use Rattle.pz_base.specs.Fault.{first_fault}
+use Rattle.std.proofs.Common.{◌≡◌, [], ap, sym, subst, ◌∙◌}
+use Rattle.std.specs.Prelude.{None, Ok, IfOk}
+use Rattle.pz_base.specs.Fault.{first_fault, or_else, unless, and_then}
 use Rattle.pz_base.proofs.FaultLemmas.{or_else-later}
 use Rattle.pz_names.specs.Objects.{object_names}
 use Rattle.pz_names.specs.Legend.{line_number, misnames, definitions_of}
-use Rattle.pz_names.specs.Values.{fault_of_definitions}
+use Rattle.pz_names.specs.Denotation.{values_of}
+use Rattle.pz_names.specs.Values.{meanings_of_source, fault_of_definitions, fault_of_legend}
+use Rattle.pz_names.proofs.ObjectLemmas.{found-none, found-later}
 use Rattle.pz_names.proofs.values.read_legend.Goals as goal
 
-pub returns-in_err-values-clause-refused : goal.returns-in_err-values-clause-refused
-returns-in_err-values-clause-refused c =
+pub returns-clause-denoted : goal.returns-clause-denoted
+returns-clause-denoted c =
     let objects = c.args.objects.now in
     let lines = c.args.lines.now in
-    let ok = c.in_ok-definitions.ensures in
-    let misnamed : first_fault line_number (misnames (object_names objects)) [] lines ≡ None = ap (λ o. first_fault line_number (misnames o) [] lines) (sym c.requires) ∙ ok.sound in
-    let read = c.as_slice.ensures.value ∙ ok.definitions in
-    let p = err_from_is_err_and c.from_residual-in_err-values.result c.from_residual-in_err-values.ensures.1 in
-    rw (p.1, p.2) (λ other. or_else-later (first_fault line_number (misnames (object_names objects)) [] lines) (fault_of_definitions objects (definitions_of lines)) misnamed
-    ∙ (ap (fault_of_definitions objects) (sym read) ∙ c.in_err-values.ensures.refused other))
-
-pub returns-clause-sound : goal.returns-clause-sound
-returns-clause-sound c =
-    let objects = c.args.objects.now in
-    let lines = c.args.lines.now in
-    let ok = c.in_ok-definitions.ensures in
-    let misnamed : first_fault line_number (misnames (object_names objects)) [] lines ≡ None = ap (λ o. first_fault line_number (misnames o) [] lines) (sym c.requires) ∙ ok.sound in
-    let read = c.as_slice.ensures.value ∙ ok.definitions in
-    or_else-later (first_fault line_number (misnames (object_names objects)) [] lines) (fault_of_definitions objects (definitions_of lines)) misnamed
-    ∙ (ap (fault_of_definitions objects) (sym read) ∙ c.in_ok-values.ensures.sound)
+    let here = first_fault line_number (misnames c.args.names.now) [] lines in
+    let found : Ok c.in-Ok.found.items ≡ unless here (Ok (definitions_of lines)) = ap (and_then (λ found. Ok found.items)) (sym c.in-Ok.is) ∙ c.in_ok-found.ensures.read in
+    let none : first_fault line_number (misnames (object_names objects)) [] lines ≡ None =
+    ap (λ names. first_fault line_number (misnames names) [] lines) (sym c.requires) ∙ found-none here c.in-Ok.found.items (definitions_of lines) found in
+    let read : c.as_slice.result.now ≡ definitions_of lines = c.as_slice.ensures.value ∙ found-later here c.in-Ok.found.items (definitions_of lines) found in
+    let fault : fault_of_legend objects lines ≡ fault_of_definitions objects (definitions_of lines) =
+    or_else-later (first_fault line_number (misnames (object_names objects)) [] lines) (fault_of_definitions objects (definitions_of lines)) none in
+    let denoted =
+    subst (λ ds. IfOk c.denoted.result (λ read. and_then (λ values. Ok values.items) read ≡ unless (fault_of_definitions objects ds) (Ok (values_of (meanings_of_source objects ds)))))
+    read c.denoted.ensures.denoted in
+    subst (λ fault. IfOk c.denoted.result (λ read. and_then (λ values. Ok values.items) read ≡ unless fault (Ok (values_of (meanings_of_source objects (definitions_of lines))))))
+    (sym fault) denoted

@@ -1,38 +1,47 @@
-use Rattle.std.proofs.Common.{◌≡◌, ◌≢◌, length, sym, subst}
-use Rattle.std.specs.Prelude.{Ok, Err, IfOk, IfErr}
+use Rattle.std.proofs.Common.{◌≡◌, length, sym, subst}
+use Rattle.std.specs.Prelude.{Ok, Err, IfOk}
 use Rattle.std.specs.List.{All}
-use Rattle.std.proofs.lemmas.Result.{err_from_is_err_and}
-use Rattle.pz_base.specs.declared.fault.Code.TheVariants as code
+use Rattle.pz_base.specs.Fault.{unless}
 use Rattle.pz_game.specs.Denotation.{IsDenoted}
-use Rattle.pz_source.proofs.GameLemmas.{at_legend, behind_legend}
+use Rattle.pz_names.specs.Legend.{definitions_of}
+use Rattle.pz_names.specs.Denotation.{values_of}
+use Rattle.pz_names.specs.Values.{names_of_source, meanings_of_source, fault_of_legend}
 use Rattle.pz_names.proofs.DenotedLemmas.{values-denoted}
+use Rattle.pz_names.proofs.ObjectLemmas.{found-none, found-later}
+use Rattle.pz_source.proofs.FoundLemmas.{found-refused}
+use Rattle.pz_source.proofs.GameLemmas.{at_legend, behind_legend}
 use Rattle.pz_source.proofs.reading.read_over_objects.Goals as goal
 
-pub returns-in_err-values-clause-refused : goal.returns-in_err-values-clause-refused
-returns-in_err-values-clause-refused c =
-    let p = err_from_is_err_and c.from_residual.result c.from_residual.ensures.1 in
-    rw (p.1, p.2) (λ other. at_legend c.args.lines.now c.args.objects.now c.lines_in.result.now c.lines_in.ensures c.in_err-values.field-0.0 (c.in_err-values.ensures.refused other))
+pub returns-in-Err : goal.returns-in-Err
+returns-in-Err c =
+    let lines = c.args.lines.now in
+    let objects = c.args.objects.now in
+    let legend = c.lines_in-of_legend.result.now in
+    let check = fault_of_legend objects legend in
+    let values = values_of (meanings_of_source objects (definitions_of legend)) in
+    let refused : Err c.in-Err.fault ≡ unless check (Ok values) = rw c.in-Err.is at c.in_ok-found.ensures.denoted in
+    sym (at_legend lines objects legend c.lines_in-of_legend.ensures c.in-Err.fault (found-refused check values c.in-Err.fault refused))
 
 pub read_over-requires-clause-denoted : goal.read_over-requires-clause-denoted
 read_over-requires-clause-denoted c =
-    let objects = c.args.objects.now in
-    let legend = c.lines_in.result.now in
-    subst (All (IsDenoted (length objects))) (sym c.in_ok-values.ensures.denoted) (values-denoted objects legend)
-
-pub returns-clause-read : goal.returns-clause-read
-returns-clause-read c =
     let lines = c.args.lines.now in
     let objects = c.args.objects.now in
-    let legend = c.lines_in.result.now in
-    let ok = c.in_ok-values.ensures in
-    let same = behind_legend lines objects legend c.lines_in.ensures c.read_legend.new.names c.in_ok-values.values.items ok.sound ok.named ok.denoted in
-    subst (λ v. IfOk c.read_over.result (λ game. v ≡ Ok game)) (sym same) c.read_over.ensures.read
+    let legend = c.lines_in-of_legend.result.now in
+    let check = fault_of_legend objects legend in
+    let values = values_of (meanings_of_source objects (definitions_of legend)) in
+    let found : Ok c.in-Ok.found.items ≡ unless check (Ok values) = rw c.in-Ok.is at c.in_ok-found.ensures.denoted in
+    let denoted : c.in-Ok.found.items ≡ values = found-later check c.in-Ok.found.items values found in
+    subst (All (IsDenoted (length objects))) (sym denoted) (values-denoted objects legend)
 
-pub returns-clause-refused : goal.returns-clause-refused
-returns-clause-refused c =
+pub returns : goal.returns
+returns c =
     let lines = c.args.lines.now in
     let objects = c.args.objects.now in
-    let legend = c.lines_in.result.now in
-    let ok = c.in_ok-values.ensures in
-    let same = behind_legend lines objects legend c.lines_in.ensures c.read_legend.new.names c.in_ok-values.values.items ok.sound ok.named ok.denoted in
-    subst (λ v. IfErr c.read_over.result (λ fault. fault.code ≢ code.Memory → v ≡ Err fault)) (sym same) c.read_over.ensures.refused
+    let legend = c.lines_in-of_legend.result.now in
+    let check = fault_of_legend objects legend in
+    let values = values_of (meanings_of_source objects (definitions_of legend)) in
+    let found : Ok c.in-Ok.found.items ≡ unless check (Ok values) = rw c.in-Ok.is at c.in_ok-found.ensures.denoted in
+    let denoted : c.in-Ok.found.items ≡ values = found-later check c.in-Ok.found.items values found in
+    let named : c.read_legend.new.names ≡ names_of_source objects (definitions_of legend) = rw c.in-Ok.is at c.in_ok-found.ensures.named in
+    let same = behind_legend lines objects legend c.lines_in-of_legend.ensures c.read_legend.new.names c.in-Ok.found.items (found-none check c.in-Ok.found.items values found) named denoted in
+    subst (λ answer. IfOk c.read_over.result (λ game. game ≡ answer)) (sym same) c.read_over.ensures

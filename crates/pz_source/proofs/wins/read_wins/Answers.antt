@@ -1,9 +1,8 @@
 use Rattle.std.proofs.Common.{◌+◌, drop, not, filter, sym, ◌∙◌, ap}
-use Rattle.std.proofs.lemmas.Result.{err_from_is_err_and}
 use Rattle.pz_names.specs.Objects.{is_blank}
 use Rattle.pz_source.specs.Wins.{win_at}
 use Rattle.pz_base.proofs.EachLemmas.{behind_none}
-use Rattle.pz_source.proofs.WinLemmas.{from_line, from_line-blank, from_line-read, from_line-refused, from_line-end}
+use Rattle.pz_source.proofs.WinLemmas.{from_line, from_line-blank, from_line-read}
 use Rattle.pz_source.proofs.wins.read_wins.Goals as goal
 
 pub loop-line-init : goal.loop-line-init
@@ -21,17 +20,5 @@ loop-line-preserved c =
     let i = c.loop-line.line-index in
     let win_of_line = win_at c.args.names.now in
     ap (λ ws. from_line win_of_line ws (drop (i + 1) lines)) c.in_ok-push.ensures.items
-    ∙ (from_line-read win_of_line c.loop-line.wins.items lines i c.line-item.result c.in_ok-win.win c.loop-line-test.true c.line-item.is (sym c.is_blank.ensures ∙ c.if-is_blank.false) c.in_ok-win.ensures.read
+    ∙ (from_line-read win_of_line c.loop-line.wins.items lines i c.line-item.result c.in-Ok.found c.loop-line-test.true c.line-item.is (sym c.is_blank.ensures ∙ c.if-is_blank.false) (sym c.in_ok-found.ensures ∙ c.in-Ok.is)
     ∙ c.loop-line.invariant)
-
-pub returns-in_err-win-clause-refused : goal.returns-in_err-win-clause-refused
-returns-in_err-win-clause-refused c =
-    let p = err_from_is_err_and c.from_residual.result c.from_residual.ensures.1 in
-    rw (p.1, p.2) (λ other.
-    sym c.loop-line.invariant
-    ∙ from_line-refused (win_at c.args.names.now) c.loop-line.wins.items c.args.lines.now c.loop-line.line-index c.line-item.result c.in_err-win.field-0.0 c.loop-line-test.true c.line-item.is
-    (sym c.is_blank.ensures ∙ c.if-is_blank.false) (c.in_err-win.ensures.refused other))
-
-pub returns-clause-read : goal.returns-clause-read
-returns-clause-read c =
-    sym c.loop-line.invariant ∙ from_line-end (win_at c.args.names.now) c.loop-line.wins.items c.args.lines.now c.loop-line.line-index c.loop-line-test.false

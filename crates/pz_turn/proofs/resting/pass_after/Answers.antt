@@ -3,8 +3,8 @@ use Rattle.pz_turn.proofs.Passes.{passing_changed, passing_quiet, passing_stops}
 use Rattle.pz_turn.proofs.resting.pass_after.Goals.{then-given+then-given-2, then-given+else-given-2, else-given, else-index-calm_from-via-then-index-calm_from+else-not-so_far, else-index-calm_from-via-else-index-calm_from}
 use Rattle.pz_turn.proofs.resting.pass_after.Goals as goal
 
-pub returns-in_err-given-clause-fault : goal.returns-in_err-given-clause-fault
-returns-in_err-given-clause-fault g c =
+pub returns-in_err-given-clause-outcome : goal.returns-in_err-given-clause-outcome
+returns-in_err-given-clause-outcome g c =
     let p = err_from_is_err_and c.from_residual.result c.from_residual.ensures.1 in
     rw (p.1, p.2) (λ not_memory. passing_stops (g.T.Runnable.runs c.args.whole.now) _ _ c.args.calm_from _ c.index-items-index.result _ c.loop-index.first_calm _ c.loop-index-test.true c.index-items-index.is c.loop-index.invariant.passing (c.in_err-given.ensures.outcome not_memory))
 

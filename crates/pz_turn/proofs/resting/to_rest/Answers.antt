@@ -6,7 +6,7 @@ pub returns-in_err-passed-clause-outcome : goal.returns-in_err-passed-clause-out
 returns-in_err-passed-clause-outcome g c =
     let p = err_from_is_err_and c.from_residual.result c.from_residual.ensures.1 in
     rw (p.1, p.2) (λ not_memory.
-    let stops = c.in_err-passed.ensures.fault not_memory in
+    let stops = c.in_err-passed.ensures.outcome not_memory in
     rest_ends _ _ _ _ _ c.passes.invariant.running (omega arith) (ap ends stops) ∙ ap (joined (record { level = c.passes.level.grid; commands = c.passes.so_far.commands; changed = c.passes.so_far.changed })) stops)
 
 pub returns-then-not-passed-clause-outcome : goal.returns-then-not-passed-clause-outcome

@@ -22,8 +22,8 @@ apply-requires c =
     ∙ slice_get_read c.instances-instances.result.now _ spot.moment.instance instance refl c.instances-test.true c.index-instances-at.is in
     record { of_game = instance_of_game play.level.grid.layers play.groups.now spot.moment.group spot.moment.instance group instance inv.played.groups is here }
 
-pub returns-in_err-firing-clause-fault : goal.returns-in_err-firing-clause-fault
-returns-in_err-firing-clause-fault c =
+pub returns-in_err-firing-clause-firing : goal.returns-in_err-firing-clause-firing
+returns-in_err-firing-clause-firing c =
     let inv = c.instances.invariant in
     let play = c.instances.self in
     let spot = play.spot in
@@ -34,7 +34,7 @@ returns-in_err-firing-clause-fault c =
     ap (λ (xs : List Instance). slice_get xs spot.moment.instance) (sym c.instances-instances.ensures)
     ∙ slice_get_read c.instances-instances.result.now _ spot.moment.instance instance refl c.instances-test.true c.index-instances-at.is in
     let p = err_from_is_err_and c.from_residual.result c.from_residual.ensures.1 in
-    rw (p.1, p.2) (λ not_memory. sym inv.left ∙ instance_stops (setting_of play) spot group is instance here play.level.grid _ (c.in_err-firing.ensures.fault not_memory))
+    rw (p.1, p.2) (λ not_memory. sym inv.left ∙ instance_stops (setting_of play) spot group is instance here play.level.grid _ (c.in_err-firing.ensures.firing not_memory))
 
 pub returns-in_err-firing-clause-played : goal.returns-in_err-firing-clause-played
 returns-in_err-firing-clause-played c =

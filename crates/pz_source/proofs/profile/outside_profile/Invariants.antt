@@ -2,7 +2,7 @@ use Rattle.std.proofs.Common.{◌≡◌, [], take, drop}
 use Rattle.pz_text.specs.Check.{number_of}
 use Rattle.pz_base.specs.Fault.{first_fault}
 use Rattle.pz_source.specs.Profile.{leaves_profile}
-use Rattle.pz_source.proofs.profile.check_profile.Given as goal
+use Rattle.pz_source.proofs.profile.outside_profile.Given as goal
 
 abbrev pub invariant-loop-line : goal.invariant-loop-line
 invariant-loop-line l =
