@@ -1,7 +1,7 @@
 //! What a session shows: its frames, and its close.
 
 use pz_base::fault::SourceFault;
-use pz_record::quoted::QuotedText;
+use pz_json_text::quoted::QuotedText;
 
 /// Why a frame is shown.
 #[derive(Clone, Copy, Debug, PartialEq, Eq)]

@@ -5,7 +5,7 @@ use Rattle.std.proofs.lemmas.List.{get_or-map as get_or-map_within}
 use Rattle.std.proofs.lemmas.List.Elements.{All-head, All-tail}
 use Rattle.pz_describe.specs.Recordings.{place_in}
 use Rattle.pz_describe.specs.Values.{numeral}
-use Rattle.pz_record.specs.CellTexts.{joined}
+use Rattle.pz_json_text.specs.CellTexts.{joined}
 
 -- the text of a cell's set is the cell's text
 pub texts_at : (sets : List (List (List ℕ))) (places : List ℕ) → map (λ place. get_or (map joined sets) place []) places ≡ map joined (map (λ place. get_or sets place []) places)

@@ -9,8 +9,8 @@ use Rattle.std.proofs.lemmas.Slice.Eq.{bytes_eq-Decides}
 use Rattle.std.specs.List.{list_any}
 use Rattle.std.specs.Str.{bytes_eq}
 use Rattle.pz_base.specs.NameSet.{number_in, is_name_of}
-use Rattle.pz_record.specs.CellTexts.{or_added, with_cell}
-use Rattle.pz_record.proofs.KnownCells.{is_new}
+use Rattle.pz_json_text.specs.CellTexts.{or_added, with_cell}
+use Rattle.pz_json_text.proofs.KnownCells.{is_new}
 use Rattle.pz_describe.specs.Recordings.{AreKnown}
 
 -- a text that is among others adds nothing

@@ -2,7 +2,7 @@
 use Rattle.std.proofs.Common.{Bor, ◌≡◌, ℕ, List, [], ◌∷◌, ◌++◌, map, refl, ap}
 use Rattle.std.proofs.lemmas.List.{append-nil}
 use Rattle.std.specs.List.{join_by}
-use Rattle.pz_record.specs.CellTexts.{joined}
+use Rattle.pz_json_text.specs.CellTexts.{joined}
 
 -- the names with a space between two
 pub joins : (names : List (Bor (List ℕ))) → join_by (λ n. n.now) (32 ∷ []) names ≡ joined (map (λ n. n.now) names)

@@ -9,7 +9,7 @@ use Rattle.pz_entries.specs.Reading.{reading}
 use Rattle.pz_entries.specs.declared.entry.Entry.{Entry}
 use Rattle.pz_game.specs.declared.direction.Dir.{Dir}
 use Rattle.pz_game.specs.declared.direction.Dir.TheVariants.{Up, Left, Down, Right, Action}
-use Rattle.pz_record.specs.CellTexts.{joined, known_of}
+use Rattle.pz_json_text.specs.CellTexts.{joined, known_of}
 use Rattle.pz_record.specs.declared.input.Input.{Input}
 use Rattle.pz_record.specs.declared.input.Input.TheVariants.{Press, Undo, Restart, Tick}
 use Rattle.pz_describe.specs.Values.{array, name_value, names_array, numbers_array, numeral, object}

@@ -3,7 +3,7 @@
 ghost use Rattle.std.specs.Prelude.{◌≡◌, ◌<◌, ◌++◌, [], All, IfOk, OnOk, flat_map, fold, length, map, slice_index_or};
 ghost use Rattle.pz_describe.specs.Recordings.{AreKnown, cells_tokens, level_description_of, level_tokens, numbered_tokens, place_in};
 ghost use Rattle.pz_describe.specs.Values.{numbers_array, numeral};
-ghost use Rattle.pz_record.specs.CellTexts.{joined, with_cell};
+ghost use Rattle.pz_json_text.specs.CellTexts.{joined, with_cell};
 
 use crate::distinct::Distinct;
 use crate::page::Page;

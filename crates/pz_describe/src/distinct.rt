@@ -4,7 +4,7 @@ ghost use Rattle.std.specs.Prelude.{◌≡◌, ◌<◌, ◌++◌, ◌∷◌, [],
 ghost use Rattle.pz_base.specs.NameSet.{is_name_of, number_in};
 ghost use Rattle.pz_describe.specs.Recordings.{place_in};
 ghost use Rattle.pz_describe.specs.Values.{names_array};
-ghost use Rattle.pz_record.specs.CellTexts.{with_cell};
+ghost use Rattle.pz_json_text.specs.CellTexts.{with_cell};
 
 use crate::page::Page;
 use indexmap::IndexSet;
@@ -60,7 +60,7 @@ impl Distinct {
     }
 
     /// Adds a text behind the others, if it is new.
-    #[tactic(auto, unfolding(pz_record::specs::CellTexts::with_cell))]
+    #[tactic(auto, unfolding(pz_json_text::specs::CellTexts::with_cell))]
     pub fn add(&mut self, alloc: Global, text: &str) -> Result<(), AllocError>
         ensures { OnOk result (self.new ≡ with_cell self.old text.now) }
     {

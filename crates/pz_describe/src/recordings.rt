@@ -2,7 +2,7 @@
 
 ghost use Rattle.std.specs.Prelude.{◌≡◌, ◌++◌, IfOk, OnOk, flat_map, fold, map};
 ghost use Rattle.pz_describe.specs.Recordings.{file_members, file_tokens, input_tokens, played_members, press_number, recorded_members, recordings_description_of, session_tokens, sessions_array};
-ghost use Rattle.pz_record.specs.CellTexts.{with_cell};
+ghost use Rattle.pz_json_text.specs.CellTexts.{with_cell};
 
 use crate::cells::put_level;
 use crate::distinct::Distinct;

@@ -4,7 +4,7 @@ use Rattle.std.specs.List.{slice_split, position, position_or_len}
 use Rattle.std.proofs.lemmas.List.Splits.{slice_split_first}
 use Rattle.std.proofs.lemmas.List.{drop_more, take-append-drop}
 use Rattle.std.proofs.lemmas.Bool.{ltb-true}
-use Rattle.pz_record.proofs.KnownCells.{none_chosen, nothing_first}
+use Rattle.pz_json_text.proofs.KnownCells.{none_chosen, nothing_first}
 use Rattle.pz_entries.specs.Reading.{cut_last}
 
 pub chosen : (b : Bool) (n k : ℕ) → cond b (Some n) None ≡ Some k → (b ≡ true) × (n ≡ k)

@@ -13,7 +13,7 @@ use Rattle.std.proofs.lemmas.List.Elements.{All-nil, All-cons}
 use Rattle.std.proofs.lemmas.List.Splits.{slice_split_at, slice_split_none}
 use Rattle.std.proofs.lemmas.Bool.{and_parts, not-true, ne_eqb}
 use Rattle.pz_record.specs.CellNames.{with_name, set_of}
-use Rattle.pz_record.specs.CellTexts.{joined}
+use Rattle.pz_json_text.specs.CellTexts.{joined}
 use Rattle.pz_entries.specs.Names.{with_word, name_set, is_space}
 
 -- a name as a game keeps it: not empty, with no space, folded

@@ -6,7 +6,7 @@ use Rattle.std.proofs.lemmas.List.Elements.{All-head, All-tail, All-same, All-pu
 use Rattle.std.proofs.lemmas.Bool.{ltb-true, ltb-false}
 use Rattle.std.proofs.lemmas.Option.{slice_get-get_or, slice_get_past}
 use Rattle.pz_entries.specs.Names.{name_set}
-use Rattle.pz_record.proofs.KnownCells.{none_chosen}
+use Rattle.pz_json_text.proofs.KnownCells.{none_chosen}
 use Rattle.pz_entries.proofs.Cuts.{chosen}
 use Rattle.pz_entries.specs.Reading.{number_of, cut_last, below, is_number, known_set, read_from, read_piece, all_ended, is_comma, reading_with, reading, no_line_end}
 

@@ -14,9 +14,9 @@ use Rattle.std.proofs.lemmas.List.Folds.{flat_map-map}
 use Rattle.std.proofs.lemmas.List.Elements.{filter-append}
 use Rattle.std.proofs.lemmas.List.{append_assoc, append-nil, map-append, take_more, take_all, length-append}
 use Rattle.std.proofs.lemmas.Grind.{flat_map-append}
-use Rattle.pz_record.proofs.KnownCells.{known_more, numbers_more}
+use Rattle.pz_json_text.proofs.KnownCells.{known_more, numbers_more}
 use Rattle.pz_base.specs.NameSet.{number_in}
-use Rattle.pz_record.specs.CellTexts.{with_cell, or_added, known_of, numbered, piece, line_end, cell_text, text_of_cells}
+use Rattle.pz_json_text.specs.CellTexts.{with_cell, or_added, known_of, numbered, piece, line_end, cell_text, text_of_cells}
 use Rattle.pz_entries.specs.Reading.{number_of, cut_last, read_piece, read_from, is_comma, all_ended, reading, no_line_end, plain}
 use Rattle.pz_entries.specs.Names.{name_set}
 use Rattle.pz_entries.proofs.Pieces.{pieces_more}

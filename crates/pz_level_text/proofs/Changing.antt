@@ -13,8 +13,8 @@ use Rattle.pz_record.specs.declared.order.Order.TheVariants.{Rows, Columns}
 use Rattle.pz_level_text.proofs.Labelling.{chosen_same}
 use Rattle.pz_level_text.proofs.Ordered.{text_at_number, length-texts_in}
 use Rattle.pz_level_text.proofs.Walking.{on_map}
-use Rattle.pz_record.proofs.Changes.{text_kept}
-use Rattle.pz_record.specs.Written.{RoomView}
+use Rattle.pz_json_text.proofs.Changes.{text_kept}
+use Rattle.pz_json_text.specs.Written.{RoomView}
 use Rattle.pz_level_text.specs.LastText.{IsLastOf}
 use Rattle.pz_level_text.specs.declared.last_text.LastText.{LastText}
 

@@ -14,14 +14,14 @@ unfoldable pub use Rattle.pz_level_text.specs.LevelNames.{standing_names}
 pub use Rattle.pz_level_text.specs.LevelText.{HasNoComma}
 unfoldable pub use Rattle.pz_level_text.specs.LevelText.{text_of_level}
 pub use Rattle.pz_level_text.specs.Naming.{has_names}
-pub use Rattle.pz_record.proofs.Changes.{both_changed, changed_again, known_still, labels_still, one_changed, still_kept}
+pub use Rattle.pz_json_text.proofs.Changes.{both_changed, changed_again, known_still, labels_still, one_changed, still_kept}
 pub use Rattle.pz_record.proofs.Sets.{all_of, all_seen, insert_seen}
 pub use Rattle.pz_record.specs.CellNames.{has_name, set_of}
 unfoldable pub use Rattle.pz_record.specs.CellNames.{same_set, with_name}
-pub use Rattle.pz_record.specs.CellTexts.{joined, text_of_cells}
-unfoldable pub use Rattle.pz_record.specs.CellTexts.{piece, with_cell}
-pub use Rattle.pz_record.specs.Labels.{text_at}
-pub use Rattle.pz_record.specs.Written.{HasTextBut, IsSameBut}
+pub use Rattle.pz_json_text.specs.CellTexts.{joined, text_of_cells}
+unfoldable pub use Rattle.pz_json_text.specs.CellTexts.{piece, with_cell}
+pub use Rattle.pz_json_text.specs.Labels.{text_at}
+pub use Rattle.pz_json_text.specs.Written.{HasTextBut, IsSameBut}
 pub use Rattle.pz_record.specs.declared.order.Order.{Order}
 pub use Rattle.pz_sets.specs.Sets.{in_word, member}
 pub use Rattle.pz_sheet.specs.Grid.{Grid, IsLawful, SameSize, cell_at}

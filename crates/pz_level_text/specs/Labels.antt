@@ -5,8 +5,8 @@ use Rattle.pz_sheet.specs.Grid.{Grid}
 use Rattle.pz_sets.specs.Sets.{member}
 use Rattle.pz_record.specs.declared.order.Order.{Order}
 use Rattle.pz_record.specs.CellNames.{set_of}
-use Rattle.pz_record.specs.CellTexts.{joined}
-use Rattle.pz_record.specs.Labels.{text_at}
+use Rattle.pz_json_text.specs.CellTexts.{joined}
+use Rattle.pz_json_text.specs.Labels.{text_at}
 use Rattle.pz_level_text.specs.LevelNames.{chosen_from, sets_in}
 
 -- the text of a set of objects

@@ -1,6 +1,6 @@
 -- The last text of a level, and the cells that have changed since.
 use Rattle.std.specs.Prelude.{ℕ, ◌<◌, List}
-use Rattle.pz_record.specs.Written.{HasTextBut, RoomView}
+use Rattle.pz_json_text.specs.Written.{HasTextBut, RoomView}
 use Rattle.pz_level_text.specs.declared.last_text.LastText.{LastText}
 
 -- the room has the text of a level whose cells were as these, but for those that have changed since

@@ -3,7 +3,7 @@ use Rattle.std.specs.Prelude.{◌≢◌, ℕ, List, map, All}
 use Rattle.pz_game.specs.declared.game.GameParts.{GameParts}
 use Rattle.pz_sheet.specs.Grid.{Grid}
 use Rattle.pz_record.specs.declared.order.Order.{Order}
-use Rattle.pz_record.specs.CellTexts.{joined, text_of_cells}
+use Rattle.pz_json_text.specs.CellTexts.{joined, text_of_cells}
 use Rattle.pz_level_text.specs.LevelNames.{sets_in}
 
 -- the text of a level, with its cells in an order

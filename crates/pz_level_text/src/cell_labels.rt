@@ -4,21 +4,21 @@ ghost use Rattle.std.specs.Prelude.{◌≡◌, ◌*◌, ◌<◌, ◌++◌, ◌�
 ghost use Rattle.pz_sheet.specs.Changes.{with_cell, cell_there};
 ghost use Rattle.pz_sheet.specs.Grid.{Grid, SameSize};
 ghost use Rattle.pz_record.specs.CellNames.{set_of};
-ghost use Rattle.pz_record.specs.Labels.{text_at};
+ghost use Rattle.pz_json_text.specs.Labels.{text_at};
 ghost use Rattle.pz_level_text.specs.Labels.{texts_in};
 ghost use Rattle.pz_level_text.specs.LastText.{IsLastOf};
 ghost use Rattle.pz_level_text.specs.LevelNames.{standing_names};
-ghost use Rattle.pz_record.specs.CellTexts.{joined};
-ghost use Rattle.pz_record.specs.Written.{IsSameBut};
+ghost use Rattle.pz_json_text.specs.CellTexts.{joined};
+ghost use Rattle.pz_json_text.specs.Written.{IsSameBut};
 
 use crate::cell_order::{number_at, position};
 use crate::label_table::LabelTable;
 use crate::last_text::{LastText, follow};
 use pz_bare::BareLevel;
 use pz_game::game::Game;
-use pz_record::labels::KnownTexts;
+use pz_json_text::labels::KnownTexts;
 use pz_record::order::Order;
-use pz_record::text_room::TextRoom;
+use pz_json_text::text_room::TextRoom;
 use pz_sheet::changes::KnownChanges;
 use std::alloc::{AllocError, Global};
 use std::marker::Model;
@@ -47,7 +47,7 @@ impl Drop for CellLabels<'_> {
 
 impl<'a> Model for CellLabels<'a> {
     ghost use Rattle.std.specs.Prelude.{◌<◌, All, length, map};
-    ghost use Rattle.pz_record.specs.Labels.{text_at};
+    ghost use Rattle.pz_json_text.specs.Labels.{text_at};
     ghost use Rattle.pz_level_text.specs.Labels.{WriterView};
 
     ghost Value = { WriterView };

@@ -6,7 +6,7 @@ ghost use Rattle.pz_level_text.specs.Labels.{IsLabelOf, IsLabelOfWord};
 use crate::labelled_set::LabelledSet;
 use crate::set_text::set_text;
 use pz_game::game::Game;
-use pz_record::labels::KnownTexts;
+use pz_json_text::labels::KnownTexts;
 use pz_sets::set::NumberSet;
 use std::alloc::{AllocError, Global};
 use std::collections::HashMap;

@@ -1,13 +1,13 @@
 //! The last text of a level, and the cells that have changed since.
 
 ghost use Rattle.std.specs.Prelude.{ℕ, ◌+◌, ◌<◌, List, length, map, All, IfSome};
-ghost use Rattle.pz_record.specs.Labels.{text_at};
-ghost use Rattle.pz_record.specs.Written.{IsSameBut};
+ghost use Rattle.pz_json_text.specs.Labels.{text_at};
+ghost use Rattle.pz_json_text.specs.Written.{IsSameBut};
 ghost use Rattle.pz_level_text.specs.LastText.{IsLastOf};
 
-use pz_record::changed::Changed;
-use pz_record::labels::KnownTexts;
-use pz_record::text_room::TextRoom;
+use pz_json_text::changed::Changed;
+use pz_json_text::labels::KnownTexts;
+use pz_json_text::text_room::TextRoom;
 
 /// What the room has: the text of a level of this width whose cells were as they are now, but for those that have changed since.
 #[derive(Clone, Copy)]

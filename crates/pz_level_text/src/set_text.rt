@@ -5,7 +5,7 @@ ghost use Rattle.pz_sets.specs.Sets.{member};
 ghost use Rattle.pz_record.specs.CellNames.{with_name, set_of};
 ghost use Rattle.pz_level_text.specs.Labels.{set_text};
 ghost use Rattle.pz_level_text.specs.LevelNames.{chosen_from};
-ghost use Rattle.pz_record.specs.CellTexts.{joined};
+ghost use Rattle.pz_json_text.specs.CellTexts.{joined};
 
 use pz_base::name::Name;
 use pz_sets::set::NumberSet;

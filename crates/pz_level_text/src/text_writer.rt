@@ -4,7 +4,7 @@
 ghost use Rattle.std.specs.Prelude.{◌≡◌, ◌<◌, [], IfOk, IfSome, OnOk, string_bytes};
 ghost use Rattle.pz_sheet.specs.Grid.{SameSize};
 ghost use Rattle.pz_level_text.specs.Labels.{texts_in};
-ghost use Rattle.pz_record.specs.CellTexts.{text_of_cells};
+ghost use Rattle.pz_json_text.specs.CellTexts.{text_of_cells};
 ghost use Rattle.pz_level_text.specs.LastText.{IsLastOf};
 ghost use Rattle.pz_level_text.specs.LevelText.{text_of_level};
 
@@ -12,11 +12,11 @@ use crate::cell_labels::CellLabels;
 use crate::last_text::LastText;
 use pz_bare::BareLevel;
 use pz_game::game::Game;
-use pz_record::changed::Changed;
+use pz_json_text::changed::Changed;
 use pz_record::order::Order;
-use pz_record::plain::plain_text;
-use pz_record::quoted::QuotedText;
-use pz_record::text_room::TextRoom;
+use pz_json_text::plain::plain_text;
+use pz_json_text::quoted::QuotedText;
+use pz_json_text::text_room::TextRoom;
 use std::alloc::{AllocError, Global};
 use std::marker::Model;
 

@@ -8,7 +8,7 @@ ghost use Rattle.pz_lines.specs.Naming.{cause_name};
 use crate::naming::{cause_name, close_name, quoted_kind};
 use crate::parts::{put_json, put_number, put_quoted, put_text};
 use pz_case::item::{FrameKind, Item, Verdict};
-use pz_record::quoted::QuotedText;
+use pz_json_text::quoted::QuotedText;
 use std::alloc::{AllocError, Global};
 
 /// Room for what a line has beside its text.

@@ -4,7 +4,7 @@ ghost use Rattle.std.specs.Prelude.{◌≡◌, ◌++◌, OnOk, decimal};
 ghost use Rattle.json.specs.Print.{quoted};
 
 use itoa::Buffer;
-use pz_record::quoted::QuotedText;
+use pz_json_text::quoted::QuotedText;
 use std::alloc::AllocError;
 
 /// Writes a key, with what stands before it, and its value, as it is written.

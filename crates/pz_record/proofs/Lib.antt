@@ -1,13 +1,2 @@
-pub mod KnownCells
-pub mod Rows
 pub mod Sets
 pub mod WorkedRecords
-pub mod LabelTexts
-pub mod Walking
-pub mod Quoting
-pub mod Escaping
-pub mod WrittenCells
-pub mod Keeping
-pub mod Drafts
-pub mod Changes
-pub mod Patching

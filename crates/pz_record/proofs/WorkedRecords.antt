@@ -1,10 +1,7 @@
--- Worked cases of names as sets, and of labels.
+-- Worked cases of names as sets.
 use Rattle.std.proofs.Common.{◌≡◌, [], ◌∷◌, true, false, refl}
 use Rattle.std.specs.Prelude.{codes}
 use Rattle.pz_record.specs.CellNames.{with_name, set_of, same_set}
-use Rattle.pz_record.specs.Labels.{text_at}
-
--- the names of a cell
 
 -- names stand in the order of their bytes, a name before what it begins: a mark before a letter, a capital letter before both
 by_bytes : set_of (codes "ab" ∷ codes "_" ∷ codes "a" ∷ codes "B" ∷ codes "a" ∷ [])
@@ -21,6 +18,6 @@ one_more : same_set (codes "a" ∷ []) (codes "a" ∷ codes "b" ∷ []) ≡ fals
 unfolding same_set
 one_more = refl
 
--- the label of a text is its place among those that are known
-second_text : text_at (codes "crate" ∷ codes "player" ∷ []) 1 ≡ codes "player"
-second_text = refl
+fewer_names : same_set (codes "a" ∷ codes "b" ∷ []) (codes "a" ∷ []) ≡ false
+unfolding same_set
+fewer_names = refl

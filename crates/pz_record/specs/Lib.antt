@@ -1,5 +1,1 @@
 pub mod CellNames
-pub mod CellTexts
-pub mod Labels
-pub mod Quoted
-pub mod Written

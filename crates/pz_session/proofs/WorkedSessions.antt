@@ -4,7 +4,7 @@ use Rattle.std.specs.Fmt.{digits}
 use Rattle.pz_program.specs.Commands as command
 use Rattle.pz_record.specs.CellNames.{with_name, same_set}
 use Rattle.pz_level_text.specs.LevelNames.{standing_names}
-use Rattle.pz_record.specs.CellTexts.{with_cell, piece}
+use Rattle.pz_json_text.specs.CellTexts.{with_cell, piece}
 use Rattle.pz_case.specs.declared.item.FrameKind.TheVariants as kind
 use Rattle.pz_case.specs.declared.item.Item.TheVariants as item
 use Rattle.pz_case.specs.declared.item.Stop.TheVariants as stop

@@ -28,6 +28,6 @@ pub use pz_entries::reading::read_level_text;
 pub use pz_job::job::{prepare, prepare_with};
 pub use pz_record::input::{Input, Inputs};
 pub use pz_record::order::Order;
-pub use pz_record::quoted::QuotedText;
+pub use pz_json_text::quoted::QuotedText;
 pub use pz_record::recorded::Recorded;
 pub use run::{Run, frames};

@@ -5,7 +5,7 @@ use crate::levels::{moved, small_game, square_game};
 use pz_game::game::Game;
 use pz_level_text::text_writer::TextWriter;
 use pz_record::order::Order;
-use pz_record::quoted::QuotedText;
+use pz_json_text::quoted::QuotedText;
 use std::alloc::Global;
 use std::test::Fail;
 

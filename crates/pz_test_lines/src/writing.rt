@@ -7,7 +7,7 @@ use pz_case::recording::{Record, Recording};
 use pz_lines::fault::{Cause, WriteFault};
 use pz_lines::output::Output;
 use pz_lines::writing::write_recording;
-use pz_record::quoted::QuotedText;
+use pz_json_text::quoted::QuotedText;
 use std::alloc::{AllocError, Global};
 use std::io;
 use std::io::Write;

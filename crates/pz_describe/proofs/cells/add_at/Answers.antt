@@ -1,6 +1,6 @@
 use Rattle.std.proofs.Common.{◌≡◌, [], ap, arith, get_or, length, slice_set, subst, sym, true, ◌<◌, ◌∙◌}
 use Rattle.std.proofs.lemmas.List.{get_or_default}
-use Rattle.pz_record.specs.CellTexts.{with_cell}
+use Rattle.pz_json_text.specs.CellTexts.{with_cell}
 use Rattle.pz_describe.specs.Recordings.{AreKnown}
 use Rattle.pz_describe.proofs.DistinctTexts.{nothing_added, one_noted}
 use Rattle.pz_describe.proofs.cells.add_at.Goals as goal

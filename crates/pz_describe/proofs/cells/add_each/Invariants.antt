@@ -1,6 +1,6 @@
 use Rattle.std.proofs.Common.{◌≡◌, [], drop, fold, get_or, length, map}
 use Rattle.pz_describe.specs.Recordings.{AreKnown}
-use Rattle.pz_record.specs.CellTexts.{with_cell}
+use Rattle.pz_json_text.specs.CellTexts.{with_cell}
 use Rattle.pz_describe.proofs.cells.add_each.Given as goal
 
 abbrev pub invariant-loop-place : goal.invariant-loop-place

@@ -1,5 +1,5 @@
 use Rattle.std.proofs.Common.{◌≡◌, ◌++◌, ◌∙◌, OnOk, [], ap, get_or, map, subst, sym, rules}
-use Rattle.pz_record.specs.CellTexts.{joined}
+use Rattle.pz_json_text.specs.CellTexts.{joined}
 use Rattle.pz_describe.specs.Recordings.{cells_tokens}
 use Rattle.pz_describe.proofs.CellPlaces.{texts_at}
 use Rattle.pz_describe.proofs.cells.put_level.Goals as goal

@@ -1,5 +1,5 @@
 use Rattle.std.proofs.Common.{◌≡◌, ◌++◌, drop, map}
-use Rattle.pz_record.specs.CellTexts.{joined}
+use Rattle.pz_json_text.specs.CellTexts.{joined}
 use Rattle.pz_describe.proofs.cells.texts_of.Given as goal
 
 abbrev pub invariant-loop-set : goal.invariant-loop-set

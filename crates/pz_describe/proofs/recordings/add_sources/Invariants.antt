@@ -1,5 +1,5 @@
 use Rattle.std.proofs.Common.{◌≡◌, drop, fold, map}
-use Rattle.pz_record.specs.CellTexts.{with_cell}
+use Rattle.pz_json_text.specs.CellTexts.{with_cell}
 use Rattle.pz_describe.proofs.recordings.add_sources.Given as goal
 
 abbrev pub invariant-loop-entry : goal.invariant-loop-entry

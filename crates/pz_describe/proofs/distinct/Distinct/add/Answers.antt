@@ -1,5 +1,5 @@
 use Rattle.std.proofs.Common.{◌∙◌, sym}
-use Rattle.pz_record.proofs.KnownCells.{is_new}
+use Rattle.pz_json_text.proofs.KnownCells.{is_new}
 use Rattle.pz_describe.proofs.distinct.Distinct.add.Goals as goal
 
 pub push-requires : goal.push-requires

@@ -1,0 +1,11 @@
+pub mod KnownCells
+pub mod WorkedTexts
+pub mod LabelTexts
+pub mod Walking
+pub mod Quoting
+pub mod Escaping
+pub mod WrittenCells
+pub mod Keeping
+pub mod Drafts
+pub mod Changes
+pub mod Patching

@@ -1,0 +1,4 @@
+pub mod CellTexts
+pub mod Labels
+pub mod Quoted
+pub mod Written
