@@ -27,12 +27,12 @@ abbrev pub fault_tokens : SourceFault → List Token
 fault_tokens fault = object (key (codes "code") ∷ name_value (code_name fault.code) ++ line_member fault.line)
 
 -- what is read of a game, whose rules give this program or this fault
-abbrev pub ruled : GameParts → Result Program SourceFault → Reading
-ruled game (Ok program) = Whole game program
-ruled game (Err fault) = Unruled game fault
+abbrev pub reading_with_rules : GameParts → Result Program SourceFault → Reading
+reading_with_rules game (Ok program) = Whole game program
+reading_with_rules game (Err fault) = Unruled game fault
 
 abbrev pub reading_in : Result GameParts SourceFault → Reading
-reading_in (Ok game) = ruled game (program_of game)
+reading_in (Ok game) = reading_with_rules game (program_of game)
 reading_in (Err fault) = Refused fault
 
 -- what is read of a source: its game and its program, or as much of them as there is before its first fault

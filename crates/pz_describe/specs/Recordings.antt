@@ -9,7 +9,7 @@ use Rattle.pz_entries.specs.Reading.{reading}
 use Rattle.pz_entries.specs.declared.entry.Entry.{Entry}
 use Rattle.pz_game.specs.declared.direction.Dir.{Dir}
 use Rattle.pz_game.specs.declared.direction.Dir.TheVariants.{Up, Left, Down, Right, Action}
-use Rattle.pz_json_text.specs.CellTexts.{joined, known_of}
+use Rattle.pz_json_text.specs.CellTexts.{text_of_names, known_of}
 use Rattle.pz_record.specs.declared.input.Input.{Input}
 use Rattle.pz_record.specs.declared.input.Input.TheVariants.{Press, Undo, Restart, Tick}
 use Rattle.pz_describe.specs.Values.{array, name_value, names_array, numbers_array, numeral, object}
@@ -24,7 +24,7 @@ place_in texts text = or_first (number_in texts text)
 
 -- the names of each cell, separated by spaces
 abbrev pub cell_texts : List (List (List ℕ)) → List (List ℕ)
-cell_texts cells = map joined cells
+cell_texts cells = map text_of_names cells
 
 -- cells with these texts, by their places among texts of which none stands twice
 abbrev pub numbered_tokens : List (List ℕ) → List (List ℕ) → List Token

@@ -3,7 +3,7 @@
 ghost use Rattle.std.specs.Prelude.{◌≡◌, ◌<◌, ◌++◌, [], All, IfOk, OnOk, flat_map, fold, length, map, slice_index_or};
 ghost use Rattle.pz_describe.specs.Recordings.{AreKnown, cells_tokens, level_description_of, level_tokens, numbered_tokens, place_in};
 ghost use Rattle.pz_describe.specs.Values.{numbers_array, numeral};
-ghost use Rattle.pz_json_text.specs.CellTexts.{joined, with_cell};
+ghost use Rattle.pz_json_text.specs.CellTexts.{text_of_names, with_cell};
 
 use crate::distinct::Distinct;
 use crate::page::Page;
@@ -30,7 +30,7 @@ fn words_of(alloc: Global, names: &[Vec<u8>]) -> Result<Vec<&str>, AllocError>
 
 /// The names of a cell, separated by spaces.
 fn text_of(alloc: Global, names: &CellNames) -> Result<Text, AllocError>
-    ensures { IfOk result (λ text. text ≡ joined names.now) }
+    ensures { IfOk result (λ text. text ≡ text_of_names names.now) }
 {
     let words = words_of(alloc, names.names())?;
     Ok(Text::new(words.join(alloc, " ")?))
@@ -38,7 +38,7 @@ fn text_of(alloc: Global, names: &CellNames) -> Result<Text, AllocError>
 
 /// The texts of sets of names.
 fn texts_of(alloc: Global, sets: &[CellNames]) -> Result<Vec<Text>, AllocError>
-    ensures { IfOk result (λ texts. texts.items ≡ map joined sets.now) }
+    ensures { IfOk result (λ texts. texts.items ≡ map text_of_names sets.now) }
 {
     let mut texts = Vec::new(alloc);
     for set in sets {

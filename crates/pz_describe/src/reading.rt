@@ -2,7 +2,7 @@
 
 ghost use Rattle.std.specs.Prelude.{◌≡◌, IfOk, option_copied};
 ghost use Rattle.pz_rules.specs.Drafts.{program_of};
-ghost use Rattle.pz_describe.specs.Description.{reading_of, ruled};
+ghost use Rattle.pz_describe.specs.Description.{reading_of, reading_with_rules};
 ghost use Rattle.pz_describe.specs.Sections.{game_in};
 
 use pz_base::fault::{Code, SourceFault};
@@ -34,7 +34,7 @@ impl Reading {
 
 /// What is read of a game.
 fn ruled(alloc: Global, game: Game) -> Result<Reading, AllocError>
-    ensures { IfOk result (λ reading. reading ≡ ruled game (program_of game)) }
+    ensures { IfOk result (λ reading. reading ≡ reading_with_rules game (program_of game)) }
 {
     match expand(alloc, &game) {
         Ok(program) => Ok(Reading::Whole(game, program)),

@@ -7,7 +7,7 @@ use Rattle.std.proofs.lemmas.List.Folds.{list_all-append}
 use Rattle.std.proofs.lemmas.Option.{get_or_from_slice_get}
 use Rattle.pz_case.specs.declared.case.Case.{Case}
 use Rattle.pz_case.specs.declared.recording.Record.{Record}
-use Rattle.pz_lines.specs.Lines.{numbered}
+use Rattle.pz_lines.specs.Lines.{recording_lines}
 use Rattle.pz_lines.proofs.Cut.{front_more, sessions_all, sessions_more}
 
 and_true : (b : Bool) → (b && true) ≡ b
@@ -20,13 +20,13 @@ record_at f job n case within at = ap f (sym (get_or_from_slice_get job n case c
 
 -- the lines of one session more
 pub one_more : (line : ℕ → Record → List ℕ) (f : Case → Record) (job : List Case) (n : ℕ) (case : Case) (before after : List ℕ) → n < length job → slice_get job n ≡ Some case
-    → before ≡ numbered line 0 (take n (map f job)) → after ≡ before ++ line n (f case) → after ≡ numbered line 0 (take (n + 1) (map f job))
+    → before ≡ recording_lines line 0 (take n (map f job)) → after ≡ before ++ line n (f case) → after ≡ recording_lines line 0 (take (n + 1) (map f job))
 one_more line f job n case before after within at so_far more =
     let many : length (map f job) ≡ length job = length-map job f in
     let there : n < length (map f job) = omega arith in
     more ∙ (ap (λ (l : List ℕ). l ++ line n (f case)) so_far ∙ sym (sessions_more line (map f job) (map f job) n (f case) refl there (record_at f job n case within at)))
 
-pub all_lines : (line : ℕ → Record → List ℕ) (f : Case → Record) (job : List Case) (n : ℕ) (lines : List ℕ) → length job ≤ n → lines ≡ numbered line 0 (take n (map f job)) → lines ≡ numbered line 0 (map f job)
+pub all_lines : (line : ℕ → Record → List ℕ) (f : Case → Record) (job : List Case) (n : ℕ) (lines : List ℕ) → length job ≤ n → lines ≡ recording_lines line 0 (take n (map f job)) → lines ≡ recording_lines line 0 (map f job)
 all_lines line f job n lines over so_far =
     let many : length (map f job) ≡ length job = length-map job f in
     let past : length (map f job) ≤ n = omega arith in

@@ -14,7 +14,7 @@ use Rattle.pz_case.specs.declared.item.Verdict.{Verdict}
 use Rattle.pz_case.specs.declared.recording.Record.{Record}
 use Rattle.pz_case.specs.Playing.{Yields, shown_by}
 use Rattle.pz_lines.specs.Lines.{close_line, frame_count, is_frame, is_from, item_line}
-use Rattle.pz_session.specs.Session.{numbered}
+use Rattle.pz_session.specs.Session.{frames_as_items}
 use Rattle.pz_session.specs.Case.{items_of}
 use Rattle.pz_session.specs.Laws.{CloseOnce}
 use Rattle.pz_engine.specs.declared.engine.Written.{Written}
@@ -32,10 +32,10 @@ or_false true = refl
 or_false false = refl
 
 -- nothing comes behind the close of items that close once
-ends : (n : ℕ) (frames : List (ℕ × Frame)) (end verdict : Verdict) (taken rest : List Item) → taken ++ item.Close verdict ∷ rest ≡ numbered n frames ++ item.Close end ∷ [] → rest ≡ []
-unfolding numbered
+ends : (n : ℕ) (frames : List (ℕ × Frame)) (end verdict : Verdict) (taken rest : List Item) → taken ++ item.Close verdict ∷ rest ≡ frames_as_items n frames ++ item.Close end ∷ [] → rest ≡ []
+unfolding frames_as_items
 ends n [] end verdict [] rest e = ap (drop 1) e
-ends n (f ∷ frames) end verdict [] rest e = absurd (let is : item.Close verdict ∷ rest ≡ item.Frame n f.1.kind f.0 f.1.level_text ∷ (numbered (n + 1) frames ++ item.Close end ∷ []) = e in cc)
+ends n (f ∷ frames) end verdict [] rest e = absurd (let is : item.Close verdict ∷ rest ≡ item.Frame n f.1.kind f.0 f.1.level_text ∷ (frames_as_items (n + 1) frames ++ item.Close end ∷ []) = e in cc)
 ends n [] end verdict (x ∷ taken) rest e = absurd (omega (arith, ap length e, length-append taken (item.Close verdict ∷ rest)))
 ends n (f ∷ frames) end verdict (x ∷ taken) rest e = ends (n + 1) frames end verdict taken rest (ap (drop 1) e)
 

@@ -6,7 +6,7 @@ use Rattle.serde_json.specs.declared.value.Value.{Value}
 use Rattle.serde_json.specs.Find.{as_array}
 use Rattle.serde_json.specs.View.{items_of, items_view, view as data_of}
 use Rattle.pz_base.specs.Each.{all_some}
-use Rattle.pz_entries.specs.Json.{listed, list_of}
+use Rattle.pz_entries.specs.Json.{elements_of, list_of}
 
 -- what is kept in the end, after these
 abbrev pub gathered : {A B : Type 0} → (A → Option B) → List B → List A → Option (List B)
@@ -26,7 +26,7 @@ stopped f xs done i x kept h is none =
     let at_x : f (get_or xs i x) ≡ None = rw (← is) none in
     sym (sym (same (all_some (map f xs))) ∙ (sym kept ∙ (at_drop_more (gathered f done) xs i x h ∙ gathered_none f done (get_or xs i x) (drop (i + 1) xs) at_x)))
 
-pub listed-items_of : (ds : List Data) → listed (items_of ds) ≡ ds
+pub listed-items_of : (ds : List Data) → elements_of (items_of ds) ≡ ds
 listed-items_of [] = refl
 listed-items_of (d ∷ ds) = ap (λ (t : List Data). d ∷ t) (listed-items_of ds)
 

@@ -13,7 +13,7 @@ use Rattle.std.proofs.lemmas.List.Elements.{All-nil, All-cons}
 use Rattle.std.proofs.lemmas.List.Splits.{slice_split_at, slice_split_none}
 use Rattle.std.proofs.lemmas.Bool.{and_parts, not-true, ne_eqb}
 use Rattle.pz_record.specs.CellNames.{with_name, set_of}
-use Rattle.pz_json_text.specs.CellTexts.{joined}
+use Rattle.pz_json_text.specs.CellTexts.{text_of_names}
 use Rattle.pz_entries.specs.Names.{with_word, name_set, is_space}
 
 -- a name as a game keeps it: not empty, with no space, folded
@@ -121,16 +121,16 @@ no_space (c ∷ n) h =
     All-cons (λ b. is_space b ≡ false) c n (not-true (is_space c) parts.0) (no_space n parts.1)
 
 -- names that are joined are parted again
-pub parted : (n : List ℕ) (names : List (List ℕ)) → AreGameNames (n ∷ names) → slice_split is_space (joined (n ∷ names)) ≡ n ∷ names
+pub parted : (n : List ℕ) (names : List (List ℕ)) → AreGameNames (n ∷ names) → slice_split is_space (text_of_names (n ∷ names)) ≡ n ∷ names
 parted n [] g = slice_split_none is_space n (no_space n g.0.one_word)
-parted n (m ∷ names) g = slice_split_at is_space n 32 (joined (m ∷ names)) (no_space n g.0.one_word) refl ∙ ap (λ l. n ∷ l) (parted m names g.1)
+parted n (m ∷ names) g = slice_split_at is_space n 32 (text_of_names (m ∷ names)) (no_space n g.0.one_word) refl ∙ ap (λ l. n ∷ l) (parted m names g.1)
 
 none_before : (names : List (List ℕ)) → AllBefore [] names
 none_before [] = tt
 none_before (n ∷ names) = (tt, none_before names)
 
 -- the text of names in order reads as the names
-pub joined_reads : (names : List (List ℕ)) → AreGameNames names → Ascends names → name_set (joined names) ≡ names
+pub joined_reads : (names : List (List ℕ)) → AreGameNames names → Ascends names → name_set (text_of_names names) ≡ names
 unfolding name_set with_word
 joined_reads [] g a = refl
 joined_reads (n ∷ names) g a = ap (fold with_word []) (parted n names g) ∙ words_put [] (n ∷ names) g a (none_before (n ∷ names))
@@ -150,5 +150,5 @@ set_of_game done [] d g = d
 set_of_game done (n ∷ names) d g = set_of_game (with_name done n) names (game_put n done g.0 d) g.1
 
 -- the text of a set of a game's names reads as the set
-pub set_reads : (names : List (List ℕ)) → AreGameNames names → name_set (joined (set_of names)) ≡ set_of names
+pub set_reads : (names : List (List ℕ)) → AreGameNames names → name_set (text_of_names (set_of names)) ≡ set_of names
 set_reads names g = joined_reads (set_of names) (set_of_game [] names tt g) (set_ascends [] names tt)

@@ -16,7 +16,7 @@ use Rattle.std.proofs.lemmas.List.{append_assoc, append-nil, map-append, take_mo
 use Rattle.std.proofs.lemmas.Grind.{flat_map-append}
 use Rattle.pz_json_text.proofs.KnownCells.{known_more, numbers_more}
 use Rattle.pz_base.specs.NameSet.{number_in}
-use Rattle.pz_json_text.specs.CellTexts.{with_cell, or_added, known_of, numbered, piece, line_end, cell_text, text_of_cells}
+use Rattle.pz_json_text.specs.CellTexts.{with_cell, or_added, known_of, piece_by_number, piece, line_end, cell_text, text_of_cells}
 use Rattle.pz_entries.specs.Reading.{number_of, cut_last, read_piece, read_from, is_comma, all_ended, reading, no_line_end, plain}
 use Rattle.pz_entries.specs.Names.{name_set}
 use Rattle.pz_entries.proofs.Pieces.{pieces_more}
@@ -151,7 +151,7 @@ bodies_at cells (suc n) h =
     rw (map-append (body_at cells) (numbers_to n) (n ∷ []), before, more, bodies_snoc [] (take n cells) (get_or cells n [])) refl
 
 -- with its comma
-piece_is : (known : List (List ℕ)) (cell : List ℕ) (o : Option ℕ) → numbered known cell o ≡ body_of known cell o ++ 44 ∷ []
+piece_is : (known : List (List ℕ)) (cell : List ℕ) (o : Option ℕ) → piece_by_number known cell o ≡ body_of known cell o ++ 44 ∷ []
 piece_is known cell None = refl
 piece_is known cell (Some k) = refl
 

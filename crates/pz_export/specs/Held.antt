@@ -9,12 +9,12 @@ use Rattle.pz_open.specs.Opened.{OpenState}
 use Rattle.pz_open.specs.contracts.sessions.OpenSessions.{the_row}
 
 -- the borrow of sessions that are never freed, at their address
-abbrev pub held : Bool → Ptr → Option (MutBor (List (Option OpenState))) → Fml
-held true at (Some sessions) = (MutRef static [] the_row).own_val sessions (ptr_val at ∷ [])
-held true at None = ffalse
-held false null_ptr None = ftrue
-held false null_ptr (Some sessions) = ffalse
-held false (block_ptr block offset) value = ffalse
+abbrev pub borrow_of_sessions : Bool → Ptr → Option (MutBor (List (Option OpenState))) → Fml
+borrow_of_sessions true at (Some sessions) = (MutRef static [] the_row).own_val sessions (ptr_val at ∷ [])
+borrow_of_sessions true at None = ffalse
+borrow_of_sessions false null_ptr None = ftrue
+borrow_of_sessions false null_ptr (Some sessions) = ffalse
+borrow_of_sessions false (block_ptr block offset) value = ffalse
 
 -- the sessions that a place holds
 abbrev pub held_in : Option (MutBor (List (Option OpenState))) → List (Option OpenState)

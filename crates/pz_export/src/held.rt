@@ -19,9 +19,9 @@ pub struct Held {
 }
 
 impl Model for Held {
-    ghost use Rattle.pz_export.specs.Held.{held};
+    ghost use Rattle.pz_export.specs.Held.{borrow_of_sessions};
 
-    ghost also_owns = { λ h. held h.is_held h.at h.value };
+    ghost also_owns = { λ h. borrow_of_sessions h.is_held h.at h.value };
 }
 
 impl Held {

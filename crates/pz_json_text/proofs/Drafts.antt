@@ -12,7 +12,7 @@ use Rattle.pz_json_text.specs.declared.written.Written.{Written}
 use Rattle.pz_json_text.specs.Labels.{AreDistinct, text_at}
 use Rattle.pz_json_text.specs.CellTexts.{known_of, text_to, text_of_cells}
 use Rattle.pz_json_text.specs.Quoted.{escaped_says}
-use Rattle.pz_json_text.specs.Written.{AreWritten, IsBegun, IsWhole, IsSameBut, HasTextOf, room_of, written_to, moved}
+use Rattle.pz_json_text.specs.Written.{AreWritten, IsBegun, IsWhole, IsSameBut, HasTextOf, room_of, written_to, with_shifted_end}
 use Rattle.pz_json_text.proofs.Escaping.{escape-append}
 use Rattle.pz_json_text.proofs.Keeping.{GoesOn, same_front, goes_on, few_known, distinct_known, first_known}
 use Rattle.pz_json_text.proofs.LabelTexts.{none_numbered}
@@ -227,7 +227,7 @@ module _ (width : ℕ) (before all texts : List (List ℕ)) (last : Draft) (whol
     end_here : draft.at.end ≡ length (escape (text_to width all there))
     end_here = sym (length-take-le draft.at.end draft.json.items begun.written.within) ∙ ap length text_here
 
-    moved_is : (m : ℕ) → there ≤ m → m ≤ length before → moved mark.end draft.at.end (written_to width before m) ≡ written_to width all m
+    moved_is : (m : ℕ) → there ≤ m → m ≤ length before → with_shifted_end mark.end draft.at.end (written_to width before m) ≡ written_to width all m
     moved_is m low high =
         let goes = goes_to m low high in
         let old = goes_far width before there m goes.rest goes.before in
@@ -238,7 +238,7 @@ module _ (width : ℕ) (before all texts : List (List ℕ)) (last : Draft) (whol
     pub rest_whole : (new : Draft) → new.at.end ≤ length new.json.items
         → take new.at.end new.json.items ≡ take draft.at.end draft.json.items ++ drop mark.end (take last.at.end last.json.items)
         → new.firsts.items ≡ draft.firsts.items ++ drop mark.known last.firsts.items
-        → new.marks.items ≡ draft.marks.items ++ map (moved mark.end draft.at.end) (drop count last.marks.items)
+        → new.marks.items ≡ draft.marks.items ++ map (with_shifted_end mark.end draft.at.end) (drop count last.marks.items)
         → IsWhole width all texts new
     rest_whole new within json labels marks =
         let goes = goes_to (length before) (omega (arith, mark_within)) (omega arith) in
@@ -246,7 +246,7 @@ module _ (width : ℕ) (before all texts : List (List ℕ)) (last : Draft) (whol
         let parts : take last.at.end last.json.items ≡ front ++ escape goes.rest = whole.text ∙ ap escape goes.before ∙ escape-append (text_to width before there) goes.rest in
         let rest : drop mark.end (take last.at.end last.json.items) ≡ escape goes.rest = ap₂ (λ (n : ℕ) (l : List ℕ). drop n l) mark_end parts ∙ drop_at front (escape goes.rest) (length front) refl in
         let kept : new.firsts.items ≡ last.firsts.items = labels ∙ ap (λ (l : List ℕ). l ++ drop mark.known last.firsts.items) firsts ∙ take-append-drop mark.known last.firsts.items in
-        let move = moved mark.end draft.at.end in
+        let move = with_shifted_end mark.end draft.at.end in
         let behind = drop count last.marks.items in
         let long : length draft.marks.items ≡ count = omega (arith, begun.marks.past, begun.marks.full, here) in
         let as_many : length new.marks.items ≡ length last.marks.items =
@@ -309,7 +309,7 @@ all_same first end before all same none =
     ∙ take-append-drop first all
 
 -- marks that end where they did
-pub unmoved : (n : ℕ) (marks : List Written) → All (λ mark. n ≤ mark.end) marks → map (moved n n) marks ≡ marks
+pub unmoved : (n : ℕ) (marks : List Written) → All (λ mark. n ≤ mark.end) marks → map (with_shifted_end n n) marks ≡ marks
 unmoved n [] ends = refl
 unmoved n (mark ∷ marks) ends =
     let P : Written → Type 0 = λ it. n ≤ it.end in

@@ -3,9 +3,9 @@ use Rattle.std.proofs.Common.{◌≡◌, ℕ, List, [], ◌∷◌, ◌++◌, cod
 use Rattle.std.proofs.lemmas.List.Elements.{All-nil, All-cons}
 use Rattle.std.specs.Fmt.{digits}
 use Rattle.json.specs.Print.{escape, escape_byte}
-use Rattle.pz_json_text.specs.CellTexts.{joined, text_of_cells, piece, with_cell}
+use Rattle.pz_json_text.specs.CellTexts.{text_of_names, text_of_cells, piece, with_cell}
 use Rattle.pz_json_text.specs.Labels.{text_at}
-use Rattle.pz_json_text.specs.Written.{AreFirsts, IsSameBut, moved, written_to}
+use Rattle.pz_json_text.specs.Written.{AreFirsts, IsSameBut, with_shifted_end, written_to}
 
 abbrev background : List ℕ
 background = codes "background"
@@ -17,11 +17,11 @@ abbrev wall : List ℕ
 wall = codes "wall"
 
 -- the same cells of two columns and three rows, row by row and column by column
-in_rows : text_of_cells 2 (background ∷ joined (background ∷ player ∷ []) ∷ background ∷ background ∷ background ∷ background ∷ []) ≡ codes "background:0,background player:1,\n0,0,\n0,0,\n"
+in_rows : text_of_cells 2 (background ∷ text_of_names (background ∷ player ∷ []) ∷ background ∷ background ∷ background ∷ background ∷ []) ≡ codes "background:0,background player:1,\n0,0,\n0,0,\n"
 unfolding piece with_cell digits
 in_rows = refl
 
-in_columns : text_of_cells 2 (background ∷ background ∷ background ∷ joined (background ∷ player ∷ []) ∷ background ∷ background ∷ []) ≡ codes "background:0,0,\n0,background player:1,\n0,0,\n"
+in_columns : text_of_cells 2 (background ∷ background ∷ background ∷ text_of_names (background ∷ player ∷ []) ∷ background ∷ background ∷ []) ≡ codes "background:0,0,\n0,background player:1,\n0,0,\n"
 unfolding piece with_cell digits
 in_columns = refl
 
@@ -31,12 +31,12 @@ unfolding piece with_cell digits escape_byte
 as_json = refl
 
 -- how much is written with the first three of four cells, in two columns: the end of a line counts as two bytes
-three_written : written_to 2 (background ∷ joined (background ∷ player ∷ []) ∷ background ∷ background ∷ []) 3 ≡ record { end = 37; cells = 3; known = 2; column = 1 }
+three_written : written_to 2 (background ∷ text_of_names (background ∷ player ∷ []) ∷ background ∷ background ∷ []) 3 ≡ record { end = 37; cells = 3; known = 2; column = 1 }
 unfolding piece with_cell digits escape_byte
 three_written = refl
 
 -- what ended at 40 ends at 38
-two_bytes_less : moved 40 38 (record { end = 57; cells = 32; known = 4; column = 2 }) ≡ record { end = 55; cells = 32; known = 4; column = 2 }
+two_bytes_less : with_shifted_end 40 38 (record { end = 57; cells = 32; known = 4; column = 2 }) ≡ record { end = 55; cells = 32; known = 4; column = 2 }
 two_bytes_less = refl
 
 -- cells of which the second alone has changed

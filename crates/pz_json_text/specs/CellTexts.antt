@@ -4,8 +4,8 @@ use Rattle.std.specs.List.{join_with_byte, range_with_len}
 use Rattle.pz_base.specs.NameSet.{number_in}
 
 -- the text of a set of names, separated by spaces
-abbrev pub joined : List (List ℕ) → List ℕ
-joined names = join_with_byte 32 names
+abbrev pub text_of_names : List (List ℕ) → List ℕ
+text_of_names names = join_with_byte 32 names
 
 abbrev pub or_added : List (List ℕ) → List ℕ → Option ℕ → List (List ℕ)
 or_added known cell None = known ++ cell ∷ []
@@ -19,13 +19,13 @@ with_cell known cell = or_added known cell (number_in known cell)
 abbrev pub known_of : List (List ℕ) → List (List ℕ)
 known_of cells = fold with_cell [] cells
 
-abbrev pub numbered : List (List ℕ) → List ℕ → Option ℕ → List ℕ
-numbered known cell None = cell ++ 58 ∷ [] ++ decimal (length known) ++ 44 ∷ []
-numbered known cell (Some k) = decimal k ++ 44 ∷ []
+abbrev pub piece_by_number : List (List ℕ) → List ℕ → Option ℕ → List ℕ
+piece_by_number known cell None = cell ++ 58 ∷ [] ++ decimal (length known) ++ 44 ∷ []
+piece_by_number known cell (Some k) = decimal k ++ 44 ∷ []
 
 -- a known set is written as its number, a new one as its names, a colon and the next number; a comma ends each
 unfoldable pub piece : List (List ℕ) → List ℕ → List ℕ
-piece known cell = numbered known cell (number_in known cell)
+piece known cell = piece_by_number known cell (number_in known cell)
 
 -- a line break if the number of cells is a multiple of the width
 abbrev pub line_end : ℕ → ℕ → List ℕ

@@ -31,8 +31,8 @@ abbrev pub written_to : ℕ → List (List ℕ) → ℕ → Written
 written_to width all cells = record { end = length (escape (text_to width all cells)); cells = cells; known = length (known_of (take cells all)); column = cells % width }
 
 -- the same, in a text in which what ended at `from` ends at `to`
-abbrev pub moved : ℕ → ℕ → Written → Written
-moved from to written = record written { end = written.end - from + to }
+abbrev pub with_shifted_end : ℕ → ℕ → Written → Written
+with_shifted_end from to written = record written { end = written.end - from + to }
 
 -- how much was written at the start and after each `STEP` cells, before the cell of this number
 pub record AreMarks (width : ℕ) (all : List (List ℕ)) (cells : ℕ) (marks : List Written) : Type 0 where

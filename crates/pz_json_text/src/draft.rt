@@ -6,7 +6,7 @@ ghost use Rattle.pz_base.specs.NameSet.{number_in};
 ghost use Rattle.pz_json_text.specs.declared.written.Written.{Written};
 ghost use Rattle.pz_json_text.specs.Labels.{AreDistinct, text_at};
 ghost use Rattle.pz_json_text.specs.CellTexts.{known_of};
-ghost use Rattle.pz_json_text.specs.Written.{AreFirsts, AreWritten, IsBegun, IsDigitAt, IsWhole, IsSameBut, moved};
+ghost use Rattle.pz_json_text.specs.Written.{AreFirsts, AreWritten, IsBegun, IsDigitAt, IsWhole, IsSameBut, with_shifted_end};
 
 use crate::changed::Changed;
 use crate::escaped::{make_way, write_bytes, write_cell, write_known};
@@ -241,7 +241,7 @@ fn take_marks(
 ) -> Result<(), AllocError>
     requires ends { All (λ mark. from ≤ mark.end) rest.now }
     requires fits { All (λ mark. mark.end + to < 2 ^ 64) rest.now }
-    ensures { OnOk result (marks.new.items ≡ marks.old.items ++ map (moved from to) rest.now) }
+    ensures { OnOk result (marks.new.items ≡ marks.old.items ++ map (with_shifted_end from to) rest.now) }
 {
     if from == to {
         marks.extend_from_slice(rest)?;
@@ -274,7 +274,7 @@ fn take_rest(draft: &mut Draft, last: &Draft, mark: Written, count: usize) -> Re
     ensures firsts { OnOk result
         (draft.new.firsts.items ≡ draft.old.firsts.items ++ drop mark.known last.now.firsts.items) }
     ensures marks { OnOk result
-        (draft.new.marks.items ≡ draft.old.marks.items ++ map (moved mark.end draft.old.at.end)
+        (draft.new.marks.items ≡ draft.old.marks.items ++ map (with_shifted_end mark.end draft.old.at.end)
         (drop count last.now.marks.items)) }
 {
     take_marks(

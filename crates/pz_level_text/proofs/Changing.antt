@@ -1,5 +1,5 @@
 -- The texts of a level's cells, where one cell has changed since it was seen.
-use Rattle.pz_level_text.proofs.Common.{common_steps, ◌≡◌, ◌≢◌, Some, IfSome, IsSameBut, take, ℕ, ◌+◌, ◌*◌, ◌/◌, ◌%◌, ◌<◌, ◌≤◌, List, [], Option, None, Bool, true, false, not, ◌&&◌, cond, length, set, get_or, refl, ap, ap₂, sym, ◌∙◌, arith, inl, inr, is_some, get_or-set_same, get_or-set_other, nat_lt, length-set, ext_get_or, GameParts, Grid, IsLawful, SameSize, cell_at, stands, Order, set_of, standing_names, joined, texts_in, column_of, row_of, number_of}
+use Rattle.pz_level_text.proofs.Common.{common_steps, ◌≡◌, ◌≢◌, Some, IfSome, IsSameBut, take, ℕ, ◌+◌, ◌*◌, ◌/◌, ◌%◌, ◌<◌, ◌≤◌, List, [], Option, None, Bool, true, false, not, ◌&&◌, cond, length, set, get_or, refl, ap, ap₂, sym, ◌∙◌, arith, inl, inr, is_some, get_or-set_same, get_or-set_other, nat_lt, length-set, ext_get_or, GameParts, Grid, IsLawful, SameSize, cell_at, stands, Order, set_of, standing_names, text_of_names, texts_in, column_of, row_of, number_of}
 use Rattle.std.proofs.lemmas.Bool.{cases_eq, cases_lt}
 use Rattle.std.proofs.Math.Nat.{div-lt_iff_lt-mul}
 use Rattle.std.proofs.lemmas.Nat.{div-add-mod', div-mul-add, mod-mul-add}
@@ -55,7 +55,7 @@ names_alike names a b x y width height cell = chosen_same (stands a x y) (stands
 -- a cell of a number, counted row by row, that is put in
 module _ (game : GameParts) (order : Order) (grid level : Grid) (index x y : ℕ) (size : SameSize grid level) (wide : x < grid.width) (high : y < grid.height) (number : y * grid.width + x ≡ index) (within : index < length grid.cells) where
   abbrev text_of : Grid → ℕ × ℕ → List ℕ
-  text_of there position = joined (set_of (standing_names game.objects there position))
+  text_of there position = text_of_names (set_of (standing_names game.objects there position))
 
   -- there stands what is put in
   put_in : text_of level (x, y) ≡ text_of (with_cell grid (cell_there level index)) (x, y)
@@ -66,13 +66,13 @@ module _ (game : GameParts) (order : Order) (grid level : Grid) (index x y : ℕ
       ap (λ (j : ℕ). get_or level.cells j []) at
       ∙ (sym (get_or-set_same grid.cells index (cell_of level index) [] within)
       ∙ ap (λ (j : ℕ). get_or (set grid.cells index (cell_of level index)) j []) (sym number)) in
-      ap (λ (l : List (List ℕ)). joined (set_of l)) (names_alike game.objects level (with_cell grid (cell_there level index)) x y there size.height cell)
+      ap (λ (l : List (List ℕ)). text_of_names (set_of l)) (names_alike game.objects level (with_cell grid (cell_there level index)) x y there size.height cell)
 
   -- and elsewhere what stood there
   elsewhere : (xk yk : ℕ) → yk * grid.width + xk ≢ index → text_of grid (xk, yk) ≡ text_of (with_cell grid (cell_there level index)) (xk, yk)
   elsewhere xk yk apart =
       let cell : cell_at grid xk yk ≡ cell_at (with_cell grid (cell_there level index)) xk yk = sym (get_or-set_other grid.cells index (yk * grid.width + xk) (cell_of level index) [] apart) in
-      ap (λ (l : List (List ℕ)). joined (set_of l)) (names_alike game.objects grid (with_cell grid (cell_there level index)) xk yk refl refl cell)
+      ap (λ (l : List (List ℕ)). text_of_names (set_of l)) (names_alike game.objects grid (with_cell grid (cell_there level index)) xk yk refl refl cell)
 
   -- a number other than that of the position is of another cell
   other_cell : (k : ℕ) → k < grid.width * grid.height → k ≢ number_of order grid x y → row_of order grid k * grid.width + column_of order grid k ≢ index
@@ -85,11 +85,11 @@ module _ (game : GameParts) (order : Order) (grid level : Grid) (index x y : ℕ
       let row : row_of order grid k ≡ y = sym (div-mul-add (row_of order grid k) grid.width (column_of order grid k) on.0) ∙ (ap (λ (n : ℕ). n / grid.width) same ∙ div-mul-add y grid.width x wide) in
       apart (sym (number_back order grid k) ∙ ap₂ (number_of order grid) column row)
 
-  changed_texts : set (texts_in game order grid) (number_of order grid x y) (joined (set_of (standing_names game.objects level (x, y)))) ≡ texts_in game order (with_cell grid (cell_there level index))
+  changed_texts : set (texts_in game order grid) (number_of order grid x y) (text_of_names (set_of (standing_names game.objects level (x, y)))) ≡ texts_in game order (with_cell grid (cell_there level index))
   changed_texts =
       let after : Grid = with_cell grid (cell_there level index) in
       let n = number_of order grid x y in
-      let text = joined (set_of (standing_names game.objects level (x, y))) in
+      let text = text_of_names (set_of (standing_names game.objects level (x, y))) in
       let old = texts_in game order grid in
       let long : length (set old n text) ≡ grid.width * grid.height = length-set old n text ∙ length-texts_in game order grid in
       ext_get_or [] (set old n text) (texts_in game order after) (long ∙ sym (length-texts_in game order after)) (λ k h.
@@ -115,10 +115,10 @@ same_number : (order : Order) (grid level : Grid) (x y : ℕ) → SameSize grid 
 same_number order grid level x y size = grind (arith, common_steps)
 
 pub looked : (game : GameParts) (order : Order) (grid level : Grid) (index x y : ℕ) → SameSize grid level → index < length grid.cells → IsRead level index x y
-    → set (texts_in game order grid) (number_of order level x y) (joined (set_of (standing_names game.objects level (x, y)))) ≡ texts_in game order (with_cell grid (cell_there level index))
+    → set (texts_in game order grid) (number_of order level x y) (text_of_names (set_of (standing_names game.objects level (x, y)))) ≡ texts_in game order (with_cell grid (cell_there level index))
 looked game order grid level index x y size within read =
     let there = read_seen grid level index x y size read in
-    ap (λ (n : ℕ). set (texts_in game order grid) n (joined (set_of (standing_names game.objects level (x, y))))) (same_number order grid level x y size)
+    ap (λ (n : ℕ). set (texts_in game order grid) n (text_of_names (set_of (standing_names game.objects level (x, y))))) (same_number order grid level x y size)
     ∙ changed_texts game order grid level index x y size there.wide there.high there.number within
 
 -- ---- all cells looked at

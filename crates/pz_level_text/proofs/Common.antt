@@ -18,7 +18,7 @@ pub use Rattle.pz_json_text.proofs.Changes.{both_changed, changed_again, known_s
 pub use Rattle.pz_record.proofs.Sets.{all_of, all_seen, insert_seen}
 pub use Rattle.pz_record.specs.CellNames.{has_name, set_of}
 unfoldable pub use Rattle.pz_record.specs.CellNames.{same_set, with_name}
-pub use Rattle.pz_json_text.specs.CellTexts.{joined, text_of_cells}
+pub use Rattle.pz_json_text.specs.CellTexts.{text_of_names, text_of_cells}
 unfoldable pub use Rattle.pz_json_text.specs.CellTexts.{piece, with_cell}
 pub use Rattle.pz_json_text.specs.Labels.{text_at}
 pub use Rattle.pz_json_text.specs.Written.{HasTextBut, IsSameBut}

@@ -1,5 +1,5 @@
 -- The labels of sets of objects.
-use Rattle.pz_level_text.proofs.Common.{common_steps, ◌≡◌, ℕ, suc, ◌+◌, ◌<◌, ◌≤◌, Bool, List, [], ◌∷◌, length, take, refl, ap, arith, All, slice_index, get_or-take, length-take, member, Grid, stands, chosen_from, standing_names, set_of, joined, set_text, IsLabelOf, IsLabelOfWord}
+use Rattle.pz_level_text.proofs.Common.{common_steps, ◌≡◌, ℕ, suc, ◌+◌, ◌<◌, ◌≤◌, Bool, List, [], ◌∷◌, length, take, refl, ap, arith, All, slice_index, get_or-take, length-take, member, Grid, stands, chosen_from, standing_names, set_of, text_of_names, set_text, IsLabelOf, IsLabelOfWord}
 use Rattle.pz_level_text.specs.declared.labelled_set.LabelledSet.{LabelledSet}
 
 -- tests that agree choose the same names
@@ -22,8 +22,8 @@ unfolding standing_names
 named_at names objects grid x y same = chosen_same (member objects) (stands grid x y) same 0 names
 
 -- the text of the objects that stand at a position
-pub set_standing : (names : List (List ℕ)) (grid : Grid) (x y : ℕ) (objects : List ℕ) → ((object : ℕ) → member objects object ≡ stands grid x y object) → set_text names objects ≡ joined (set_of (standing_names names grid (x, y)))
-set_standing names grid x y objects same = ap (λ (l : List (List ℕ)). joined (set_of l)) (named_at names objects grid x y same)
+pub set_standing : (names : List (List ℕ)) (grid : Grid) (x y : ℕ) (objects : List ℕ) → ((object : ℕ) → member objects object ≡ stands grid x y object) → set_text names objects ≡ text_of_names (set_of (standing_names names grid (x, y)))
+set_standing names grid x y objects same = ap (λ (l : List (List ℕ)). text_of_names (set_of l)) (named_at names objects grid x y same)
 
 pub labels_kept : (names texts more : List (List ℕ)) (known : List LabelledSet) → take (length texts) more ≡ texts → All (λ k. IsLabelOf names texts k.objects k.label) known → All (λ k. IsLabelOf names more k.objects k.label) known
 labels_kept names texts more known kept each k d within = grind (arith, common_steps, get_or-take, length-take)

@@ -1,5 +1,5 @@
 -- The text of a level reads as the names of its cells.
-use Rattle.pz_level_text.proofs.Common.{◌≡◌, ◌≢◌, ℕ, suc, ◌<◌, ◌^◌, ◌&&◌, not, List, [], ◌∷◌, length, map, All, Bool, true, false, Some, cond, refl, ap, ap₂, ◌∙◌, list_all, GameParts, Grid, stands, Order, set_of, cells_in, chosen_from, standing_names, sets_in, joined, text_of_cells, HasNoComma, texts_in, all_of}
+use Rattle.pz_level_text.proofs.Common.{◌≡◌, ◌≢◌, ℕ, suc, ◌<◌, ◌^◌, ◌&&◌, not, List, [], ◌∷◌, length, map, All, Bool, true, false, Some, cond, refl, ap, ap₂, ◌∙◌, list_all, GameParts, Grid, stands, Order, set_of, cells_in, chosen_from, standing_names, sets_in, text_of_names, text_of_cells, HasNoComma, texts_in, all_of}
 use Rattle.std.proofs.lemmas.List.Elements.{All-head, All-tail}
 use Rattle.std.proofs.lemmas.Bool.{ne_eqb, and_parts}
 use Rattle.pz_game.specs.Game.{IsGame}
@@ -62,15 +62,15 @@ standing_plain : (objects : List (List ℕ)) (grid : Grid) (position : ℕ × �
 unfolding standing_names
 standing_plain objects grid position h = chosen_all (list_all plain) (stands grid position.0 position.1) 0 objects h
 
-joined_plain : (names : List (List ℕ)) → list_all (list_all plain) names ≡ true → list_all plain (joined names) ≡ true
+joined_plain : (names : List (List ℕ)) → list_all (list_all plain) names ≡ true → list_all plain (text_of_names names) ≡ true
 joined_plain [] h = refl
 joined_plain (name ∷ []) h = (and_parts (list_all plain name) true h).0
 joined_plain (name ∷ next ∷ names) h =
     let parts = and_parts (list_all plain name) (list_all (list_all plain) (next ∷ names)) h in
-    all_append plain name (32 ∷ joined (next ∷ names)) parts.0 (joined_plain (next ∷ names) parts.1)
+    all_append plain name (32 ∷ text_of_names (next ∷ names)) parts.0 (joined_plain (next ∷ names) parts.1)
 
 texts_plain : (objects : List (List ℕ)) (grid : Grid) (positions : List (ℕ × ℕ)) → list_all (list_all plain) objects ≡ true
-    → list_all (list_all plain) (map joined (map (λ position. set_of (standing_names objects grid position)) positions)) ≡ true
+    → list_all (list_all plain) (map text_of_names (map (λ position. set_of (standing_names objects grid position)) positions)) ≡ true
 texts_plain objects grid [] h = refl
 texts_plain objects grid (position ∷ positions) h =
     let names = standing_names objects grid position in
@@ -78,7 +78,7 @@ texts_plain objects grid (position ∷ positions) h =
     rw (joined_plain (set_of names) set, texts_plain objects grid positions h) refl
 
 sets_read : (objects : List (List ℕ)) (grid : Grid) (positions : List (ℕ × ℕ)) → AreGameNames objects
-    → map name_set (map joined (map (λ position. set_of (standing_names objects grid position)) positions)) ≡ map (λ position. set_of (standing_names objects grid position)) positions
+    → map name_set (map text_of_names (map (λ position. set_of (standing_names objects grid position)) positions)) ≡ map (λ position. set_of (standing_names objects grid position)) positions
 sets_read objects grid [] g = refl
 sets_read objects grid (position ∷ positions) g =
     ap₂ (λ x xs. x ∷ xs) (set_reads (standing_names objects grid position) (standing_game objects grid position g)) (sets_read objects grid positions g)

@@ -1,5 +1,5 @@
 -- The sets of a level's cells, one after the other.
-use Rattle.pz_level_text.proofs.Common.{common_steps, ◌≡◌, ℕ, Bool, suc, ◌+◌, ◌*◌, ◌<◌, ◌≤◌, ◌&&◌, List, [], ◌∷◌, length, drop, get_or, true, false, refl, ap, sym, ◌∙◌, arith, length-map, get_or-map, drop_more, drop_all, GameParts, member, Grid, stands, Order, set_of, same_set, texts_in, position_of, column_of, row_of, cells_in, standing_names, sets_in, joined, same_sets, equals_recorded, has_names}
+use Rattle.pz_level_text.proofs.Common.{common_steps, ◌≡◌, ℕ, Bool, suc, ◌+◌, ◌*◌, ◌<◌, ◌≤◌, ◌&&◌, List, [], ◌∷◌, length, drop, get_or, true, false, refl, ap, sym, ◌∙◌, arith, length-map, get_or-map, drop_more, drop_all, GameParts, member, Grid, stands, Order, set_of, same_set, texts_in, position_of, column_of, row_of, cells_in, standing_names, sets_in, text_of_names, same_sets, equals_recorded, has_names}
 use Rattle.std.proofs.lemmas.List.FromFn.{length-map-range_with_len, get_or-map-range_with_len}
 use Rattle.pz_level_text.proofs.Labelling.{named_at}
 
@@ -53,9 +53,9 @@ pub same_end : (game : GameParts) (order : Order) (grid : Grid) (recorded : List
 same_end game order grid recorded k h size = grind (arith, common_steps, length-sets_in, drop_all)
 
 pub length-texts_in : (game : GameParts) (order : Order) (grid : Grid) → length (texts_in game order grid) ≡ grid.width * grid.height
-length-texts_in game order grid = length-map (sets_in game order grid) joined ∙ length-sets_in game order grid
+length-texts_in game order grid = length-map (sets_in game order grid) text_of_names ∙ length-sets_in game order grid
 
 -- the text of the cell of a number
 pub text_at_number : (game : GameParts) (order : Order) (grid : Grid) (k x y : ℕ) → k < grid.width * grid.height → x ≡ column_of order grid k → y ≡ row_of order grid k
-    → get_or (texts_in game order grid) k [] ≡ joined (set_of (standing_names game.objects grid (x, y)))
-text_at_number game order grid k x y h e f = grind (arith, common_steps, length-sets_in game order grid, get_or-map joined (sets_in game order grid) k, set_at game order grid k x y h e f)
+    → get_or (texts_in game order grid) k [] ≡ text_of_names (set_of (standing_names game.objects grid (x, y)))
+text_at_number game order grid k x y h e f = grind (arith, common_steps, length-sets_in game order grid, get_or-map text_of_names (sets_in game order grid) k, set_at game order grid k x y h e f)

@@ -5,17 +5,17 @@ use Rattle.pz_sheet.specs.Grid.{Grid}
 use Rattle.pz_sets.specs.Sets.{member}
 use Rattle.pz_record.specs.declared.order.Order.{Order}
 use Rattle.pz_record.specs.CellNames.{set_of}
-use Rattle.pz_json_text.specs.CellTexts.{joined}
+use Rattle.pz_json_text.specs.CellTexts.{text_of_names}
 use Rattle.pz_json_text.specs.Labels.{text_at}
 use Rattle.pz_level_text.specs.LevelNames.{chosen_from, sets_in}
 
 -- the text of a set of objects
 abbrev pub set_text : List (List ℕ) → List ℕ → List ℕ
-set_text names objects = joined (set_of (chosen_from (member objects) 0 names))
+set_text names objects = text_of_names (set_of (chosen_from (member objects) 0 names))
 
 -- the texts of the cells of a level, in an order
 abbrev pub texts_in : GameParts → Order → Grid → List (List ℕ)
-texts_in game order grid = map joined (sets_in game order grid)
+texts_in game order grid = map text_of_names (sets_in game order grid)
 
 -- a set of objects has the text of this label
 abbrev pub IsLabelOf : List (List ℕ) → List (List ℕ) → List ℕ → ℕ → Type 0

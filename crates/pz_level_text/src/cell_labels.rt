@@ -8,7 +8,7 @@ ghost use Rattle.pz_json_text.specs.Labels.{text_at};
 ghost use Rattle.pz_level_text.specs.Labels.{texts_in};
 ghost use Rattle.pz_level_text.specs.LastText.{IsLastOf};
 ghost use Rattle.pz_level_text.specs.LevelNames.{standing_names};
-ghost use Rattle.pz_json_text.specs.CellTexts.{joined};
+ghost use Rattle.pz_json_text.specs.CellTexts.{text_of_names};
 ghost use Rattle.pz_json_text.specs.Written.{IsSameBut};
 
 use crate::cell_order::{number_at, position};
@@ -17,8 +17,8 @@ use crate::last_text::{LastText, follow};
 use pz_bare::BareLevel;
 use pz_game::game::Game;
 use pz_json_text::labels::KnownTexts;
-use pz_record::order::Order;
 use pz_json_text::text_room::TextRoom;
+use pz_record::order::Order;
 use pz_sheet::changes::KnownChanges;
 use std::alloc::{AllocError, Global};
 use std::marker::Model;
@@ -94,7 +94,7 @@ impl<'a> CellLabels<'a> {
         ensures known { IfOk result (λ label. label < length self.new.table.texts) }
         ensures text { IfOk result
             (λ label. text_at self.new.table.texts label ≡
-            joined (set_of (standing_names self.old.table.game.objects level.now.grid (x, y)))) }
+            text_of_names (set_of (standing_names self.old.table.game.objects level.now.grid (x, y)))) }
         ensures cells { self.new.cells ≡ self.old.cells }
         ensures kept { take (length self.old.table.texts) self.new.table.texts ≡ self.old.table.texts }
         ensures game { self.new.table.game ≡ self.old.table.game }

@@ -5,7 +5,7 @@ ghost use Rattle.pz_sets.specs.Sets.{member};
 ghost use Rattle.pz_record.specs.CellNames.{with_name, set_of};
 ghost use Rattle.pz_level_text.specs.Labels.{set_text};
 ghost use Rattle.pz_level_text.specs.LevelNames.{chosen_from};
-ghost use Rattle.pz_json_text.specs.CellTexts.{joined};
+ghost use Rattle.pz_json_text.specs.CellTexts.{text_of_names};
 
 use pz_base::name::Name;
 use pz_sets::set::NumberSet;
@@ -40,7 +40,7 @@ fn names_of<'a>(
 
 /// The names, separated by spaces.
 fn join(alloc: Global, names: BTreeSet<&str>) -> Result<String, AllocError>
-    ensures { IfOk result (λ text. string_bytes text ≡ joined (map (λ n. n.now) names.entry.keys)) }
+    ensures { IfOk result (λ text. string_bytes text ≡ text_of_names (map (λ n. n.now) names.entry.keys)) }
 {
     let names: Vec<&str> = names.into_iter().collect(alloc)?;
     names.join(alloc, " ")

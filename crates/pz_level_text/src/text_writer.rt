@@ -13,10 +13,10 @@ use crate::last_text::LastText;
 use pz_bare::BareLevel;
 use pz_game::game::Game;
 use pz_json_text::changed::Changed;
-use pz_record::order::Order;
 use pz_json_text::plain::plain_text;
 use pz_json_text::quoted::QuotedText;
 use pz_json_text::text_room::TextRoom;
+use pz_record::order::Order;
 use std::alloc::{AllocError, Global};
 use std::marker::Model;
 

@@ -4,7 +4,7 @@ use Rattle.std.proofs.lemmas.List.{append_assoc, append-nil, take-append-drop, t
 use Rattle.std.proofs.lemmas.Grind.{flat_map-append}
 use Rattle.pz_case.specs.declared.recording.Record.{Record}
 use Rattle.pz_case.specs.declared.item.Item.{Item}
-use Rattle.pz_lines.specs.Lines.{frame_count, item_line, lines_of, numbered}
+use Rattle.pz_lines.specs.Lines.{frame_count, item_line, lines_of, recording_lines}
 
 -- w elements, and k more of what is left
 pub take_more_of : {X : Type 0} (w k : ℕ) (xs : List X) → take (w + k) xs ≡ take w xs ++ take k (drop w xs)
@@ -30,29 +30,29 @@ pub items_cut : {X : Type 0} (f : X → List ℕ) (xs : List X) (i : ℕ) (x : X
     → flat_map f xs ≡ flat_map f (take i xs) ++ (f x ++ flat_map f (drop (i + 1) xs))
 items_cut f xs i x h is = ap (flat_map f) (cut_at xs i x h is) ∙ flat_map-append f (take i xs) (x ∷ drop (i + 1) xs)
 
-numbered-append : (f : ℕ → Record → List ℕ) (n : ℕ) (xs ys : List Record) → numbered f n (xs ++ ys) ≡ numbered f n xs ++ numbered f (n + length xs) ys
-numbered-append f n [] ys = ap (λ k. numbered f k ys) (omega arith)
+numbered-append : (f : ℕ → Record → List ℕ) (n : ℕ) (xs ys : List Record) → recording_lines f n (xs ++ ys) ≡ recording_lines f n xs ++ recording_lines f (n + length xs) ys
+numbered-append f n [] ys = ap (λ k. recording_lines f k ys) (omega arith)
 numbered-append f n (x ∷ xs) ys =
-    ap (λ t. f n x ++ t) (numbered-append f (suc n) xs ys) ∙ (sym (append_assoc (f n x) (numbered f (suc n) xs) (numbered f (suc n + length xs) ys))
-    ∙ ap (λ k. f n x ++ numbered f (suc n) xs ++ numbered f k ys) (omega arith))
+    ap (λ t. f n x ++ t) (numbered-append f (suc n) xs ys) ∙ (sym (append_assoc (f n x) (recording_lines f (suc n) xs) (recording_lines f (suc n + length xs) ys))
+    ∙ ap (λ k. f n x ++ recording_lines f (suc n) xs ++ recording_lines f k ys) (omega arith))
 
 before_it : (xs : List Record) (i : ℕ) → i < length xs → 0 + length (take i xs) ≡ i
 before_it xs i h = omega (arith, length-take-le i xs (omega arith))
 
 -- the lines of the sessions up to a session, and its lines
 pub sessions_more : (f : ℕ → Record → List ℕ) (recording xs : List Record) (i : ℕ) (x : Record) → xs ≡ recording → i < length xs → x ≡ get_or xs i x
-    → numbered f 0 (take (i + 1) recording) ≡ numbered f 0 (take i recording) ++ f i x
-sessions_more f recording xs i x e h is = rw (← e) (ap (numbered f 0) (front_more xs i x h is) ∙ (numbered-append f 0 (take i xs) (x ∷ [])
-    ∙ rw (before_it xs i h) (ap (λ t. numbered f 0 (take i xs) ++ t) (append-nil (f i x)))))
+    → recording_lines f 0 (take (i + 1) recording) ≡ recording_lines f 0 (take i recording) ++ f i x
+sessions_more f recording xs i x e h is = rw (← e) (ap (recording_lines f 0) (front_more xs i x h is) ∙ (numbered-append f 0 (take i xs) (x ∷ [])
+    ∙ rw (before_it xs i h) (ap (λ t. recording_lines f 0 (take i xs) ++ t) (append-nil (f i x)))))
 
 pub sessions_cut : (f : ℕ → Record → List ℕ) (recording xs : List Record) (i : ℕ) (x : Record) → xs ≡ recording → i < length xs → x ≡ get_or xs i x
-    → numbered f 0 recording ≡ numbered f 0 (take i recording) ++ (f i x ++ numbered f (suc i) (drop (i + 1) recording))
-sessions_cut f recording xs i x e h is = rw (← e) (ap (numbered f 0) (cut_at xs i x h is) ∙ (numbered-append f 0 (take i xs) (x ∷ drop (i + 1) xs)
-    ∙ ap (λ k. numbered f 0 (take i xs) ++ numbered f k (x ∷ drop (i + 1) xs)) (before_it xs i h)))
+    → recording_lines f 0 recording ≡ recording_lines f 0 (take i recording) ++ (f i x ++ recording_lines f (suc i) (drop (i + 1) recording))
+sessions_cut f recording xs i x e h is = rw (← e) (ap (recording_lines f 0) (cut_at xs i x h is) ∙ (numbered-append f 0 (take i xs) (x ∷ drop (i + 1) xs)
+    ∙ ap (λ k. recording_lines f 0 (take i xs) ++ recording_lines f k (x ∷ drop (i + 1) xs)) (before_it xs i h)))
 
 -- behind the last session all lines stand
-pub sessions_all : (f : ℕ → Record → List ℕ) (recording xs : List Record) (i : ℕ) → xs ≡ recording → length xs ≤ i → numbered f 0 recording ≡ numbered f 0 (take i recording)
-sessions_all f recording xs i e h = rw (← e) (ap (numbered f 0) (sym (take_all i xs h)))
+pub sessions_all : (f : ℕ → Record → List ℕ) (recording xs : List Record) (i : ℕ) → xs ≡ recording → length xs ≤ i → recording_lines f 0 recording ≡ recording_lines f 0 (take i recording)
+sessions_all f recording xs i e h = rw (← e) (ap (recording_lines f 0) (sym (take_all i xs h)))
 
 -- the same of what a session showed, whose items and number of frames were read off
 pub shown_cut : (session : ℕ) (shown : Record) (items : List Item) (frames i : ℕ) (x : Item) → items ≡ shown.items → frames ≡ frame_count items → i < length items → x ≡ get_or items i x

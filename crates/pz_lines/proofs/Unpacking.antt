@@ -3,17 +3,17 @@ use Rattle.std.proofs.Common.{◌≡◌, ℕ, ◌+◌, ◌<◌, ◌≤◌, List,
 use Rattle.std.specs.List.{concat}
 use Rattle.std.proofs.lemmas.List.{append_assoc, at_drop_more, drop_all}
 use Rattle.pz_lines.specs.declared.packed.Part.{Part}
-use Rattle.pz_lines.specs.Packed.{next_line, unpacked}
+use Rattle.pz_lines.specs.Packed.{next_line, lines_of_parts}
 
 -- the next line is put behind those that are kept back
 pub next_unpacked : (places kept last line held more : List ℕ) (parts items : List Part) (i : ℕ) (none : Part) → items ≡ parts → i < length items
     → more ≡ held ++ next_line places kept last (get_or items i none) → line ≡ next_line places kept last (get_or items i none)
-    → held ++ unpacked places kept last (drop i parts) ≡ more ++ unpacked places kept line (drop (i + 1) parts)
+    → held ++ lines_of_parts places kept last (drop i parts) ≡ more ++ lines_of_parts places kept line (drop (i + 1) parts)
 next_unpacked places kept last line held more parts items i none p within m l =
     let next = next_line places kept last (get_or parts i none) in
     let rest = drop (i + 1) parts in
     let here : i < length parts = rw p at within in
-    rw (m, l, p) (ap (λ xs. held ++ xs) (at_drop_more (unpacked places kept last) parts i none here) ∙ sym (append_assoc held next (unpacked places kept next rest)))
+    rw (m, l, p) (ap (λ xs. held ++ xs) (at_drop_more (lines_of_parts places kept last) parts i none here) ∙ sym (append_assoc held next (lines_of_parts places kept next rest)))
 
 -- some of what is kept back goes out
 pub more_out : (whole sent now held left rest : List ℕ) → whole ≡ sent ++ (held ++ rest) → held ≡ now ++ left → whole ≡ (sent ++ now) ++ (left ++ rest)

@@ -56,14 +56,14 @@ abbrev pub lines_from : ℕ → ℕ → Record → List ℕ
 lines_from from session shown = flat_map (item_line session shown.name (frame_count shown.items)) (filter (is_from from) shown.items)
 
 -- the lines of the sessions, which are numbered from this number on
-abbrev pub numbered : (ℕ → Record → List ℕ) → ℕ → List Record → List ℕ
-numbered lines session [] = []
-numbered lines session (shown ∷ later) = lines session shown ++ numbered lines (suc session) later
+abbrev pub recording_lines : (ℕ → Record → List ℕ) → ℕ → List Record → List ℕ
+recording_lines lines session [] = []
+recording_lines lines session (shown ∷ later) = lines session shown ++ recording_lines lines (suc session) later
 
 -- program.lines
 unfoldable pub text_of : List Record → List ℕ
-text_of recording = numbered lines_of 0 recording
+text_of recording = recording_lines lines_of 0 recording
 
 -- the text of a recording, only the lines of the items from an input on
 unfoldable pub text_from : ℕ → List Record → List ℕ
-text_from from recording = numbered (lines_from from) 0 recording
+text_from from recording = recording_lines (lines_from from) 0 recording

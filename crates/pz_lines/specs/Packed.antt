@@ -5,13 +5,13 @@ use Rattle.pz_lines.specs.declared.packed.Part.{Part}
 use Rattle.pz_lines.specs.declared.packed.TheConstants.{CHUNK}
 
 -- a line with other bytes from a place on; if so many aren't there, the line as it is
-unfoldable pub replaced : List ℕ → ℕ → List ℕ → List ℕ
-replaced line place own = if nat_le (place + length own) (length line) then take place line ++ own ++ drop (place + length own) line else line
+unfoldable pub with_bytes : List ℕ → ℕ → List ℕ → List ℕ
+with_bytes line place own = if nat_le (place + length own) (length line) then take place line ++ own ++ drop (place + length own) line else line
 
 -- a line with another chunk of this size at each of these places; the chunks stand one after another
-abbrev pub changed : ℕ → List ℕ → List ℕ → List ℕ → List ℕ
-changed size line [] own = line
-changed size line (place ∷ places) own = changed size (replaced line place (take size own)) places (drop size own)
+abbrev pub with_chunks : ℕ → List ℕ → List ℕ → List ℕ → List ℕ
+with_chunks size line [] own = line
+with_chunks size line (place ∷ places) own = with_chunks size (with_bytes line place (take size own)) places (drop size own)
 
 -- what stands behind the chunks for these places
 abbrev pub tail_of : ℕ → List ℕ → List ℕ → List ℕ
@@ -20,20 +20,20 @@ tail_of size (place ∷ places) own = tail_of size places (drop size own)
 
 -- a line: the front of the last line with chunks changed, and a tail of its own
 unfoldable pub line_of : List ℕ → List ℕ → List ℕ → ℕ → List ℕ
-line_of last places own front = changed CHUNK (take front last) places own ++ tail_of CHUNK places own
+line_of last places own front = with_chunks CHUNK (take front last) places own ++ tail_of CHUNK places own
 
 -- the line that a part makes of the last line
 abbrev pub next_line : List ℕ → List ℕ → List ℕ → Part → List ℕ
 next_line places kept last part = line_of last (take part.changes (drop part.place places)) (take part.own (drop part.from kept)) part.front
 
 -- the lines that parts make, one after another
-abbrev pub unpacked : List ℕ → List ℕ → List ℕ → List Part → List ℕ
-unpacked places kept last [] = []
-unpacked places kept last (part ∷ parts) = next_line places kept last part ++ unpacked places kept (next_line places kept last part) parts
+abbrev pub lines_of_parts : List ℕ → List ℕ → List ℕ → List Part → List ℕ
+lines_of_parts places kept last [] = []
+lines_of_parts places kept last (part ∷ parts) = next_line places kept last part ++ lines_of_parts places kept (next_line places kept last part) parts
 
 -- up to a place a line is the last line with these changes, which stand before that place
 pub record AreChanges (last line : List ℕ) (at : ℕ) (places bytes : List ℕ) : Type 0 where
-  pub same : changed CHUNK (take at last) places bytes ≡ take at line
+  pub same : with_chunks CHUNK (take at last) places bytes ≡ take at line
   pub before : All (λ place. place + CHUNK ≤ at) places
   pub chunks : length bytes ≡ length places * CHUNK
   pub few : length bytes ≤ at

@@ -6,10 +6,10 @@ use Rattle.pz_lines.specs.declared.fault.Cause.TheVariants.{Memory, Device, Zero
 use Rattle.pz_lines.specs.declared.fault.WriteFault.{WriteFault}
 
 -- what a write of some bytes answered: how many it took, or why it failed; one that takes nothing has failed
-abbrev pub taken : {E : Type 0} → Result ℕ E → Result ℕ Cause
-taken (Ok zero) = Err Zero
-taken (Ok (suc more)) = Ok (suc more)
-taken (Err error) = Err Device
+abbrev pub write_answer : {E : Type 0} → Result ℕ E → Result ℕ Cause
+write_answer (Ok zero) = Err Zero
+write_answer (Ok (suc more)) = Ok (suc more)
+write_answer (Err error) = Err Device
 
 -- what contracts see of a writer: the bytes that it holds, if they are known, and why a write failed, if one did
 pub record Writes : Type 0 where

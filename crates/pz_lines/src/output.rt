@@ -1,7 +1,7 @@
 //! A writer that remembers its failure.
 
 ghost use Rattle.std.specs.Prelude.{◌≡◌, ◌≤◌, ◌<◌, None, [], length, take, IfErr, IfOk, OnOk};
-ghost use Rattle.pz_lines.specs.Writing.{HasFailed, HasWritten, taken};
+ghost use Rattle.pz_lines.specs.Writing.{HasFailed, HasWritten, write_answer};
 
 use crate::fault::{Cause, WriteFault};
 use std::io::{self, Write};
@@ -9,7 +9,7 @@ use std::marker::Model;
 
 /// How many bytes a write took, or why it failed.
 fn taken(answer: io::Result<usize>) -> Result<usize, Cause>
-    ensures { result ≡ taken answer }
+    ensures { result ≡ write_answer answer }
 {
     match answer {
         Ok(0) => Err(Cause::Zero),

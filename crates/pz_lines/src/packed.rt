@@ -2,7 +2,7 @@
 //! the whole text of a level, and mostly little of it changed.
 
 ghost use Rattle.std.specs.Prelude.{◌≡◌, ℕ, ◌++◌, ◌+◌, ◌*◌, ◌≤◌, List, [], length, take, drop, IfOk, IsTrue, OnErr, OnOk};
-ghost use Rattle.pz_lines.specs.Packed.{AreChanges, HaveGrown, IsPartOf, changed, line_of, next_line, replaced, tail_of};
+ghost use Rattle.pz_lines.specs.Packed.{AreChanges, HaveGrown, IsPartOf, with_chunks, line_of, next_line, with_bytes, tail_of};
 ghost use Rattle.pz_lines.specs.declared.packed.TheConstants.{BLOCK, CHUNK, MOST};
 
 use std::alloc::{AllocError, Global};
@@ -46,11 +46,11 @@ pub struct PackedLines {
 
 impl Model for PackedLines {
     ghost use Rattle.std.specs.Prelude.{List, [], ℕ};
-    ghost use Rattle.pz_lines.specs.Packed.{unpacked};
+    ghost use Rattle.pz_lines.specs.Packed.{lines_of_parts};
 
     ghost Value = { List ℕ };
 
-    ghost view = { λ lines. unpacked lines.kept.places.items lines.kept.bytes.items [] lines.parts.items };
+    ghost view = { λ lines. lines_of_parts lines.kept.places.items lines.kept.bytes.items [] lines.parts.items };
 }
 
 /// Packs lines, one after another. It has the last line at hand, and room for the next and its changes.
@@ -65,11 +65,11 @@ pub struct Packer {
 
 impl Model for Packer {
     ghost use Rattle.std.specs.Prelude.{List, [], ℕ};
-    ghost use Rattle.pz_lines.specs.Packed.{ArePacked, unpacked};
+    ghost use Rattle.pz_lines.specs.Packed.{ArePacked, lines_of_parts};
 
     ghost Value = { List ℕ };
 
-    ghost view = { λ packer. unpacked packer.kept.places.items packer.kept.bytes.items [] packer.parts.items };
+    ghost view = { λ packer. lines_of_parts packer.kept.places.items packer.kept.bytes.items [] packer.parts.items };
 
     ghost invariant = { λ packer.
         ArePacked packer.kept.places.items packer.kept.bytes.items packer.parts.items packer.last.items };
@@ -223,7 +223,7 @@ fn cut(text: &[u8], place: usize) -> (&[u8], &[u8])
 
 /// Replaces bytes of a line from a place on, if so many are there.
 fn put(line: &mut [u8], place: u32, own: &[u8])
-    ensures { line.new ≡ replaced line.old place own.now }
+    ensures { line.new ≡ with_bytes line.old place own.now }
 {
     let place = place as usize;
     if own.len() <= line.len() && place <= line.len() - own.len() {
@@ -233,7 +233,7 @@ fn put(line: &mut [u8], place: u32, own: &[u8])
 
 /// The same as `put`, for a chunk. As its length is known, its bytes are moved at once.
 fn put_chunk(line: &mut [u8], place: u32, own: &[u8])
-    ensures { line.new ≡ replaced line.old place own.now }
+    ensures { line.new ≡ with_bytes line.old place own.now }
 {
     let at = place as usize;
     if own.len() == CHUNK && CHUNK <= line.len() && at <= line.len() - CHUNK {
@@ -245,7 +245,7 @@ fn put_chunk(line: &mut [u8], place: u32, own: &[u8])
 
 /// Changes a chunk of a line at each place, by the bytes that are kept, and answers those that are left.
 fn change<'a>(line: &mut [u8], places: &[u32], own: &'a [u8]) -> &'a [u8]
-    ensures changed { line.new ≡ changed CHUNK line.old places.now own.now }
+    ensures with_chunks { line.new ≡ with_chunks CHUNK line.old places.now own.now }
     ensures tail { result.now ≡ tail_of CHUNK places.now own.now }
 {
     let mut rest = own;

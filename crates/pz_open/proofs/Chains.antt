@@ -8,10 +8,10 @@ use Rattle.pz_session.specs.declared.chain.Frame.{Frame}
 use Rattle.pz_session.specs.declared.chain.Shown.{Shown}
 use Rattle.pz_session.specs.declared.chain.PlayFault.{PlayFault}
 use Rattle.pz_session.specs.declared.chain.PlayFault.TheVariants as fault
-use Rattle.pz_session.specs.Chain.{Chain, GivesLink, Link, follow, preceded, shown_frames, ticks}
+use Rattle.pz_session.specs.Chain.{Chain, GivesLink, Link, follow, with_frames_before, shown_frames, ticks}
 use Rattle.pz_session.specs.Board.{State}
 unfoldable use Rattle.pz_session.specs.Board.{tick_link}
-unfoldable use Rattle.pz_session.specs.Session.{numbered}
+unfoldable use Rattle.pz_session.specs.Session.{frames_as_items}
 use Rattle.pz_open.specs.declared.telling.Told.{Told}
 use Rattle.pz_open.specs.Opened.{frame_items}
 use Rattle.pz_open.specs.Telling.{IsTold, chain_from, end_of}
@@ -20,13 +20,13 @@ use Rattle.pz_open.proofs.Opening.{numbered_append}
 pub items_append : (n at : ℕ) (frames more : List Frame) → frame_items n at (frames ++ more) ≡ frame_items n at frames ++ frame_items (n + length frames) at more
 items_append n at frames more =
     let put : Frame → ℕ × Frame = λ frame. (at, frame) in
-    ap (λ (fs : List (ℕ × Frame)). numbered n fs) (map-append put frames more)
+    ap (λ (fs : List (ℕ × Frame)). frames_as_items n fs) (map-append put frames more)
     ∙ numbered_append n (map put frames) (map put more)
     ∙ ap (λ (count : ℕ). frame_items n at frames ++ frame_items (n + count) at more) (length-map frames put)
 
 -- nothing told of nothing
 nothing_told : (told : Told) (end : Result State Stop) (stop : Option Stop) (state : State) → end ≡ end_of stop state → IsTold told (record { shown = []; after = end }) told stop state
-unfolding numbered
+unfolding frames_as_items
 nothing_told told end stop state is = record { items = sym (append-nil told.items.items); frames = omega arith; taken = refl; end = is }
 
 -- a chain that is over
@@ -41,7 +41,7 @@ told_stop told stop state = nothing_told told (Err stop) (Some stop) state refl
 told_preceded : (before middle after : Told) (shown : List Frame) (chain : Chain State) (stop : Option Stop) (end : State)
     → middle.items.items ≡ before.items.items ++ frame_items before.frames before.taken shown
     → middle.frames ≡ before.frames + length shown → middle.taken ≡ before.taken
-    → IsTold middle chain after stop end → IsTold before (preceded shown chain) after stop end
+    → IsTold middle chain after stop end → IsTold before (with_frames_before shown chain) after stop end
 told_preceded before middle after shown chain stop end items frames taken told =
     let first = frame_items before.frames before.taken shown in
     let rest : frame_items middle.frames middle.taken chain.shown ≡ frame_items (before.frames + length shown) before.taken chain.shown = λ i. frame_items (frames i) (taken i) chain.shown in
@@ -53,9 +53,9 @@ told_preceded before middle after shown chain stop end items frames taken told =
       end = told.end;
     }
 
-follow_is : (link : Link State) (allowed : ℕ) → preceded link.shown (chain_from link.goes_on allowed link.after) ≡ follow (ticks tick_link allowed) (Ok link)
+follow_is : (link : Link State) (allowed : ℕ) → with_frames_before link.shown (chain_from link.goes_on allowed link.after) ≡ follow (ticks tick_link allowed) (Ok link)
 follow_is link allowed = by_goes link.goes_on where
-  by_goes : (goes_on : Bool) → preceded link.shown (chain_from goes_on allowed link.after) ≡ follow (ticks tick_link allowed) (Ok (record { shown = link.shown; after = link.after; goes_on = goes_on }))
+  by_goes : (goes_on : Bool) → with_frames_before link.shown (chain_from goes_on allowed link.after) ≡ follow (ticks tick_link allowed) (Ok (record { shown = link.shown; after = link.after; goes_on = goes_on }))
   by_goes true = refl
   by_goes false = λ i. record { shown = append-nil link.shown i; after = Ok link.after }
 

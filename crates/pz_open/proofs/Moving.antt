@@ -9,7 +9,7 @@ use Rattle.pz_case.specs.declared.item.Stop.{Stop}
 use Rattle.pz_case.specs.Plan.{PlanState}
 use Rattle.pz_session.specs.Chain.{Chain}
 use Rattle.pz_session.specs.Board.{State, IsOneGame, past_with, verdict_of}
-unfoldable use Rattle.pz_session.specs.Board.{settled}
+unfoldable use Rattle.pz_session.specs.Board.{with_past}
 use Rattle.pz_session.specs.Case.{state_of}
 use Rattle.pz_session.specs.Standing.{Stood, stood_in}
 use Rattle.pz_steps.specs.Steps.{chain_of, start_chain}
@@ -23,8 +23,8 @@ use Rattle.pz_open.proofs.Opening as opening
 
 -- where a session of a plan settles, it stands again
 stood_again : (plan : PlanState) (state : State) → state.game ≡ plan.game → state.program ≡ plan.program → state.order ≡ plan.order → state.recorded ≡ plan.recorded
-    → state_of_stood plan (stood_in (settled state)) ≡ settled state
-unfolding settled
+    → state_of_stood plan (stood_in (with_past state)) ≡ with_past state
+unfolding with_past
 stood_again plan state game program order recorded = λ i. record {
   game = sym game i;
   program = sym program i;
@@ -43,17 +43,17 @@ keeps_after from state end keeps is = subst (EndKeeps from) is keeps
 
 -- behind a chain that ends
 module _ (plan : PlanState) (from : State) (game : from.game ≡ plan.game) (program : from.program ≡ plan.program) (order : from.order ≡ plan.order) (recorded : from.recorded ≡ plan.recorded) where
-  again : (state : State) → KeepsPlan from state → state_of_stood plan (stood_in (settled state)) ≡ settled state
+  again : (state : State) → KeepsPlan from state → state_of_stood plan (stood_in (with_past state)) ≡ with_past state
   again state keeps = stood_again plan state (keeps.game ∙ game) (keeps.program ∙ program) (keeps.order ∙ order) (keeps.recorded ∙ recorded)
 
   goes : (told : Told) (state : State) (moved : Moved) → KeepsPlan from state → IsSettled told state moved → CanGoOn plan moved.place
   goes told state moved keeps settles = subst (CanGoOn plan) (sym settles.place) (subst IsOneGame (sym (again state keeps)) settles.game)
 
   stands : (told : Told) (state : State) (moved : Moved) (inputs : List Input) (frames : ℕ) → KeepsPlan from state → IsSettled told state moved → told.frames ≡ frames
-      → StandsAt plan inputs frames (settled state) → IsPlace plan inputs moved.place
+      → StandsAt plan inputs frames (with_past state) → IsPlace plan inputs moved.place
   stands told state moved inputs frames keeps settles count at =
       subst (IsPlace plan inputs) (sym settles.place)
-      (subst (λ (n : ℕ). StandsAt plan inputs n (state_of_stood plan (stood_in (settled state)))) (sym count) (subst (StandsAt plan inputs frames) (sym (again state keeps)) at))
+      (subst (λ (n : ℕ). StandsAt plan inputs n (state_of_stood plan (stood_in (with_past state)))) (sym count) (subst (StandsAt plan inputs frames) (sym (again state keeps)) at))
 
 -- an input from where a session stands
 module _ (plan : PlanState) (stood : Stood) (input : Input) (before told : Told) (state : State) (moved : Moved) where
@@ -89,13 +89,13 @@ module _ (plan : PlanState) (stood : Stood) (input : Input) (before told : Told)
 
 -- an input from a state where a session stands
 module _ (plan : PlanState) (from : State) (stood : IsStood plan from) (input : Input) (before told : Told) (state : State) where
-  pub stays_stood : IsTold before (chain_of input from) told None state → IsStood plan (settled state)
+  pub stays_stood : IsTold before (chain_of input from) told None state → IsStood plan (with_past state)
   stays_stood is = again plan from (ap (λ (s : State). s.game) (sym stood)) (ap (λ (s : State). s.program) (sym stood)) (ap (λ (s : State). s.order) (sym stood)) (ap (λ (s : State). s.recorded) (sym stood))
       state (keeps_after from state (chain_of input from).after (chain_keeps input from) is.end)
 
-  pub stands_behind : (inputs : List Input) → StandsAt plan inputs before.frames from → IsTold before (chain_of input from) told None state → IsLed plan (inputs ++ input ∷ []) told.frames None (settled state)
+  pub stands_behind : (inputs : List Input) → StandsAt plan inputs before.frames from → IsTold before (chain_of input from) told None state → IsLed plan (inputs ++ input ∷ []) told.frames None (with_past state)
   stands_behind inputs at is =
-      subst (λ (n : ℕ). StandsAt plan (inputs ++ input ∷ []) n (settled state)) (sym is.frames) (opening.stands_next plan inputs before.frames from at input state is.end)
+      subst (λ (n : ℕ). StandsAt plan (inputs ++ input ∷ []) n (with_past state)) (sym is.frames) (opening.stands_next plan inputs before.frames from at input state is.end)
 
   pub has_stopped_behind : (inputs : List Input) (stop : Stop) (end : State) → StandsAt plan inputs before.frames from → IsTold before (chain_of input from) told (Some stop) state → IsLed plan (inputs ++ input ∷ []) told.frames (Some stop) end
   has_stopped_behind inputs stop end at is =
@@ -140,5 +140,5 @@ module _ (plan : PlanState) (before told : Told) (state : State) (moved : Moved)
         subst (IsPlace plan []) (sym ends.place) (subst (λ (n : ℕ). HasStopped plan [] n stop) (sym (begun_frames (Some stop) is)) (opening.stops_first plan stop is.end))
 
     pub begun_items : (stop : Option Stop) → IsTold before first told stop state → IsEnded told stop state moved → moved.items.items ≡ items_with plan []
-    begun_items None is ends = ends.items ∙ ap (λ (items : List Item). items ++ item.Close (verdict_of (settled state)) ∷ []) (begun_told None is) ∙ sym (opening.starts plan state is.end)
+    begun_items None is ends = ends.items ∙ ap (λ (items : List Item). items ++ item.Close (verdict_of (with_past state)) ∷ []) (begun_told None is) ∙ sym (opening.starts plan state is.end)
     begun_items (Some stop) is ends = ends.items ∙ ap (λ (items : List Item). items ++ item.Close (verdict.Stopped stop) ∷ []) (begun_told (Some stop) is) ∙ sym (opening.stops_at_start plan stop is.end)

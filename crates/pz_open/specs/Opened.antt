@@ -9,7 +9,7 @@ use Rattle.pz_case.specs.Plan.{PlanState}
 use Rattle.pz_lines.specs.Lines.{is_frame}
 use Rattle.pz_open.specs.declared.label.Label.{Label}
 use Rattle.pz_session.specs.declared.chain.Frame.{Frame}
-use Rattle.pz_session.specs.Session.{items_from, numbered, played}
+use Rattle.pz_session.specs.Session.{items_from, frames_as_items, play_from}
 use Rattle.pz_session.specs.Board.{State, board_links}
 use Rattle.pz_session.specs.Case.{played_items}
 
@@ -41,7 +41,7 @@ ComesWith plan inputs input items = items_with plan (inputs ++ input ∷ []) ≡
 -- behind these inputs a session has shown so many frames and stands at a state: from there its items go on, whatever inputs come
 pub record StandsAt (plan : PlanState) (inputs : List Input) (frames : ℕ) (state : State) : Type 0 where
   pub shown : frames ≡ length (frames_in (items_with plan inputs))
-  pub goes_on : (later : List Input) → items_with plan (inputs ++ later) ≡ frames_in (items_with plan inputs) ++ items_from frames (played board_links (length inputs) later state)
+  pub goes_on : (later : List Input) → items_with plan (inputs ++ later) ≡ frames_in (items_with plan inputs) ++ items_from frames (play_from board_links (length inputs) later state)
 
 -- behind these inputs it has shown so many frames and has stopped: whatever inputs come, they show nothing
 pub record HasStopped (plan : PlanState) (inputs : List Input) (frames : ℕ) (stop : Stop) : Type 0 where
@@ -57,4 +57,4 @@ pub record KeepsPlan (before after : State) : Type 0 where
 
 -- the items of frames that are shown after so many inputs, numbered from n
 abbrev pub frame_items : ℕ → ℕ → List Frame → List Item
-frame_items n at frames = numbered n (map (λ frame. (at, frame)) frames)
+frame_items n at frames = frames_as_items n (map (λ frame. (at, frame)) frames)

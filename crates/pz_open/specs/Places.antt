@@ -6,7 +6,7 @@ use Rattle.pz_case.specs.Plan.{PlanState}
 use Rattle.pz_case.specs.declared.item.Item.TheVariants.{Close}
 use Rattle.pz_case.specs.declared.item.Stop.{Stop}
 use Rattle.pz_case.specs.declared.item.Verdict.TheVariants as verdict
-use Rattle.pz_session.specs.Board.{State, IsOneGame, settled, verdict_of}
+use Rattle.pz_session.specs.Board.{State, IsOneGame, with_past, verdict_of}
 use Rattle.pz_session.specs.Standing.{Stood, state_at, stood_in}
 use Rattle.pz_open.specs.declared.telling.Told.{Told}
 use Rattle.pz_open.specs.declared.place.Moved.{Moved}
@@ -44,9 +44,9 @@ IsLed plan inputs frames (Some stop) state = HasStopped plan inputs frames stop
 
 -- a chain has led from what was told to a place: where it settles, or where it stopped; the close comes last
 pub record IsSettled (told : Told) (state : State) (moved : Moved) : Type 0 where
-  pub place : moved.place ≡ At (stood_in (settled state)) told.frames
-  pub items : moved.items.items ≡ told.items.items ++ Close (verdict_of (settled state)) ∷ []
-  pub game : IsOneGame (settled state)
+  pub place : moved.place ≡ At (stood_in (with_past state)) told.frames
+  pub items : moved.items.items ≡ told.items.items ++ Close (verdict_of (with_past state)) ∷ []
+  pub game : IsOneGame (with_past state)
 
 pub record IsStopped (told : Told) (stop : Stop) (moved : Moved) : Type 0 where
   pub place : moved.place ≡ Stopped stop told.frames

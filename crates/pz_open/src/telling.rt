@@ -25,7 +25,7 @@ pub struct Told {
 
 impl Told {
     /// Tells a frame. If no `u64` holds its number, the answer is want of memory; no session has so many.
-    #[tactic(auto, unfolding(pz_session::specs::Session::numbered))]
+    #[tactic(auto, unfolding(pz_session::specs::Session::frames_as_items))]
     fn add(&mut self, frame: Frame) -> Result<(), AllocError>
         ensures items { OnOk result
             (self.new.items.items ≡ self.old.items.items ++ frame_items self.old.frames self.old.taken (frame ∷ [])) }
@@ -45,7 +45,7 @@ impl Told {
     }
 
     /// Tells a frame, if there is one.
-    #[tactic(auto, unfolding(pz_session::specs::Session::numbered))]
+    #[tactic(auto, unfolding(pz_session::specs::Session::frames_as_items))]
     fn add_if(&mut self, frame: Option<Frame>) -> Result<(), AllocError>
         ensures items { OnOk result
             (self.new.items.items ≡ self.old.items.items ++ frame_items self.old.frames self.old.taken

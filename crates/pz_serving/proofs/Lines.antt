@@ -10,7 +10,7 @@ use Rattle.pz_session.specs.Case.{items_of}
 use Rattle.pz_session.specs.Recording.{recording}
 use Rattle.pz_engine.specs.declared.engine.PlayedCase.{PlayedCase}
 use Rattle.pz_case.specs.declared.recording.Record.{Record}
-use Rattle.pz_lines.specs.Lines.{lines_from, numbered, text_from, text_of}
+use Rattle.pz_lines.specs.Lines.{lines_from, recording_lines, text_from, text_of}
 use Rattle.pz_lines.proofs.From.{all_from_0}
 use Rattle.pz_engine.specs.Sessions.{all_passed, has_passed}
 use Rattle.pz_serving.specs.AsLines.{lines_of, passed_of, piece_of, pieces_from, pieces_in, pieces_of, texts_from}
@@ -57,7 +57,7 @@ pub all_told : (k : ℕ) (shown : List Record) → list_all passed_of (pieces_in
 all_told k [] = refl
 all_told k (r ∷ shown) = ap (λ b. has_passed r && b) (all_told (suc k) shown)
 
-concat-numbered : (k : ℕ) (shown : List Record) → concat (texts_from k shown) ≡ numbered (lines_from 0) k shown
+concat-numbered : (k : ℕ) (shown : List Record) → concat (texts_from k shown) ≡ recording_lines (lines_from 0) k shown
 concat-numbered k [] = refl
 concat-numbered k (r ∷ shown) = ap (λ (l : List ℕ). lines_from 0 k r ++ l) (concat-numbered (suc k) shown)
 

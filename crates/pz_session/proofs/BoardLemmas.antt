@@ -1,5 +1,5 @@
 -- All levels of a session are its game's, and a step that is cancelled leaves the level.
-use Rattle.pz_session.proofs.Common.{arith, ◌≡◌, ℕ, List, ◌∷◌, Option, Some, None, true, false, not, Result, Ok, Err, All, drop, refl, sym, subst, IfOk, GameParts, Commands, Program, has, cancel, Grid, IsOfGame, Outcome, given_input, must_cancel, with_cancel, ended, step_ended, step_of, rules_run, FrameKind, Stop, Link, GivesLink, is_idle, State, at_level, restarted, effect, keeping, press_link, tick_link, All-head, All-tail, same_grid, Shown, PlayFault}
+use Rattle.pz_session.proofs.Common.{arith, ◌≡◌, ℕ, List, ◌∷◌, Option, Some, None, true, false, not, Result, Ok, Err, All, drop, refl, sym, subst, IfOk, GameParts, Commands, Program, has, cancel, Grid, IsOfGame, Outcome, given_input, must_cancel, with_cancel, ended, step_ended, step_of, rules_run, FrameKind, Stop, Link, GivesLink, is_idle, State, at_level, restart_link, effect, keeping, press_link, tick_link, All-head, All-tail, same_grid, Shown, PlayFault}
 use Rattle.pz_game.specs.declared.direction.Dir.{Dir}
 use Rattle.pz_game.specs.Game.{players_of}
 use Rattle.pz_bare.specs.Loading.{loaded}
@@ -45,7 +45,7 @@ tells game program grid input end = by_run (rules_run program (given_input (play
 
 -- the effect of a step on the level that it began with is that on the one where it ends
 pub effect_moved : (kind : FrameKind) (state : State) (end : Outcome Grid) → (has end.commands cancel ≡ true → end.level ≡ state.level) → effect kind (at_level end.level state) end ≡ effect kind state end
-unfolding effect restarted
+unfolding effect restart_link
 effect_moved kind state end same = grind (arith, same)
 
 -- a press whose step ends on a level that took the place of the one before it, which is kept

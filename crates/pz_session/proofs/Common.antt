@@ -30,15 +30,15 @@ pub use Rattle.pz_record.specs.declared.input.Input.TheVariants.{Press, Restart,
 pub use Rattle.pz_record.specs.declared.input.Input.{Input}
 pub use Rattle.pz_record.specs.declared.order.Order.TheVariants.{Rows}
 pub use Rattle.pz_session.specs.Board.{State, at_level, board_links, idle, input_link, keeping, loaded_at, pressed_to, showing_end, ticked_to, verdict_of}
-unfoldable pub use Rattle.pz_session.specs.Board.{begun, effect, frame_of, kept_link, press_link, reached_link, restarted, settled, start_link, tick_link, undo_link, won_link}
+unfoldable pub use Rattle.pz_session.specs.Board.{first_link, effect, frame_of, kept_link, press_link, reached_link, restart_link, with_past, start_link, tick_link, undo_link, won_link}
 unfoldable pub use Rattle.pz_session.specs.Case.{items_of_plan, played_items}
 pub use Rattle.pz_session.specs.Case.{state_of}
-pub use Rattle.pz_session.specs.Chain.{Chain, GivesLink, Link, follow, preceded, shown_frames, ticks}
+pub use Rattle.pz_session.specs.Chain.{Chain, GivesLink, Link, follow, with_frames_before, shown_frames, ticks}
 pub use Rattle.pz_session.specs.Inside.{HasLabels, state_in}
-pub use Rattle.pz_session.specs.Player.{is_waiting, is_waiting_in, left, left_with, pending, to_follow, work}
+pub use Rattle.pz_session.specs.Player.{is_waiting, is_waiting_in, items_left, left_with, pending, to_follow, work}
 unfoldable pub use Rattle.pz_session.specs.Player.{left_in, to_come}
 pub use Rattle.pz_session.specs.Session.{Links, Played, after_chain, closing, going_on, showing, ticks_after}
-unfoldable pub use Rattle.pz_session.specs.Session.{items_from, numbered, played}
+unfoldable pub use Rattle.pz_session.specs.Session.{items_from, frames_as_items, play_from}
 pub use Rattle.pz_session.specs.Turn.{is_idle}
 pub use Rattle.pz_session.specs.declared.chain.PlayFault.{PlayFault}
 pub use Rattle.pz_session.specs.declared.chain.Shown.{Shown}

@@ -1,5 +1,5 @@
 -- Worked sessions, computed.
-use Rattle.pz_session.proofs.Common.{◌≡◌, ℕ, List, [], ◌∷◌, Option, Some, None, false, if◌then◌else◌, refl, codes, GameParts, Program, Grid, step_of, rules_run, blocks_run, block_runs, has_won, Input, FrameKind, Item, level_from, PlanState, played, numbered, items_from, frame_of, start_link, press_link, tick_link, undo_link, restarted, won_link, kept_link, reached_link, effect, begun, settled, played_items, Left, Right, LevelEntry, Message, Level, Piece, Press, Undo, Restart, Tick, Rows, equals_recorded, text_of_level, Passed, Differs}
+use Rattle.pz_session.proofs.Common.{◌≡◌, ℕ, List, [], ◌∷◌, Option, Some, None, false, if◌then◌else◌, refl, codes, GameParts, Program, Grid, step_of, rules_run, blocks_run, block_runs, has_won, Input, FrameKind, Item, level_from, PlanState, play_from, frames_as_items, items_from, frame_of, start_link, press_link, tick_link, undo_link, restart_link, won_link, kept_link, reached_link, effect, first_link, with_past, played_items, Left, Right, LevelEntry, Message, Level, Piece, Press, Undo, Restart, Tick, Rows, equals_recorded, text_of_level, Passed, Differs}
 use Rattle.pz_game.specs.declared.win_line.Quantifier.TheVariants.{No}
 use Rattle.pz_game.specs.declared.win_line.WinLine.{WinLine}
 use Rattle.pz_program.specs.declared.instance.Block.TheVariants.{One}
@@ -93,7 +93,7 @@ plays :
     -- a press that moves nothing shows the level, and leaves the past; an idle tick shows nothing, and counts as an input
     × (played_items (session free (Press Left ∷ Tick ∷ Undo ∷ []))
     ≡ shows free 0 0 kind.Start at_start ∷ shows free 1 1 kind.Move at_start ∷ shows free 2 3 kind.Undo at_start ∷ closes free at_start ∷ [])
-unfolding played_items played numbered items_from frame_of start_link press_link tick_link undo_link restarted won_link kept_link reached_link effect begun settled level_from step_of rules_run blocks_run block_runs has_won
+unfolding played_items play_from frames_as_items items_from frame_of start_link press_link tick_link undo_link restart_link won_link kept_link reached_link effect first_link with_past level_from step_of rules_run blocks_run block_runs has_won
 plays = (refl, refl, refl, refl)
 
 -- right [ > Player ] -> [ > Player ], which gives commands
@@ -119,7 +119,7 @@ gives_commands :
     -- a cancelled press shows the level that stays
     × (played_items (playing (game (free ∷ [])) (giving 10) (Press Right ∷ []))
     ≡ shows free 0 0 kind.Start at_start ∷ shows free 1 1 kind.Move at_start ∷ closes free at_start ∷ [])
-unfolding played_items played numbered items_from frame_of start_link press_link tick_link undo_link restarted won_link kept_link reached_link effect begun settled level_from step_of rules_run blocks_run block_runs rest_of applied searched has_won
+unfolding played_items play_from frames_as_items items_from frame_of start_link press_link tick_link undo_link restart_link won_link kept_link reached_link effect first_link with_past level_from step_of rules_run blocks_run block_runs rest_of applied searched has_won
 gives_commands = (refl, refl, refl, refl)
 
 -- no Wall: each press wins; a load shows the next level, which has no past, and after the last one each input shows it
@@ -133,5 +133,5 @@ pub wins : played_items (playing two_levels no_rules (Press Right ∷ Undo ∷ P
     ≡ shown two_levels 0 0 kind.Start at_start ∷ shown two_levels 1 1 kind.Move one_on ∷ shown two_levels 2 1 kind.Load (level 2 (player ∷ floor ∷ []))
     ∷ shown two_levels 3 2 kind.Undo (level 2 (player ∷ floor ∷ [])) ∷ shown two_levels 4 3 kind.Move (level 2 (floor ∷ player ∷ []))
     ∷ shown two_levels 5 4 kind.Over (level 2 (floor ∷ player ∷ [])) ∷ closed two_levels (level 2 (floor ∷ player ∷ [])) ∷ []
-unfolding played_items played numbered items_from frame_of start_link press_link tick_link undo_link restarted won_link kept_link reached_link effect begun settled level_from step_of rules_run blocks_run block_runs has_won
+unfolding played_items play_from frames_as_items items_from frame_of start_link press_link tick_link undo_link restart_link won_link kept_link reached_link effect first_link with_past level_from step_of rules_run blocks_run block_runs has_won
 wins = refl

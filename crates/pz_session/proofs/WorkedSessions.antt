@@ -1,5 +1,5 @@
 -- Worked cases of sessions: undo and restart, what commands make of a step, the order of the items, and the close.
-use Rattle.pz_session.proofs.Common.{Link, ◌≡◌, ℕ, suc, List, [], ◌∷◌, length, Option, Some, None, Bool, true, false, Ok, Err, refl, codes, map, nat_lt, ◌==◌, if◌then◌else◌, GameParts, Commands, either, Program, Grid, Outcome, blocks_run, rules_run, step_of, has_won, FrameKind, Frame, level_from, PlanState, State, frame_of, start_link, restarted, won_link, kept_link, reached_link, effect, press_link, undo_link, begun, settled, played_items, items_of_plan, Links, closing, played, numbered, items_from, is_idle, Denotation, Object, Up, Right, LevelEntry, Message, Level, Piece, Press, Undo, Restart, Tick, Rows, equals_recorded, text_of_level, NoLevel, Passed, Differs, Stopped, Refused}
+use Rattle.pz_session.proofs.Common.{Link, ◌≡◌, ℕ, suc, List, [], ◌∷◌, length, Option, Some, None, Bool, true, false, Ok, Err, refl, codes, map, nat_lt, ◌==◌, if◌then◌else◌, GameParts, Commands, either, Program, Grid, Outcome, blocks_run, rules_run, step_of, has_won, FrameKind, Frame, level_from, PlanState, State, frame_of, start_link, restart_link, won_link, kept_link, reached_link, effect, press_link, undo_link, first_link, with_past, played_items, items_of_plan, Links, closing, play_from, frames_as_items, items_from, is_idle, Denotation, Object, Up, Right, LevelEntry, Message, Level, Piece, Press, Undo, Restart, Tick, Rows, equals_recorded, text_of_level, NoLevel, Passed, Differs, Stopped, Refused}
 use Rattle.std.specs.Fmt.{digits}
 use Rattle.pz_program.specs.Commands as command
 use Rattle.pz_record.specs.CellNames.{with_name, same_set}
@@ -90,22 +90,22 @@ undoes :
     -- the last of the past is taken, and the target stays
     × (undo_link (session here here (there ∷ here ∷ [])) ≡ links kind.Undo there (session there here (here ∷ [])) false)
     -- the level before an input is put on the past if the level differs, and only then
-    × (settled (record (session there here []) { before = Some here }) ≡ session there here (here ∷ []))
-    × (settled (record (session here here (there ∷ [])) { before = Some here }) ≡ session here here (there ∷ []))
-unfolding undo_link frame_of settled
+    × (with_past (record (session there here []) { before = Some here }) ≡ session there here (here ∷ []))
+    × (with_past (record (session here here (there ∷ [])) { before = Some here }) ≡ session here here (there ∷ []))
+unfolding undo_link frame_of with_past
 undoes = (refl, refl, refl, refl)
 
 -- a restart makes the level the target, and can be undone: the level before it is kept
-restart_is_kept : begun Restart (session here there []) ≡ Ok (links kind.Restart there (record (session there there []) { before = Some here }) false)
-unfolding begun restarted frame_of
+restart_is_kept : first_link Restart (session here there []) ≡ Ok (links kind.Restart there (record (session there there []) { before = Some here }) false)
+unfolding first_link restart_link frame_of
 restart_is_kept = refl
 
 ticks_at_start :
     -- with `run_rules_on_level_start` a tick follows a restart, and none an undo
-    (restarted (session_of (game_with true (entry ∷ [])) here there []) ≡ links kind.Restart there (session_of (game_with true (entry ∷ [])) there there []) true)
+    (restart_link (session_of (game_with true (entry ∷ [])) here there []) ≡ links kind.Restart there (session_of (game_with true (entry ∷ [])) there there []) true)
     × (undo_link (session_of (game_with true (entry ∷ [])) here here (there ∷ []))
     ≡ links kind.Undo there (session_of (game_with true (entry ∷ [])) there here []) false)
-unfolding restarted frame_of text_of_level undo_link
+unfolding restart_link frame_of text_of_level undo_link
 ticks_at_start = (refl, refl)
 
 -- what commands make of a step
@@ -120,13 +120,13 @@ makes :
     × (moves (session here there []) here command.again false ≡ links kind.Move here (session here there []) false)
     -- only a message comes after the won level: play is over, and the level stays
     × (moves (session here here []) there command.win true ≡ links kind.Move there (record (session there here []) { is_over = true }) false)
-unfolding effect frame_of restarted reached_link kept_link has_won won_link level_from
+unfolding effect frame_of restart_link reached_link kept_link has_won won_link level_from
 makes = (refl, refl, refl, refl, refl)
 
 -- after that even an undo only shows the won level
-over_means_over : begun Undo (record (session there here (here ∷ [])) { is_over = true })
+over_means_over : first_link Undo (record (session there here (here ∷ [])) { is_over = true })
     ≡ Ok (links kind.Over there (record (session there here (here ∷ [])) { is_over = true }) false)
-unfolding begun frame_of
+unfolding first_link frame_of
 over_means_over = refl
 
 -- a win shows the step and then the next level, which comes after a message; it is the target, and the past is empty
@@ -164,11 +164,11 @@ counting = record {
 
 items_in_order :
     -- frames are numbered from 0, each with the number of inputs taken, and the close follows
-    (items_from 0 (played counting 0 (Undo ∷ Restart ∷ []) 0) ≡ item.Frame 0 shown.kind 1 shown.level_text ∷ item.Frame 1 shown.kind 2 shown.level_text ∷ item.Close Passed ∷ [])
+    (items_from 0 (play_from counting 0 (Undo ∷ Restart ∷ []) 0) ≡ item.Frame 0 shown.kind 1 shown.level_text ∷ item.Frame 1 shown.kind 2 shown.level_text ∷ item.Close Passed ∷ [])
     -- at a stop the frames so far stand, and no later input is played
-    × (items_from 0 (played counting 0 (Undo ∷ Undo ∷ Undo ∷ Undo ∷ []) 0) ≡ item.Frame 0 shown.kind 1 shown.level_text ∷ item.Frame 1 shown.kind 2 shown.level_text ∷ item.Close (Stopped stop.LoopLimit) ∷ [])
-    × (items_from 3 (played counting 7 [] 0) ≡ item.Close Differs ∷ [])
-unfolding played items_from numbered
+    × (items_from 0 (play_from counting 0 (Undo ∷ Undo ∷ Undo ∷ Undo ∷ []) 0) ≡ item.Frame 0 shown.kind 1 shown.level_text ∷ item.Frame 1 shown.kind 2 shown.level_text ∷ item.Close (Stopped stop.LoopLimit) ∷ [])
+    × (items_from 3 (play_from counting 7 [] 0) ≡ item.Close Differs ∷ [])
+unfolding play_from items_from frames_as_items
 items_in_order = (refl, refl, refl)
 
 -- an input's first link asks for a tick, and so does each tick before the 500th
@@ -182,9 +182,9 @@ ticking = record {
 
 counts_ticks :
     -- 500 ticks may follow a press; a tick input is itself one of the 500
-    (played ticking 0 (Press Up ∷ []) 0 ≡ closing Passed)
-    × (played ticking 0 (Tick ∷ []) 0 ≡ closing (Stopped stop.AgainLimit))
-unfolding played
+    (play_from ticking 0 (Press Up ∷ []) 0 ≡ closing Passed)
+    × (play_from ticking 0 (Tick ∷ []) 0 ≡ closing (Stopped stop.AgainLimit))
+unfolding play_from
 counts_ticks = (refl, refl)
 
 -- whole sessions
@@ -215,5 +215,5 @@ whole_sessions :
     × (items_of_plan (Ok (record plan { inputs = []; recorded = [] })) ≡ item.Frame 0 kind.Start 0 here_text ∷ item.Close Differs ∷ [])
     -- a refused session has its close alone
     × (items_of_plan (Err NoLevel) ≡ item.Close (Refused NoLevel) ∷ [])
-unfolding items_of_plan played_items items_from numbered played begun start_link press_link undo_link effect reached_link kept_link settled frame_of text_of_level standing_names with_name with_cell piece digits step_of rules_run blocks_run has_won equals_recorded same_set
+unfolding items_of_plan played_items items_from frames_as_items play_from first_link start_link press_link undo_link effect reached_link kept_link with_past frame_of text_of_level standing_names with_name with_cell piece digits step_of rules_run blocks_run has_won equals_recorded same_set
 whole_sessions = (refl, refl, refl)

@@ -98,8 +98,8 @@ unfoldable pub start_link : State → Link State
 start_link state = showing Start state (ticks_at_start state)
 
 -- play.restart: the level becomes the target, and is shown
-unfoldable pub restarted : State → Link State
-restarted state = showing Restart (at_level state.target state) (ticks_at_start state)
+unfoldable pub restart_link : State → Link State
+restart_link state = showing Restart (at_level state.target state) (ticks_at_start state)
 
 -- a load: the frame of the step that wins, then a frame of the level that is loaded
 abbrev pub loading : Frame → State → Link State
@@ -135,7 +135,7 @@ reached_link kind commands changed state =
 unfoldable pub effect : FrameKind → State → Outcome Grid → Link State
 effect kind state end =
     if command.has end.commands command.cancel then showing_end kind state
-    else (if command.has end.commands command.restart then restarted state
+    else (if command.has end.commands command.restart then restart_link state
     else reached_link kind end.commands end.changed (at_level end.level state))
 
 -- the level is kept for the past until the chain is over
@@ -160,36 +160,36 @@ unfoldable pub tick_link : State → Result (Link State) Stop
 tick_link state = ticked_to state (step_of state.game state.program state.level None)
 
 -- the last level of the past, if there is one, is taken from it and becomes the level; the target stays
-abbrev pub undone : State → List Grid → State
-undone state [] = state
-undone state (last ∷ past) = record state { level = last; past = past }
+abbrev pub undo_to : State → List Grid → State
+undo_to state [] = state
+undo_to state (last ∷ past) = record state { level = last; past = past }
 
 -- play.undo: no tick follows an undo
 unfoldable pub undo_link : State → Link State
-undo_link state = showing_end Undo (undone state state.past)
+undo_link state = showing_end Undo (undo_to state state.past)
 
 -- the first link of an input while a level is played
 abbrev pub input_link : Input → State → Result (Link State) Stop
 input_link (input.Press dir) state = press_link dir state
 input_link input.Undo state = Ok (undo_link state)
-input_link input.Restart state = Ok (restarted (keeping state))
+input_link input.Restart state = Ok (restart_link (keeping state))
 input_link input.Tick state = tick_link state
 
 -- play.over: the first link of an input; after play is over it shows the won level
-unfoldable pub begun : Input → State → Result (Link State) Stop
-begun input state = if state.is_over then Ok (showing_end Over state) else input_link input state
+unfoldable pub first_link : Input → State → Result (Link State) Stop
+first_link input state = if state.is_over then Ok (showing_end Over state) else input_link input state
 
 abbrev pub past_with : State → Option Grid → List Grid
 past_with state None = state.past
 past_with state (Some before) = if same_grid before state.level then state.past else before ∷ state.past
 
 -- play.past: once the chain of a press or a restart is over, the level before it goes on the past if the level differs
-unfoldable pub settled : State → State
-settled state = record state { past = past_with state state.before; before = None }
+unfoldable pub with_past : State → State
+with_past state = record state { past = past_with state state.before; before = None }
 
 -- play.close: a session whose inputs were all played passes if its level is the recorded one
 abbrev pub verdict_of : State → Verdict
 verdict_of state = if equals_recorded state.game state.order state.level state.recorded then Passed else Differs
 
 abbrev pub board_links : Links State
-board_links = record { begun = begun; ticked = tick_link; settled = settled; verdict = verdict_of }
+board_links = record { begun = first_link; ticked = tick_link; settled = with_past; verdict = verdict_of }

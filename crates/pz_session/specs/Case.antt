@@ -8,7 +8,7 @@ use Rattle.pz_case.specs.declared.case.Case.{Case}
 use Rattle.pz_case.specs.Plan.{PlanState}
 use Rattle.pz_session.specs.declared.chain.TheConstants.{MOST_TICKS}
 use Rattle.pz_session.specs.Chain.{follow, ticks}
-use Rattle.pz_session.specs.Session.{played, going_on, items_from}
+use Rattle.pz_session.specs.Session.{play_from, going_on, items_from}
 use Rattle.pz_session.specs.Board.{State, board_links, start_link, loaded_at}
 
 -- the session at its start
@@ -17,7 +17,7 @@ state_of plan = loaded_at plan.game plan.program plan.order plan.recorded plan.f
 
 -- a played session has its frames and then its close; the start is a chain, as an input is
 unfoldable pub played_items : PlanState → List Item
-played_items plan = items_from 0 (going_on board_links 0 (played board_links 0 plan.inputs)
+played_items plan = items_from 0 (going_on board_links 0 (play_from board_links 0 plan.inputs)
     (follow (ticks board_links.ticked MOST_TICKS) (Ok (start_link (state_of plan)))))
 
 -- a refused session has only its close

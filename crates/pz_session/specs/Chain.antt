@@ -18,13 +18,13 @@ pub record Chain (S : Type 0) : Type 0 where
   pub shown : List Frame
   pub after : Result S Stop
 
-abbrev pub preceded : {S : Type 0} → List Frame → Chain S → Chain S
-preceded frames chain = record { shown = frames ++ chain.shown; after = chain.after }
+abbrev pub with_frames_before : {S : Type 0} → List Frame → Chain S → Chain S
+with_frames_before frames chain = record { shown = frames ++ chain.shown; after = chain.after }
 
 -- a link, and if it goes on, what follows from the state that it leaves
 abbrev pub follow : {S : Type 0} → (S → Chain S) → Result (Link S) Stop → Chain S
 follow later (Err stop) = record { shown = []; after = Err stop }
-follow later (Ok link) = if link.goes_on then preceded link.shown (later link.after) else record { shown = link.shown; after = Ok link.after }
+follow later (Ok link) = if link.goes_on then with_frames_before link.shown (later link.after) else record { shown = link.shown; after = Ok link.after }
 
 -- play.again-limit: ticks from a state that needs one; at most n may run
 abbrev pub ticks : {S : Type 0} → (S → Result (Link S) Stop) → ℕ → S → Chain S

@@ -10,13 +10,13 @@ use Rattle.pz_session.specs.declared.player.Phase.{Phase}
 use Rattle.pz_session.specs.declared.player.Phase.TheVariants as phase
 use Rattle.pz_session.specs.declared.player.Player.{Player}
 use Rattle.pz_session.specs.Chain.{Link, ticks, follow}
-use Rattle.pz_session.specs.Session.{Played, played, closing, going_on, showing, items_from}
-use Rattle.pz_session.specs.Board.{State, board_links, settled, tick_link}
+use Rattle.pz_session.specs.Session.{Played, play_from, closing, going_on, showing, items_from}
+use Rattle.pz_session.specs.Board.{State, board_links, with_past, tick_link}
 
 -- what is still to come in a phase
 unfoldable pub to_come : Phase → ℕ → List Input → State → Played
-to_come phase.Between taken inputs state = played board_links taken inputs state
-to_come (phase.Ticking n) taken inputs state = going_on board_links taken (played board_links taken inputs) (ticks tick_link n state)
+to_come phase.Between taken inputs state = play_from board_links taken inputs state
+to_come (phase.Ticking n) taken inputs state = going_on board_links taken (play_from board_links taken inputs) (ticks tick_link n state)
 to_come (phase.Stopped stop) taken inputs state = closing (Stopped stop)
 to_come phase.Closed taken inputs state = record { shown = []; close = None }
 
@@ -27,8 +27,8 @@ left_in phase number frames taken inputs state = items_from number (showing take
 abbrev pub pending : Player → List Frame
 pending player = option_to_list player.first ++ option_to_list player.second
 
-abbrev pub left : Player → List Item
-left player = left_in player.phase player.number (pending player) player.taken (drop player.taken player.inputs) player.board
+abbrev pub items_left : Player → List Item
+items_left player = left_in player.phase player.number (pending player) player.taken (drop player.taken player.inputs) player.board
 
 -- bounds on the links that are left: in the chain, and in the session
 abbrev pub rank : Phase → ℕ
@@ -50,10 +50,10 @@ is_waiting player = is_none player.first && is_none player.second && is_waiting_
 -- what comes after a link's frames
 abbrev pub to_follow : Bool → ℕ → ℕ → List Input → State → Played
 to_follow goes_on n taken inputs state =
-    if goes_on then going_on board_links taken (played board_links taken inputs) (ticks tick_link n state)
-    else played board_links taken inputs (settled state)
+    if goes_on then going_on board_links taken (play_from board_links taken inputs) (ticks tick_link n state)
+    else play_from board_links taken inputs (with_past state)
 
 -- what is left from this link on; at most n ticks may run after it
 abbrev pub left_with : ℕ → ℕ → ℕ → List Input → Result (Link State) Stop → List Item
 left_with n number taken inputs link =
-    items_from number (going_on board_links taken (played board_links taken inputs) (follow (ticks tick_link n) link))
+    items_from number (going_on board_links taken (play_from board_links taken inputs) (follow (ticks tick_link n) link))

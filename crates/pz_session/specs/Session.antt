@@ -44,16 +44,16 @@ abbrev pub going_on : {S : Type 0} → Links S → ℕ → (S → Played) → Ch
 going_on links at later chain = showing at chain.shown (after_chain links later chain.after)
 
 -- play.stopped: what is shown for the inputs that are left, after `taken` inputs
-unfoldable pub played : {S : Type 0} → Links S → ℕ → List Input → S → Played
-played links taken [] state = closing (links.verdict state)
-played links taken (input ∷ inputs) state =
-    going_on links (taken + 1) (played links (taken + 1) inputs) (follow (ticks links.ticked (ticks_after input)) (links.begun input state))
+unfoldable pub play_from : {S : Type 0} → Links S → ℕ → List Input → S → Played
+play_from links taken [] state = closing (links.verdict state)
+play_from links taken (input ∷ inputs) state =
+    going_on links (taken + 1) (play_from links (taken + 1) inputs) (follow (ticks links.ticked (ticks_after input)) (links.begun input state))
 
 -- the frames as items, numbered from n
-unfoldable pub numbered : ℕ → List (ℕ × Frame) → List Item
-numbered n [] = []
-numbered n (f ∷ fs) = item.Frame n f.1.kind f.0 f.1.level_text ∷ numbered (n + 1) fs
+unfoldable pub frames_as_items : ℕ → List (ℕ × Frame) → List Item
+frames_as_items n [] = []
+frames_as_items n (f ∷ fs) = item.Frame n f.1.kind f.0 f.1.level_text ∷ frames_as_items (n + 1) fs
 
 -- play.at: the frames from number n on, and the close
 unfoldable pub items_from : ℕ → Played → List Item
-items_from n played = numbered n played.shown ++ map item.Close (option_to_list played.close)
+items_from n play_from = frames_as_items n play_from.shown ++ map item.Close (option_to_list play_from.close)

@@ -131,7 +131,7 @@ fn differs(known: Option<bool>, before: &Level, level: &Level) -> bool
 }
 
 impl<'a> Board<'a> {
-    ghost use Rattle.pz_session.specs.Board.{loaded_at, at_level, frame_of, showing, showing_end, start_link, restarted, ending, won_link, kept_link, reached_link, effect, press_link, tick_link, undone, undo_link, ticks_at_start, keeping};
+    ghost use Rattle.pz_session.specs.Board.{loaded_at, at_level, frame_of, showing, showing_end, start_link, restart_link, ending, won_link, kept_link, reached_link, effect, press_link, tick_link, undo_to, undo_link, ticks_at_start, keeping};
 
     /// A session that has just loaded the level of an entry. Err: memory was refused.
     pub fn load(
@@ -213,7 +213,7 @@ impl<'a> Board<'a> {
 
     /// Makes the level a copy of the target, and shows it. Rule `play.restart`.
     fn restart(&mut self) -> Result<Shown, PlayFault>
-        ensures { GivesLink (Ok (restarted self.old)) self.new result }
+        ensures { GivesLink (Ok (restart_link self.old)) self.new result }
     {
         self.differs = None;
         self.labelled = self.labelled.behind();
@@ -382,7 +382,7 @@ impl<'a> Board<'a> {
 
     /// Takes the last level of the past, if there is one, as the level.
     fn step_back(&mut self) -> Result<(), AllocError>
-        ensures { OnOk result (self.new ≡ undone self.old self.old.past) }
+        ensures { OnOk result (self.new ≡ undo_to self.old self.old.past) }
     {
         if let Some(newest) = self.past.newest() {
             let level = marked(self.alloc, newest)?;
@@ -404,7 +404,7 @@ impl<'a> Board<'a> {
 
     /// A restart input. The level before it is kept for the past.
     fn start_again(&mut self) -> Result<Shown, PlayFault>
-        ensures { GivesLink (Ok (restarted (keeping self.old))) self.new result }
+        ensures { GivesLink (Ok (restart_link (keeping self.old))) self.new result }
     {
         let target = marked(self.alloc, &self.target)?;
         put_before(&mut self.level, target, &mut self.before);
@@ -535,11 +535,11 @@ impl<'a> Board<'a> {
 
 /// What a player asks of its board. A call that plays a link leaves the state that the link leaves.
 impl<'a> Board<'a> {
-    ghost use Rattle.pz_session.specs.Board.{begun, settled, verdict_of};
+    ghost use Rattle.pz_session.specs.Board.{first_link, with_past, verdict_of};
 
     /// Plays the first link of an input. After play is over it only shows the won level. Rule `play.over`.
     pub fn begin(&mut self, input: Input) -> Result<Shown, PlayFault>
-        ensures { GivesLink (begun input self.old) self.new result }
+        ensures { GivesLink (first_link input self.old) self.new result }
     {
         if self.is_over {
             return self.show(FrameKind::Over, false);
@@ -555,7 +555,7 @@ impl<'a> Board<'a> {
     /// Ends the chain of an input. After a press or a restart, the level before it goes on the past, unless the level is the same or
     /// another was loaded. Rule `play.past`.
     pub fn settle(&mut self) -> Result<(), AllocError>
-        ensures { OnOk result (self.new ≡ settled self.old) }
+        ensures { OnOk result (self.new ≡ with_past self.old) }
     {
         self.labelled = self.labelled.at_level_only();
         if let Some(before) = self.before.take() {

@@ -4,8 +4,8 @@ ghost use Rattle.std.specs.Prelude.{◌≡◌};
 ghost use Rattle.pz_session.specs.Session.{ticks_after};
 
 use pz_case::item::{FrameKind, Stop};
-use pz_record::input::Input;
 use pz_json_text::quoted::QuotedText;
+use pz_record::input::Input;
 use std::alloc::AllocError;
 
 /// The most ticks of a chain, idle ones included. A tick input is one of them itself. Rule `play.again-limit`.

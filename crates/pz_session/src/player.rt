@@ -87,13 +87,13 @@ fn phase_after(board: &mut Board<'_>, goes_on: bool, allowed: u64) -> Result<Pha
 impl<'a> Player<'a> {
     ghost use Rattle.pz_session.specs.Chain.{Link, GivesLink};
     ghost use Rattle.pz_session.specs.Board.{State, start_link};
-    ghost use Rattle.pz_session.specs.Player.{left, left_with, work, rank, is_waiting};
+    ghost use Rattle.pz_session.specs.Player.{items_left, left_with, work, rank, is_waiting};
     ghost use Rattle.pz_case.specs.Playing.{Yields};
 
     /// A session whose first link has been played: it shows the start.
     pub fn start(board: Board<'a>, inputs: Tape<'a>) -> Result<Player<'a>, AllocError>
-        ensures left { IfOk result
-            (λ player. left player ≡ left_with MOST_TICKS 0 0 inputs.entry (Ok (start_link board.entry))) }
+        ensures items_left { IfOk result
+            (λ player. items_left player ≡ left_with MOST_TICKS 0 0 inputs.entry (Ok (start_link board.entry))) }
         ensures number { IfOk result (λ player. player.number ≡ 0) }
     {
         let mut player = Player {
@@ -129,8 +129,8 @@ impl<'a> Player<'a> {
     fn take_item(&mut self) -> Option<Item>
         requires ready { is_waiting self.old ≡ false }
         requires room { self.old.number + 1 < 2 ^ 64 }
-        ensures item { Yields (left self.old) result
-            (left self.new) }
+        ensures item { Yields (items_left self.old) result
+            (items_left self.new) }
         ensures number { MatchOption result (self.new.number ≡ self.old.number)
             (λ _. self.new.number ≤ self.old.number + 1) }
     {
@@ -158,8 +158,8 @@ impl<'a> Player<'a> {
     ) -> Result<(), AllocError>
         requires first { self.old.first ≡ None }
         requires second { self.old.second ≡ None }
-        ensures left { OnOk result ((link : Result (Link State) Stop) → GivesLink link self.old.board outcome →
-            left self.new
+        ensures items_left { OnOk result ((link : Result (Link State) Stop) → GivesLink link self.old.board outcome →
+            items_left self.new
             ≡ left_with allowed self.old.number self.old.taken (drop self.old.taken self.old.inputs) link) }
         ensures stop { IfErr result (λ _. (stop : Stop) → outcome ≢ Err (PlayFault.Stopped stop)) }
         ensures rank { OnOk result (rank self.new.phase ≤ allowed + 1) }
@@ -193,8 +193,8 @@ impl<'a> Player<'a> {
     /// Plays one link. Rule `play.again-limit`.
     fn advance(&mut self) -> Result<(), AllocError>
         requires { is_waiting self.old ≡ true }
-        ensures left { OnOk result (left self.new
-            ≡ left self.old) }
+        ensures items_left { OnOk result (items_left self.new
+            ≡ items_left self.old) }
         ensures work { OnOk result (work self.new < work self.old) }
         ensures number { self.new.number ≡ self.old.number }
     {
@@ -220,8 +220,8 @@ impl<'a> Player<'a> {
     /// The next item, or `None` after the close. Err: memory was refused. Rule `play.stopped`.
     pub fn next(&mut self) -> Result<Option<Item>, AllocError>
         requires room { self.old.number + 1 < 2 ^ 64 }
-        ensures item { IfOk result (λ answer. Yields (left self.old) answer
-            (left self.new)) }
+        ensures item { IfOk result (λ answer. Yields (items_left self.old) answer
+            (items_left self.new)) }
         ensures number { IfOk result
             (λ answer. MatchOption answer (self.new.number ≡ self.old.number)
             (λ _. self.new.number ≤ self.old.number + 1)) }

@@ -2,7 +2,7 @@
 
 ghost use Rattle.std.specs.Prelude.{◌≡◌, ◌+◌, ◌++◌, ◌<◌, ◌^◌, [], true, false, length, MatchResult, IsErr, IfOk};
 ghost use Rattle.pz_session.specs.Case.{items_of, played_items};
-ghost use Rattle.pz_session.specs.Player.{left};
+ghost use Rattle.pz_session.specs.Player.{items_left};
 
 use crate::board::Board;
 use crate::player::Player;
@@ -38,8 +38,8 @@ impl<'a> Model for Run<'a> {
 
 /// A session at its start.
 fn play(alloc: Global, plan: &Plan) -> Result<Player<'_>, AllocError>
-    ensures items { IfOk result (λ player. left player ≡ played_items plan.now) }
-    ensures room { IfOk result (λ player. player.number + length (left player) < 2 ^ 63) }
+    ensures items { IfOk result (λ player. items_left player ≡ played_items plan.now) }
+    ensures room { IfOk result (λ player. player.number + length (items_left player) < 2 ^ 63) }
 {
     let board = Board::load(
         alloc,

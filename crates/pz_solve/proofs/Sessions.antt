@@ -14,12 +14,12 @@ use Rattle.pz_turn.specs.Outcome.{Outcome}
 unfoldable use Rattle.pz_turn.specs.Step.{step_of}
 use Rattle.pz_turn.specs.Win.{has_won}
 use Rattle.pz_session.specs.declared.chain.TheConstants.{MOST_TICKS}
-unfoldable use Rattle.pz_session.specs.Board.{begun, effect as session_effect, kept_link, press_link, reached_link, tick_link}
-use Rattle.pz_session.specs.Board.{State, at_level, frame_of, idle, keeping, pressed_to, restarted, showing_end, ticked_to, won_link}
-use Rattle.pz_session.specs.Chain.{follow, preceded, ticks as session_ticks}
+unfoldable use Rattle.pz_session.specs.Board.{first_link, effect as session_effect, kept_link, press_link, reached_link, tick_link}
+use Rattle.pz_session.specs.Board.{State, at_level, frame_of, idle, keeping, pressed_to, restart_link, showing_end, ticked_to, won_link}
+use Rattle.pz_session.specs.Chain.{follow, with_frames_before, ticks as session_ticks}
 use Rattle.pz_session.specs.Turn.{is_idle}
 unfoldable use Rattle.pz_solve.specs.Moves.{effect, move_of, ticks, went_on}
-use Rattle.pz_solve.specs.Moves.{Stands, Wins, DeadEnd, pressed, ticked}
+use Rattle.pz_solve.specs.Moves.{Stands, Wins, DeadEnd, reached_by_press, reached_by_tick}
 use Rattle.pz_solve.specs.Laws.{ComesToWin, EndsIn, press_chain}
 
 -- a step that is cancelled ends with the level that it began with
@@ -44,7 +44,7 @@ effect_stands left later kind state end level cancelled =
           (if c then Stands end.level else (if r then DeadEnd else (if w then Wins else (if a then ticks state.game state.program left end.level else Stands end.level)))) ≡ Stands level →
           EndsIn state (follow (session_ticks tick_link left) (Ok (
           if c then record { shown = frame_of state kind ∷ []; after = state; goes_on = false }
-          else (if r then restarted state
+          else (if r then restart_link state
           else (if w then won_link (frame_of (at_level end.level state) kind) (at_level end.level state) (level_from state.game (state.entry + 1))
           else record { shown = frame_of (at_level end.level state) kind ∷ []; after = kept; goes_on = a }))))) level
       by true r w a same is = (state, refl, record { stands = sym (same refl) ∙ grind (arith, is); entry = refl; over = refl })
@@ -59,7 +59,7 @@ pub ticks_stand : (left : ℕ) → TicksStand left
 unfolding ticks tick_link
 ticks_stand zero state level is = absurd cc
 ticks_stand (suc left) state level is = by (ticks_stand left) (step_of state.game state.program state.level None) refl is where
-  by : TicksStand left → (result : Result (Outcome Grid) StepFault) → step_of state.game state.program state.level None ≡ result → ticked (ticks state.game state.program left) state.game state.level result ≡ Stands level →
+  by : TicksStand left → (result : Result (Outcome Grid) StepFault) → step_of state.game state.program state.level None ≡ result → reached_by_tick (ticks state.game state.program left) state.game state.level result ≡ Stands level →
       EndsIn state (follow (session_ticks tick_link left) (ticked_to state result)) level
   by later (Err fault) at is = absurd cc
   by later (Ok end) at is = idle_or (is_idle end) is where
@@ -69,10 +69,10 @@ ticks_stand (suc left) state level is = by (ticks_stand left) (step_of state.gam
     idle_or false is = effect_stands left later Tick state end level (stays state.game state.program state.level None end at) is
 
 pub moves_stand : (state : State) (input : Dir) (level : Grid) → state.is_over ≡ false → move_of state.game state.program state.level input ≡ Stands level → EndsIn state (press_chain input state) level
-unfolding move_of begun press_link
+unfolding move_of first_link press_link
 moves_stand state input level playing is =
     by state.is_over playing (step_of state.game state.program state.level (Some input)) refl is where
-      by : (over : Bool) → over ≡ false → (result : Result (Outcome Grid) StepFault) → step_of state.game state.program state.level (Some input) ≡ result → pressed (ticks state.game state.program MOST_TICKS) state.game result ≡ Stands level →
+      by : (over : Bool) → over ≡ false → (result : Result (Outcome Grid) StepFault) → step_of state.game state.program state.level (Some input) ≡ result → reached_by_press (ticks state.game state.program MOST_TICKS) state.game result ≡ Stands level →
           EndsIn state (follow (session_ticks tick_link MOST_TICKS) (if over then Ok (showing_end Over state) else pressed_to state result)) level
       by true told result at is = absurd cc
       by false told (Err fault) at is = absurd cc
@@ -97,7 +97,7 @@ effect_wins left later kind state end =
           (if c then Stands end.level else (if r then DeadEnd else (if w then Wins else (if a then ticks state.game state.program left end.level else Stands end.level)))) ≡ Wins →
           ComesToWin state (follow (session_ticks tick_link left) (Ok (
           if c then record { shown = frame_of state kind ∷ []; after = state; goes_on = false }
-          else (if r then restarted state
+          else (if r then restart_link state
           else (if w then won_link (frame_of (at_level end.level state) kind) (at_level end.level state) (level_from state.game (state.entry + 1))
           else record { shown = frame_of (at_level end.level state) kind ∷ []; after = kept; goes_on = a })))))
       by true r w a is = absurd cc
@@ -107,13 +107,13 @@ effect_wins left later kind state end =
       by false false false true is =
           let it = later kept is in
           let first = frame_of (at_level end.level state) kind in
-          (first ∷ it.0, it.1, it.2, it.3, it.4, ap (preceded (first ∷ [])) it.5)
+          (first ∷ it.0, it.1, it.2, it.3, it.4, ap (with_frames_before (first ∷ [])) it.5)
 
 pub ticks_win : (left : ℕ) → TicksWin left
 unfolding ticks tick_link
 ticks_win zero state is = absurd cc
 ticks_win (suc left) state is = by (ticks_win left) (step_of state.game state.program state.level None) is where
-  by : TicksWin left → (result : Result (Outcome Grid) StepFault) → ticked (ticks state.game state.program left) state.game state.level result ≡ Wins → ComesToWin state (follow (session_ticks tick_link left) (ticked_to state result))
+  by : TicksWin left → (result : Result (Outcome Grid) StepFault) → reached_by_tick (ticks state.game state.program left) state.game state.level result ≡ Wins → ComesToWin state (follow (session_ticks tick_link left) (ticked_to state result))
   by later (Err fault) is = absurd cc
   by later (Ok end) is = idle_or (is_idle end) is where
     idle_or : (b : Bool) → (if b then Stands state.level else effect (ticks state.game state.program left) state.game end) ≡ Wins →
@@ -122,10 +122,10 @@ ticks_win (suc left) state is = by (ticks_win left) (step_of state.game state.pr
     idle_or false is = effect_wins left later Tick state end is
 
 pub moves_win : (state : State) (input : Dir) → state.is_over ≡ false → move_of state.game state.program state.level input ≡ Wins → ComesToWin state (press_chain input state)
-unfolding move_of begun press_link
+unfolding move_of first_link press_link
 moves_win state input playing is =
     by state.is_over playing (step_of state.game state.program state.level (Some input)) is where
-      by : (over : Bool) → over ≡ false → (result : Result (Outcome Grid) StepFault) → pressed (ticks state.game state.program MOST_TICKS) state.game result ≡ Wins →
+      by : (over : Bool) → over ≡ false → (result : Result (Outcome Grid) StepFault) → reached_by_press (ticks state.game state.program MOST_TICKS) state.game result ≡ Wins →
           ComesToWin state (follow (session_ticks tick_link MOST_TICKS) (if over then Ok (showing_end Over state) else pressed_to state result))
       by true told result is = absurd cc
       by false told (Err fault) is = absurd cc

@@ -5,7 +5,7 @@ use Rattle.pz_program.specs.declared.instance.Program.{Program}
 use Rattle.pz_sheet.specs.Grid.{Grid}
 use Rattle.pz_turn.specs.Step.{step_of}
 unfoldable use Rattle.pz_solve.specs.Moves.{ticks}
-use Rattle.pz_solve.specs.Moves.{DeadEnd, ticked}
+use Rattle.pz_solve.specs.Moves.{DeadEnd, reached_by_tick}
 
 -- none is left
 pub none_left : (game : GameParts) (program : Program) (allowed : ℕ) (level : Grid) → allowed ≡ 0 → ticks game program allowed level ≡ DeadEnd
@@ -15,9 +15,9 @@ none_left game program (suc n) level none = absurd (omega (arith, none))
 
 -- one is played
 pub one_played : (game : GameParts) (program : Program) (allowed left : ℕ) (level : Grid) → 0 < allowed → left ≡ allowed - 1 →
-    ticks game program allowed level ≡ ticked (ticks game program left) game level (step_of game program level None)
+    ticks game program allowed level ≡ reached_by_tick (ticks game program left) game level (step_of game program level None)
 unfolding ticks
 one_played game program zero left level some less = absurd (omega (arith, some))
 one_played game program (suc n) left level some less =
     let same : n ≡ left = omega (arith, less) in
-    ap (λ (m : ℕ). ticked (ticks game program m) game level (step_of game program level None)) same
+    ap (λ (m : ℕ). reached_by_tick (ticks game program m) game level (step_of game program level None)) same

@@ -6,7 +6,7 @@ use Rattle.pz_program.specs.declared.instance.Program.{Program}
 use Rattle.pz_program.specs.Commands.{again, cancel, either, restart, win}
 use Rattle.pz_sheet.specs.Grid.{Grid}
 use Rattle.pz_turn.specs.declared.outcome.StepFault.TheVariants.{LoopLimit}
-use Rattle.pz_solve.specs.Moves.{Reached, Stands, Wins, DeadEnd, pressed}
+use Rattle.pz_solve.specs.Moves.{Reached, Stands, Wins, DeadEnd, reached_by_press}
 unfoldable use Rattle.pz_solve.specs.Moves.{effect, ticks, went_on}
 use Rattle.pz_solve.specs.Winning.{Moves}
 unfoldable use Rattle.pz_solve.specs.Winning.{stands_after, wins}
@@ -35,7 +35,7 @@ module _ (first second : Grid) (moves : Moves) (on : moves first Right ≡ Stand
 
 module _ (tick : Grid → Reached) (game : GameParts) (program : Program) (before after : Grid) where
   -- a step that is stopped by a limit is a dead end
-  a_limit_stops : pressed tick game (Err LoopLimit) ≡ DeadEnd
+  a_limit_stops : reached_by_press tick game (Err LoopLimit) ≡ DeadEnd
   a_limit_stops = refl
 
   -- so are ticks of which none is allowed

@@ -6,13 +6,13 @@ use Rattle.pz_case.specs.FirstLevel.{level_from}
 use Rattle.pz_sheet.specs.Grid.{Grid}
 use Rattle.pz_session.specs.declared.chain.Frame.{Frame}
 use Rattle.pz_session.specs.declared.chain.TheConstants.{MOST_TICKS}
-use Rattle.pz_session.specs.Board.{State, begun, tick_link, won_link}
-use Rattle.pz_session.specs.Chain.{Chain, follow, preceded, ticks}
+use Rattle.pz_session.specs.Board.{State, first_link, tick_link, won_link}
+use Rattle.pz_session.specs.Chain.{Chain, follow, with_frames_before, ticks}
 use Rattle.pz_solve.specs.Moves.{Stands, Wins, move_of}
 
 -- the chain of a press
 abbrev pub press_chain : Dir → State → Chain State
-press_chain input state = follow (ticks tick_link MOST_TICKS) (begun (Press input) state)
+press_chain input state = follow (ticks tick_link MOST_TICKS) (first_link (Press input) state)
 
 -- a session stands in a level of the entry that was played
 pub record IsStill (state end : State) (level : Grid) : Type 0 where
@@ -32,7 +32,7 @@ MovesStandInSessions = (state : State) (input : Dir) (level : Grid) → state.is
 abbrev pub ComesToWin : State → Chain State → Type 0
 ComesToWin state chain =
     (frames : List Frame) × (frame : Frame) × (won : State) × (left : ℕ) × (won.entry ≡ state.entry)
-    × (chain ≡ preceded frames (follow (ticks tick_link left) (Ok (won_link frame won (level_from won.game (won.entry + 1))))))
+    × (chain ≡ with_frames_before frames (follow (ticks tick_link left) (Ok (won_link frame won (level_from won.game (won.entry + 1))))))
 
 -- where a move wins, so does the chain of that press
 abbrev pub MovesWinInSessions : Type 0

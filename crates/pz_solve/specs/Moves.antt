@@ -36,23 +36,23 @@ effect tick game end =
     else (if has end.commands restart then DeadEnd else went_on tick game end)
 
 -- an idle tick ends the chain, and leaves the level as it was
-abbrev pub ticked : (Grid → Reached) → GameParts → Grid → Result (Outcome Grid) StepFault → Reached
-ticked tick game level (Err fault) = DeadEnd
-ticked tick game level (Ok end) = if is_idle end then Stands level else effect tick game end
+abbrev pub reached_by_tick : (Grid → Reached) → GameParts → Grid → Result (Outcome Grid) StepFault → Reached
+reached_by_tick tick game level (Err fault) = DeadEnd
+reached_by_tick tick game level (Ok end) = if is_idle end then Stands level else effect tick game end
 
 -- the ticks that follow; at most n may run
 unfoldable pub ticks : GameParts → Program → ℕ → Grid → Reached
 ticks game program zero level = DeadEnd
-ticks game program (suc n) level = ticked (ticks game program n) game level (step_of game program level None)
+ticks game program (suc n) level = reached_by_tick (ticks game program n) game level (step_of game program level None)
 
-abbrev pub pressed : (Grid → Reached) → GameParts → Result (Outcome Grid) StepFault → Reached
-pressed tick game (Err fault) = DeadEnd
-pressed tick game (Ok end) = effect tick game end
+abbrev pub reached_by_press : (Grid → Reached) → GameParts → Result (Outcome Grid) StepFault → Reached
+reached_by_press tick game (Err fault) = DeadEnd
+reached_by_press tick game (Ok end) = effect tick game end
 
 -- the move of a press from a level
 unfoldable pub move_of : GameParts → Program → Grid → Dir → Reached
-move_of game program level input = pressed (ticks game program MOST_TICKS) game (step_of game program level (Some input))
+move_of game program level input = reached_by_press (ticks game program MOST_TICKS) game (step_of game program level (Some input))
 
 -- what a session plays before its first input: in a game with `run_rules_on_level_start` the ticks of the level's start
-abbrev pub started : GameParts → Program → Grid → Reached
-started game program level = if game.options.run_rules_on_level_start then ticks game program MOST_TICKS level else Stands level
+abbrev pub reached_at_start : GameParts → Program → Grid → Reached
+reached_at_start game program level = if game.options.run_rules_on_level_start then ticks game program MOST_TICKS level else Stands level

@@ -5,7 +5,7 @@ ghost use Rattle.pz_program.specs.Instance.{IsProgramOf};
 ghost use Rattle.pz_sheet.specs.Grid.{Grid, IsOfGame, SameSize};
 ghost use Rattle.pz_session.specs.Turn.{is_idle};
 ghost use Rattle.pz_turn.specs.Step.{step_of};
-ghost use Rattle.pz_solve.specs.Moves.{Reached, effect, move_of, pressed, started, ticked, ticks};
+ghost use Rattle.pz_solve.specs.Moves.{Reached, effect, move_of, reached_by_press, reached_at_start, reached_by_tick, ticks};
 ghost use Rattle.pz_solve.specs.Leading.{end_of, reached_by, reached_in, IsMoveIn, IsNextIn, MoveKeepsSize, NextKeepsSize};
 
 use bitflags::Flags;
@@ -81,7 +81,7 @@ fn tick(alloc: Global, game: &Game, program: &Program, level: Level) -> Result<N
     requires program_of { IsProgramOf game.now.layers program.now }
     ensures next { IfOk result
         (λ next. (tick : Grid → Reached) →
-        reached_in tick next ≡ ticked tick game.now level.grid (step_of game.now program.now level.grid None)) }
+        reached_in tick next ≡ reached_by_tick tick game.now level.grid (step_of game.now program.now level.grid None)) }
     ensures game { IfOk result (IsNextIn game.now) }
     ensures size { IfOk result (NextKeepsSize level.grid) }
 {
@@ -132,7 +132,7 @@ fn press(
     requires program_of { IsProgramOf game.now.layers program.now }
     ensures next { IfOk result
         (λ next. (tick : Grid → Reached) →
-        reached_in tick next ≡ pressed tick game.now (step_of game.now program.now level.now.grid (Some input))) }
+        reached_in tick next ≡ reached_by_press tick game.now (step_of game.now program.now level.now.grid (Some input))) }
     ensures game { IfOk result (IsNextIn game.now) }
     ensures size { IfOk result (NextKeepsSize level.now.grid) }
 {
@@ -175,7 +175,7 @@ pub fn start(
 ) -> Result<Move, AllocError>
     requires level_of { IsOfGame game.now level.grid }
     requires program_of { IsProgramOf game.now.layers program.now }
-    ensures reached { IfOk result (λ end. reached_by end ≡ started game.now program.now level.grid) }
+    ensures reached { IfOk result (λ end. reached_by end ≡ reached_at_start game.now program.now level.grid) }
     ensures game { IfOk result (IsMoveIn game.now) }
     ensures size { IfOk result (MoveKeepsSize level.grid) }
 {

@@ -2,15 +2,15 @@
 use Rattle.std.proofs.Common.{◌≡◌, ℕ, ◌+◌, List, [], ◌∷◌, ◌++◌, drop, fold, slice_get, Some, ap, sym, ◌∙◌, arith}
 use Rattle.std.proofs.lemmas.List.{append-nil, append_assoc}
 use Rattle.pz_steps.specs.Steps.{Taken}
-use Rattle.pz_stages.specs.Parts.{joined}
+use Rattle.pz_stages.specs.Parts.{concatenation}
 use Rattle.pz_stages.specs.Stages.{step_lines}
 use Rattle.pz_stages.specs.declared.detail.Detail.{Detail}
 unfoldable use Rattle.pz_stages.specs.Stages.{lines_from}
 
 -- texts that are added one by one
-pub in_parts : (lines : List ℕ) (texts : List (List ℕ)) → fold (λ (so_far text : List ℕ). so_far ++ text) lines texts ≡ lines ++ joined texts
+pub in_parts : (lines : List ℕ) (texts : List (List ℕ)) → fold (λ (so_far text : List ℕ). so_far ++ text) lines texts ≡ lines ++ concatenation texts
 in_parts lines [] = sym (append-nil lines)
-in_parts lines (text ∷ texts) = in_parts (lines ++ text) texts ∙ append_assoc lines text (joined texts)
+in_parts lines (text ∷ texts) = in_parts (lines ++ text) texts ∙ append_assoc lines text (concatenation texts)
 
 first_step : (detail : Detail) (number tick : ℕ) (steps : List Taken) (step : Taken) → slice_get steps 0 ≡ Some step → lines_from detail number tick steps ≡ step_lines detail number tick step ++ lines_from detail number (tick + 1) (drop 1 steps)
 unfolding lines_from

@@ -11,30 +11,30 @@ use Rattle.pz_sheet.specs.Grid.{Grid}
 use Rattle.pz_trace.specs.Firings.{FiringState, firings_of}
 use Rattle.pz_trace.specs.declared.stage.Part.{Part}
 use Rattle.pz_trace.specs.declared.stage.Part.TheVariants.{Input, Early, Movement, Late, End}
-use Rattle.pz_stages.specs.Parts.{block_text, bracketed, dir_name, headings_of, joined, part_name}
+use Rattle.pz_stages.specs.Parts.{block_text, json_list, dir_name, headings_of, concatenation, part_name}
 use Rattle.pz_stages.specs.declared.detail.Detail.{Detail}
 use Rattle.pz_stages.specs.declared.detail.Detail.TheVariants as detail
 
 abbrev pub place_text : Place → List ℕ
-place_text place = joined ((codes ",[" ++ decimal place.x) ∷ (codes "," ++ decimal place.y) ∷ (codes "," ++ decimal place.gap) ∷ codes "]" ∷ [])
+place_text place = concatenation ((codes ",[" ++ decimal place.x) ∷ (codes "," ++ decimal place.y) ∷ (codes "," ++ decimal place.gap) ∷ codes "]" ∷ [])
 
 abbrev pub places_text : List Place → List ℕ
-places_text places = codes "," ++ bracketed (flat_map place_text places)
+places_text places = codes "," ++ json_list (flat_map place_text places)
 
 -- a firing: of which part of which step of which input it is, when, and the level after it with what heads somewhere there
 unfoldable pub firing_line : ℕ → ℕ → State → Part → FiringState → List ℕ
 firing_line number tick state part firing =
-    joined (codes "{"
+    concatenation (codes "{"
     ∷ block_text part
     ∷ (codes "\"direction\":" ++ quoted (dir_name firing.scan))
     ∷ (codes ",\"group\":" ++ decimal firing.moment.group)
-    ∷ (codes ",\"headings\":" ++ bracketed (headings_of state.game.objects firing.gave.level))
+    ∷ (codes ",\"headings\":" ++ json_list (headings_of state.game.objects firing.gave.level))
     ∷ (codes ",\"input\":" ++ decimal number)
     ∷ (codes ",\"instance\":" ++ decimal firing.moment.instance)
     ∷ (codes ",\"level\":" ++ quoted (text_of_level state.game state.order firing.gave.level))
     ∷ (codes ",\"line\":" ++ decimal firing.line)
     ∷ (codes ",\"pass\":" ++ decimal firing.moment.pass)
-    ∷ (codes ",\"places\":" ++ bracketed (flat_map places_text firing.gave.places))
+    ∷ (codes ",\"places\":" ++ json_list (flat_map places_text firing.gave.places))
     ∷ (codes ",\"round\":" ++ decimal firing.moment.round)
     ∷ (codes ",\"stage\":" ++ quoted (part_name part))
     ∷ (codes ",\"tick\":" ++ decimal tick)

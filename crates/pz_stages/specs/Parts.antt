@@ -16,12 +16,12 @@ use Rattle.pz_trace.specs.declared.stage.Part.TheVariants.{Input, Early, Movemen
 use Rattle.pz_trace.specs.SourceLines.{lines_of}
 
 -- texts, one behind another
-abbrev pub joined : List (List ℕ) → List ℕ
-joined texts = flat_map (λ text. text) texts
+abbrev pub concatenation : List (List ℕ) → List ℕ
+concatenation texts = flat_map (λ text. text) texts
 
 -- a JSON list of texts that each begin with a comma: the first comma is left out
-abbrev pub bracketed : List ℕ → List ℕ
-bracketed texts = codes "[" ++ (drop 1 texts ++ codes "]")
+abbrev pub json_list : List ℕ → List ℕ
+json_list texts = codes "[" ++ (drop 1 texts ++ codes "]")
 
 abbrev pub bool_text : Bool → List ℕ
 bool_text true = codes "true"
@@ -38,7 +38,7 @@ dir_name dir.Action = codes "action"
 abbrev pub heading_text : ℕ → ℕ → List ℕ → Option Dir → List ℕ
 heading_text x y name None = []
 heading_text x y name (Some heading) =
-    joined ((codes ",[" ++ decimal x) ∷ (codes "," ++ decimal y) ∷ (codes "," ++ quoted name) ∷ (codes "," ++ quoted (dir_name heading)) ∷ codes "]" ∷ [])
+    concatenation ((codes ",[" ++ decimal x) ∷ (codes "," ++ decimal y) ∷ (codes "," ++ quoted name) ∷ (codes "," ++ quoted (dir_name heading)) ∷ codes "]" ∷ [])
 
 -- what heads somewhere in a cell, by the order of the objects
 abbrev pub cell_headings : List (List ℕ) → Grid → ℕ → ℕ → List ℕ
@@ -59,7 +59,7 @@ text_if false text = []
 -- the names of commands
 abbrev pub command_names : Commands → List ℕ
 command_names commands =
-    joined (text_if (command.has commands command.again) (codes ",\"again\"")
+    concatenation (text_if (command.has commands command.again) (codes ",\"again\"")
     ∷ text_if (command.has commands command.cancel) (codes ",\"cancel\"")
     ∷ text_if (command.has commands command.checkpoint) (codes ",\"checkpoint\"")
     ∷ text_if (command.has commands command.restart) (codes ",\"restart\"")
@@ -84,6 +84,6 @@ source_lines rules (Some block) = flat_map (λ line. codes "," ++ decimal line) 
 
 -- of a block the lines of the source that it comes from
 abbrev pub lines_text : List RuleLine → Program → Part → List ℕ
-lines_text rules program (Early number) = codes ",\"lines\":" ++ bracketed (source_lines rules (slice_get program.early number))
-lines_text rules program (Late number) = codes ",\"lines\":" ++ bracketed (source_lines rules (slice_get program.late number))
+lines_text rules program (Early number) = codes ",\"lines\":" ++ json_list (source_lines rules (slice_get program.early number))
+lines_text rules program (Late number) = codes ",\"lines\":" ++ json_list (source_lines rules (slice_get program.late number))
 lines_text rules program _ = []

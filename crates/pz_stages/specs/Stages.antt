@@ -14,17 +14,17 @@ use Rattle.pz_trace.specs.declared.stage.Part.TheVariants.{Early, End, Late}
 use Rattle.pz_trace.specs.Stages.{Course, StageState, stages_of}
 use Rattle.pz_steps.specs.Steps.{Taken}
 use Rattle.pz_stages.specs.Firings.{lines_before}
-use Rattle.pz_stages.specs.Parts.{block_text, bool_text, bracketed, command_names, headings_of, joined, lines_text, part_name, text_if}
+use Rattle.pz_stages.specs.Parts.{block_text, bool_text, json_list, command_names, headings_of, concatenation, lines_text, part_name, text_if}
 use Rattle.pz_stages.specs.declared.detail.Detail.{Detail}
 
 -- a stage: of which step of which input it is, what it gave, and the level after it with what heads somewhere there
 unfoldable pub stage_line : ℕ → ℕ → State → StageState → List ℕ
 stage_line number tick state stage =
-    joined (codes "{"
+    concatenation (codes "{"
     ∷ block_text stage.part
     ∷ (codes "\"changed\":" ++ bool_text stage.gave.changed)
-    ∷ (codes ",\"commands\":" ++ bracketed (command_names stage.gave.commands))
-    ∷ (codes ",\"headings\":" ++ bracketed (headings_of state.game.objects stage.gave.level))
+    ∷ (codes ",\"commands\":" ++ json_list (command_names stage.gave.commands))
+    ∷ (codes ",\"headings\":" ++ json_list (headings_of state.game.objects stage.gave.level))
     ∷ (codes ",\"input\":" ++ decimal number)
     ∷ (codes ",\"level\":" ++ quoted (text_of_level state.game state.order stage.gave.level))
     ∷ lines_text state.game.rules state.program stage.part
@@ -46,7 +46,7 @@ told_line number tick state stage = text_if (is_told stage.part stage) (stage_li
 
 unfoldable pub stop_line : ℕ → ℕ → StepFault → List ℕ
 stop_line number tick fault =
-    joined ((codes "{\"input\":" ++ decimal number) ∷ (codes ",\"stop\":" ++ quoted (stop_name (stop_of fault))) ∷ (codes ",\"tick\":" ++ decimal tick) ∷ codes "}\n" ∷ [])
+    concatenation ((codes "{\"input\":" ++ decimal number) ∷ (codes ",\"stop\":" ++ quoted (stop_name (stop_of fault))) ∷ (codes ",\"tick\":" ++ decimal tick) ∷ codes "}\n" ∷ [])
 
 abbrev pub stop_text : ℕ → ℕ → Option StepFault → List ℕ
 stop_text number tick None = []

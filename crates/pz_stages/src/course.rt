@@ -4,7 +4,7 @@ ghost use Rattle.std.specs.Prelude.{◌≡◌, ◌++◌, ◌+◌, ◌<◌, ◌�
 ghost use Rattle.pz_sheet.specs.Grid.{IsOfGame};
 ghost use Rattle.pz_turn.specs.declared.outcome.StepFault.TheVariants.{Memory};
 ghost use Rattle.pz_trace.specs.Tracing.{with_level};
-ghost use Rattle.pz_steps.specs.Steps.{taken};
+ghost use Rattle.pz_steps.specs.Steps.{taken_step};
 ghost use Rattle.pz_stages.specs.Writer.{IsWriterOf};
 ghost use Rattle.pz_stages.specs.Stages.{course_lines, input_lines, is_told, step_lines, stop_line, told_line};
 
@@ -107,7 +107,7 @@ fn put_step(
     tick: u64,
 ) -> Result<(), AllocError>
     ensures { OnOk result (lines.new.items ≡
-        lines.old.items ++ step_lines detail number tick (taken step.now.board.now step.now.input)) }
+        lines.old.items ++ step_lines detail number tick (taken_step step.now.board.now step.now.input)) }
 {
     let alloc = *lines.allocator();
     let board = step.board;

@@ -6,7 +6,7 @@ ghost use Rattle.pz_level_text.specs.LevelText.{text_of_level};
 ghost use Rattle.pz_turn.specs.declared.outcome.StepFault.{StepFault};
 ghost use Rattle.pz_session.specs.Turn.{stop_of};
 ghost use Rattle.pz_trace.specs.Tracing.{with_level};
-ghost use Rattle.pz_stages.specs.Parts.{block_text, bracketed, command_names, headings_of, lines_text, source_lines};
+ghost use Rattle.pz_stages.specs.Parts.{block_text, json_list, command_names, headings_of, lines_text, source_lines};
 ghost use Rattle.pz_stages.specs.Stages.{stage_line, stop_line};
 ghost use Rattle.pz_stages.specs.Writer.{IsWriterOf};
 
@@ -35,7 +35,7 @@ pub(crate) struct Place<'b, 'a> {
 
 /// Puts texts that each begin with a comma as a JSON list: the first comma is left out.
 pub(crate) fn put_bracketed(line: &mut Vec<u8>, texts: &[u8]) -> Result<(), AllocError>
-    ensures { OnOk result (line.new.items ≡ line.old.items ++ bracketed texts.now) }
+    ensures { OnOk result (line.new.items ≡ line.old.items ++ json_list texts.now) }
 {
     let (_, behind) = texts.split_at(texts.len().min(1));
     line.extend_from_slice(b"[")?;
@@ -45,7 +45,7 @@ pub(crate) fn put_bracketed(line: &mut Vec<u8>, texts: &[u8]) -> Result<(), Allo
 
 /// Puts a list of what was gathered, with its key.
 pub(crate) fn put_list(line: &mut Vec<u8>, key: &[u8], texts: &[u8]) -> Result<(), AllocError>
-    ensures { OnOk result (line.new.items ≡ line.old.items ++ (key.now ++ bracketed texts.now)) }
+    ensures { OnOk result (line.new.items ≡ line.old.items ++ (key.now ++ json_list texts.now)) }
 {
     line.extend_from_slice(key)?;
     put_bracketed(line, texts)

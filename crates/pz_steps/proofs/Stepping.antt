@@ -5,18 +5,18 @@ use Rattle.pz_case.specs.declared.item.Stop.{Stop}
 use Rattle.pz_session.specs.Session.{ticks_after}
 use Rattle.pz_session.specs.Chain.{Link, ticks, follow}
 use Rattle.pz_session.specs.Board.{State}
-unfoldable use Rattle.pz_session.specs.Board.{begun, settled, tick_link}
+unfoldable use Rattle.pz_session.specs.Board.{first_link, with_past, tick_link}
 use Rattle.pz_steps.specs.Chains.{chain_after, left_of, leaving}
 use Rattle.pz_steps.specs.Left.{after_link, steps_left}
 use Rattle.pz_steps.specs.declared.steps.Next.{Next}
-use Rattle.pz_steps.specs.Steps.{following, later_steps, settled_after, settled_in, taken, tick_steps}
+use Rattle.pz_steps.specs.Steps.{following, later_steps, settled_after, settled_in, taken_step, tick_steps}
 
 -- a tick that may run is the next step
-pub some_tick : (n : ℕ) (state : State) → 0 < n → tick_steps n state ≡ taken state None ∷ following (tick_steps (n - 1)) (tick_link state)
+pub some_tick : (n : ℕ) (state : State) → 0 < n → tick_steps n state ≡ taken_step state None ∷ following (tick_steps (n - 1)) (tick_link state)
 some_tick zero state some = absurd (omega (arith, some))
 some_tick (suc n) state some =
     let one : n ≡ suc n - 1 = omega arith in
-    ap (λ (k : ℕ). taken state None ∷ following (tick_steps k) (tick_link state)) one
+    ap (λ (k : ℕ). taken_step state None ∷ following (tick_steps k) (tick_link state)) one
 
 pub no_tick : (n : ℕ) (state : State) → n ≡ 0 → tick_steps n state ≡ []
 no_tick n state none = ap (λ (k : ℕ). tick_steps k state) none
@@ -30,9 +30,9 @@ after_follows n (Ok link) state (Some true) is = grind (arith, is)
 after_follows n (Ok link) state (Some false) is = grind (arith, is)
 
 -- the steps behind the first link of an input
-pub later_are : (input : Input) (next : Next) (before after : State) (more : Option Bool) (n : ℕ) → ((state : State) → steps_left next state ≡ after_link more n state) → n ≡ ticks_after input → left_of (begun input before) ≡ leaving after more → steps_left next after ≡ later_steps input before
+pub later_are : (input : Input) (next : Next) (before after : State) (more : Option Bool) (n : ℕ) → ((state : State) → steps_left next state ≡ after_link more n state) → n ≡ ticks_after input → left_of (first_link input before) ≡ leaving after more → steps_left next after ≡ later_steps input before
 later_are input next before after more n is number left =
-    is after ∙ ap (λ (k : ℕ). after_link more k after) number ∙ after_follows (ticks_after input) (begun input before) after more left
+    is after ∙ ap (λ (k : ℕ). after_link more k after) number ∙ after_follows (ticks_after input) (first_link input before) after more left
 
 -- the steps behind a tick
 pub ticked : (next : Next) (before after : State) (more : Option Bool) (n : ℕ) → ((state : State) → steps_left next state ≡ after_link more (n - 1) state) → 0 < n → left_of (tick_link before) ≡ leaving after more → steps_left next after ≡ drop 1 (tick_steps n before)

@@ -13,8 +13,8 @@ use Rattle.pz_session.specs.declared.chain.Frame.{Frame}
 use Rattle.pz_session.specs.declared.chain.TheConstants.{MOST_TICKS}
 use Rattle.pz_case.specs.declared.item.FrameKind.TheVariants.{Over}
 use Rattle.pz_session.specs.Chain.{Link, follow, ticks}
-use Rattle.pz_session.specs.Session.{Links, played, numbered, items_from, going_on}
-use Rattle.pz_session.specs.Board.{State, board_links, keeping, pressed_to, restarted, settled, showing_end, start_link, ticked_to, undo_link, verdict_of}
+use Rattle.pz_session.specs.Session.{Links, play_from, frames_as_items, items_from, going_on}
+use Rattle.pz_session.specs.Board.{State, board_links, keeping, pressed_to, restart_link, with_past, showing_end, start_link, ticked_to, undo_link, verdict_of}
 use Rattle.pz_session.specs.Case.{played_items, state_of}
 use Rattle.pz_trace.specs.Stages.{stages_of, end_in}
 use Rattle.pz_steps.specs.Steps.{standing_after}
@@ -23,7 +23,7 @@ use Rattle.pz_steps.specs.Steps.{standing_after}
 abbrev pub ItemsGoOn : Type 0
 ItemsGoOn =
     (plan : PlanState) (count : ℕ) (state : State) → standing_after plan count ≡ Some state →
-    (frames : List (ℕ × Frame)) × (played_items plan ≡ numbered 0 frames ++ items_from (length frames) (played board_links (min count (length plan.inputs)) (drop count plan.inputs) state))
+    (frames : List (ℕ × Frame)) × (played_items plan ≡ frames_as_items 0 frames ++ items_from (length frames) (play_from board_links (min count (length plan.inputs)) (drop count plan.inputs) state))
 
 -- how a step of a session ends, by its stages
 abbrev pub ended_by_stages : State → Option Dir → Result (Outcome Grid) StepFault
@@ -35,20 +35,20 @@ staged_tick state = ticked_to state (ended_by_stages state None)
 abbrev pub staged_input : Input → State → Result (Link State) Stop
 staged_input (input.Press dir) state = pressed_to state (ended_by_stages state (Some dir))
 staged_input input.Undo state = Ok (undo_link state)
-staged_input input.Restart state = Ok (restarted (keeping state))
+staged_input input.Restart state = Ok (restart_link (keeping state))
 staged_input input.Tick state = staged_tick state
 
 -- the first link of an input, by the stages of its step
-abbrev pub staged : Input → State → Result (Link State) Stop
-staged input state = if state.is_over then Ok (showing_end Over state) else staged_input input state
+abbrev pub staged_link : Input → State → Result (Link State) Stop
+staged_link input state = if state.is_over then Ok (showing_end Over state) else staged_input input state
 
 -- the links of a session, by the stages of its steps
 abbrev pub staged_links : Links State
-staged_links = record { begun = staged; ticked = staged_tick; settled = settled; verdict = verdict_of }
+staged_links = record { begun = staged_link; ticked = staged_tick; settled = with_past; verdict = verdict_of }
 
 -- the items of a session, by the stages of its steps
 abbrev pub staged_items : PlanState → List Item
-staged_items plan = items_from 0 (going_on staged_links 0 (played staged_links 0 plan.inputs) (follow (ticks staged_links.ticked MOST_TICKS) (Ok (start_link (state_of plan)))))
+staged_items plan = items_from 0 (going_on staged_links 0 (play_from staged_links 0 plan.inputs) (follow (ticks staged_links.ticked MOST_TICKS) (Ok (start_link (state_of plan)))))
 
 -- the stages of a session's steps end in its items
 abbrev pub StagesEndInItems : Type 0

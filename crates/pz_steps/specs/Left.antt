@@ -4,10 +4,10 @@ use Rattle.pz_record.specs.declared.input.Input.TheVariants as input
 use Rattle.pz_session.specs.Board.{State}
 use Rattle.pz_steps.specs.declared.steps.Next.{Next}
 use Rattle.pz_steps.specs.declared.steps.Next.TheVariants.{Press, Tick, Nothing}
-use Rattle.pz_steps.specs.Steps.{Taken, later_steps, taken, tick_steps}
+use Rattle.pz_steps.specs.Steps.{Taken, later_steps, taken_step, tick_steps}
 
 abbrev pub steps_left : Next → State → List Taken
-steps_left (Press dir) state = taken state (Some dir) ∷ later_steps (input.Press dir) state
+steps_left (Press dir) state = taken_step state (Some dir) ∷ later_steps (input.Press dir) state
 steps_left (Tick n) state = tick_steps n state
 steps_left Nothing state = []
 

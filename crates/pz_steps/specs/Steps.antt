@@ -10,12 +10,12 @@ use Rattle.pz_case.specs.Plan.{PlanState}
 use Rattle.pz_session.specs.declared.chain.TheConstants.{MOST_TICKS}
 use Rattle.pz_session.specs.Chain.{Chain, Link, follow, ticks}
 use Rattle.pz_session.specs.Session.{ticks_after}
-use Rattle.pz_session.specs.Board.{State, begun, settled, start_link, tick_link}
+use Rattle.pz_session.specs.Board.{State, first_link, with_past, start_link, tick_link}
 use Rattle.pz_session.specs.Case.{state_of}
 
 -- the chain of an input: its first link, and the ticks that follow it
 abbrev pub chain_of : Input → State → Chain State
-chain_of input state = follow (ticks tick_link (ticks_after input)) (begun input state)
+chain_of input state = follow (ticks tick_link (ticks_after input)) (first_link input state)
 
 -- the chain of a session's start
 abbrev pub start_chain : State → Chain State
@@ -23,7 +23,7 @@ start_chain state = follow (ticks tick_link MOST_TICKS) (Ok (start_link state))
 
 abbrev pub settled_in : Result State Stop → Option State
 settled_in (Err stop) = None
-settled_in (Ok state) = Some (settled state)
+settled_in (Ok state) = Some (with_past state)
 
 -- where a session stands after a chain, unless it stops there
 abbrev pub settled_after : Chain State → Option State
@@ -51,8 +51,8 @@ pub record Taken : Type 0 where
   pub state : State
   pub input : Option Dir
 
-abbrev pub taken : State → Option Dir → Taken
-taken state input = record { state = state; input = input }
+abbrev pub taken_step : State → Option Dir → Taken
+taken_step state input = record { state = state; input = input }
 
 -- the steps that follow a link, if it goes on
 abbrev pub following : (State → List Taken) → Result (Link State) Stop → List Taken
@@ -62,15 +62,15 @@ following later (Ok link) = if link.goes_on then later link.after else []
 -- the steps of ticks from a state that needs one; at most n may run
 abbrev pub tick_steps : ℕ → State → List Taken
 tick_steps zero state = []
-tick_steps (suc n) state = taken state None ∷ following (tick_steps n) (tick_link state)
+tick_steps (suc n) state = taken_step state None ∷ following (tick_steps n) (tick_link state)
 
 -- the steps behind the first link of an input
 abbrev pub later_steps : Input → State → List Taken
-later_steps input state = following (tick_steps (ticks_after input)) (begun input state)
+later_steps input state = following (tick_steps (ticks_after input)) (first_link input state)
 
 -- the steps of an input while a level is played
 abbrev pub steps_in_play : Input → State → List Taken
-steps_in_play (Press dir) state = taken state (Some dir) ∷ later_steps (Press dir) state
+steps_in_play (Press dir) state = taken_step state (Some dir) ∷ later_steps (Press dir) state
 steps_in_play Undo state = later_steps Undo state
 steps_in_play Restart state = later_steps Restart state
 steps_in_play Tick state = tick_steps MOST_TICKS state

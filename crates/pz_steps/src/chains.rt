@@ -1,7 +1,7 @@
 //! Inputs of a session, played up to the end of their chains.
 
 ghost use Rattle.std.specs.Prelude.{◌≡◌, IfOk, Ok};
-ghost use Rattle.pz_session.specs.Board.{begun, start_link, tick_link};
+ghost use Rattle.pz_session.specs.Board.{first_link, start_link, tick_link};
 ghost use Rattle.pz_steps.specs.Chains.{IsLeft, chain_after, leaving, left_by, left_of};
 ghost use Rattle.pz_steps.specs.Steps.{after_inputs, chain_of, settled_after, settled_in, stands_behind, start_chain};
 
@@ -31,7 +31,7 @@ pub(crate) fn begin_session(board: &mut Board<'_>) -> Result<Option<bool>, Alloc
 
 /// Plays the first link of an input. The answer is as for a session.
 pub(crate) fn begin(board: &mut Board<'_>, input: Input) -> Result<Option<bool>, AllocError>
-    ensures { IfOk result (λ more. left_of (begun input board.old) ≡ leaving board.new more) }
+    ensures { IfOk result (λ more. left_of (first_link input board.old) ≡ leaving board.new more) }
 {
     let shown = board.begin(input);
     goes_on(shown)

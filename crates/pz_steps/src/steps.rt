@@ -164,7 +164,7 @@ pub fn standing(alloc: Global, plan: &Plan) -> Result<Option<Board<'_>>, AllocEr
 }
 
 impl<'a> Steps<'a> {
-    ghost use Rattle.pz_steps.specs.Steps.{taken};
+    ghost use Rattle.pz_steps.specs.Steps.{taken_step};
 
     /// The steps that a session takes at an input, by its number from 1, or with 0 at its start. It has none if the session stopped
     /// before, or has fewer inputs. Everything before is played. Err: memory was refused. Rule `stages.steps`.
@@ -184,7 +184,7 @@ impl<'a> Steps<'a> {
     #[tactic(auto, using(crate::proofs::Stepping::some_tick, crate::proofs::Stepping::no_tick))]
     pub fn next(&self) -> Option<Step<'_, 'a>>
         ensures { MatchOption result (self.now ≡ [])
-            (λ step. slice_get self.now 0 ≡ Some (taken step.board.now step.input)) }
+            (λ step. slice_get self.now 0 ≡ Some (taken_step step.board.now step.input)) }
     {
         let input = match self.next {
             Next::Press(dir) => Some(dir),

@@ -3,9 +3,9 @@
 use crate::game::loaded;
 use crate::levels::{moved, small_game, square_game};
 use pz_game::game::Game;
+use pz_json_text::quoted::QuotedText;
 use pz_level_text::text_writer::TextWriter;
 use pz_record::order::Order;
-use pz_json_text::quoted::QuotedText;
 use std::alloc::Global;
 use std::test::Fail;
 

@@ -14,7 +14,7 @@ unfoldable use Rattle.pz_turn.specs.Applying.{applied}
 use Rattle.pz_turn.specs.Outcome.{Outcome, untouched}
 use Rattle.pz_trace.proofs.Carrying.{carries_applied}
 use Rattle.pz_trace.specs.Firings.{Fired, are_some, has_fired, told_if, fired_at, fired_to, fired_with}
-unfoldable use Rattle.pz_trace.specs.Firings.{fired}
+unfoldable use Rattle.pz_trace.specs.Firings.{firing_of}
 
 some_more : (told : List (List Place)) (changed : Bool) (places : List Place) → are_some (told ++ told_if changed places) ≡ (are_some told || changed)
 some_more [] true places = refl
@@ -22,7 +22,7 @@ some_more [] false places = refl
 some_more (first ∷ told) changed places = refl
 
 abbrev in_rewriting : Fired → Rewriting
-in_rewriting fired = in_rewrite fired.level (has_fired fired)
+in_rewriting firing_of = in_rewrite firing_of.level (has_fired firing_of)
 
 fired_fold : (instance : Instance) (all : List (List Place)) (so_far : Fired) → fold (applied_at instance) (in_rewriting so_far) all ≡ in_rewriting (fold (fired_at instance) so_far all)
 fired_fold instance [] so_far = refl
@@ -34,8 +34,8 @@ fired_fold instance (places ∷ more) so_far =
 -- the same level, a change exactly if it fired, and the same stop
 abbrev pub Agrees : Result (Outcome Grid) StepFault → Result Fired StepFault → Type 0
 Agrees (Err fault) (Err other) = fault ≡ other
-Agrees (Ok gave) (Ok fired) = (gave.level ≡ fired.level) × (gave.changed ≡ has_fired fired)
-Agrees (Err fault) (Ok fired) = ⊥
+Agrees (Ok gave) (Ok firing_of) = (gave.level ≡ firing_of.level) × (gave.changed ≡ has_fired firing_of)
+Agrees (Err fault) (Ok firing_of) = ⊥
 Agrees (Ok gave) (Err fault) = ⊥
 
 agrees_to : (instance : Instance) (grid : Grid) (all : List (List Place)) → Agrees (applied_to instance grid all) (fired_to instance grid all)
@@ -47,8 +47,8 @@ agrees_with : (instance : Instance) (grid : Grid) (found : Result (List (List Pl
 agrees_with instance grid (Err fault) = refl
 agrees_with instance grid (Ok lists) = agrees_to instance grid (combinations lists)
 
-pub agrees : (instance : Instance) (grid : Grid) → Agrees (applied instance grid) (fired instance grid)
-unfolding applied fired
+pub agrees : (instance : Instance) (grid : Grid) → Agrees (applied instance grid) (firing_of instance grid)
+unfolding applied firing_of
 agrees instance grid = agrees_with instance grid (places_of_rows grid instance.scan instance.left)
 
 none_are : (grid : Grid) (gave : Result Fired StepFault) → Agrees (Ok (untouched grid)) gave → gave ≡ Ok (record { level = grid; places = [] })
@@ -59,22 +59,22 @@ none_are grid (Ok gave) agree = grind (arith, agree, no_places gave.places) wher
   no_places (first ∷ more) none = absurd cc
 
 -- an instance that leaves the level untouched doesn't fire
-pub none_fires : (instance : Instance) (grid : Grid) → applied instance grid ≡ Ok (untouched grid) → fired instance grid ≡ Ok (record { level = grid; places = [] })
+pub none_fires : (instance : Instance) (grid : Grid) → applied instance grid ≡ Ok (untouched grid) → firing_of instance grid ≡ Ok (record { level = grid; places = [] })
 none_fires instance grid is =
-    let known : Agrees (applied instance grid) (fired instance grid) = agrees instance grid in
-    none_are grid (fired instance grid) (rw is at known)
+    let known : Agrees (applied instance grid) (firing_of instance grid) = agrees instance grid in
+    none_are grid (firing_of instance grid) (rw is at known)
 
 -- it fires at these combinations
 pub all_fire : (instance : Instance) (grid : Grid) (lists : List (List Place)) → places_of_rows grid instance.scan instance.left ≡ Ok lists → nat_lt COMBINATION_LIMIT (length (combinations lists)) ≡ false
-    → fired instance grid ≡ Ok (fold (fired_at instance) (record { level = grid; places = [] }) (combinations lists))
-unfolding fired
+    → firing_of instance grid ≡ Ok (fold (fired_at instance) (record { level = grid; places = [] }) (combinations lists))
+unfolding firing_of
 all_fire instance grid lists takes few = grind (arith, takes, few)
 
 -- too many of them are a stop
-pub too_many : (instance : Instance) (grid : Grid) (lists : List (List Place)) → places_of_rows grid instance.scan instance.left ≡ Ok lists → nat_lt COMBINATION_LIMIT (length (combinations lists)) ≡ true → fired instance grid ≡ Err MatchLimit
-unfolding fired
+pub too_many : (instance : Instance) (grid : Grid) (lists : List (List Place)) → places_of_rows grid instance.scan instance.left ≡ Ok lists → nat_lt COMBINATION_LIMIT (length (combinations lists)) ≡ true → firing_of instance grid ≡ Err MatchLimit
+unfolding firing_of
 too_many instance grid lists takes many = grind (arith, takes, many)
 
-pub taking_stops : (instance : Instance) (grid : Grid) (fault : StepFault) → places_of_rows grid instance.scan instance.left ≡ Err fault → fired instance grid ≡ Err fault
-unfolding fired
+pub taking_stops : (instance : Instance) (grid : Grid) (fault : StepFault) → places_of_rows grid instance.scan instance.left ≡ Err fault → firing_of instance grid ≡ Err fault
+unfolding firing_of
 taking_stops instance grid fault stops = ap (fired_with instance grid) stops

@@ -18,7 +18,7 @@ use Rattle.pz_turn.proofs.Passes.{either_comm}
 use Rattle.pz_turn.proofs.Segments.{follow_pass}
 use Rattle.pz_trace.specs.declared.stage.Part.{Part}
 use Rattle.pz_trace.specs.declared.stage.Part.TheVariants.{Early, Late}
-use Rattle.pz_trace.specs.Stages.{StageState, Course, Standing, Asked, going_on, blocks_from, led, end_of, end_from, late_from, movement_from, early_from, end_in}
+use Rattle.pz_trace.specs.Stages.{StageState, Course, Standing, Asked, going_on, blocks_from, change_between, end_of, end_from, late_from, movement_from, early_from, end_in}
 unfoldable use Rattle.pz_trace.specs.Stages.{stages_of}
 
 -- how a course ends that follows this outcome
@@ -68,8 +68,8 @@ module _ (asked : Asked) where
 
   movement_ends : (so_far before : Outcome Grid) → end_after before (movement_from asked (standing_of so_far)) ≡ at_movement so_far
   movement_ends so_far before =
-      ap (λ (c : Commands). end_after (led so_far.level (resolved so_far.level)) (late_from asked 0 (record { level = resolved so_far.level; commands = c }))) (either_none so_far.commands)
-      ∙ late_ends (moved so_far) (led so_far.level (resolved so_far.level))
+      ap (λ (c : Commands). end_after (change_between so_far.level (resolved so_far.level)) (late_from asked 0 (record { level = resolved so_far.level; commands = c }))) (either_none so_far.commands)
+      ∙ late_ends (moved so_far) (change_between so_far.level (resolved so_far.level))
 
   early_ends : (so_far before : Outcome Grid) → end_after before (early_from asked 0 (standing_of so_far)) ≡ on_ok at_movement (fold step (Ok so_far) asked.program.early)
   early_ends so_far before = blocks_end Early (movement_from asked) at_movement movement_ends 0 asked.program.early so_far before
@@ -88,4 +88,4 @@ unfolding stages_of step_of rules_run blocks_run
 stages_end game program grid input =
     let asked : Asked = record { game = game; program = program; grid = grid; input = input } in
     let start = given_input (players_of game) input grid in
-    early_ends asked (untouched start) (led grid start) ∙ rules_end asked (fold step (Ok (untouched start)) program.early)
+    early_ends asked (untouched start) (change_between grid start) ∙ rules_end asked (fold step (Ok (untouched start)) program.early)

@@ -20,7 +20,7 @@ use Rattle.pz_turn.proofs.Unchanged.{Leaves, applied_leaves}
 use Rattle.pz_trace.proofs.Applying.{Agrees, agrees}
 use Rattle.pz_trace.proofs.Resting.{joined_untouched, rested, rest_by_first, none_allowed}
 use Rattle.pz_trace.specs.declared.firing.Moment.{Moment}
-use Rattle.pz_trace.specs.Firings.{Fired, FiringState, Sequence, Telling, are_some, fired, told, told_instance, told_each, told_pass, told_group, told_round, done}
+use Rattle.pz_trace.specs.Firings.{Fired, FiringState, Sequence, Telling, are_some, firing_of, firing_and_later, told_instance, told_each, told_pass, told_group, told_round, nothing_later}
 unfoldable use Rattle.pz_trace.specs.Firings.{firings_of, told_rest}
 use Rattle.pz_trace.specs.FiringLaws.{Left, end_behind, without_commands, end_in}
 
@@ -49,19 +49,19 @@ module _ (moment : Moment) (line : ℕ) (scan : Dir) (later : Later) (grid : Gri
   firing gave = record { moment = moment; line = line; scan = scan; gave = gave }
 
   fired_ends : (gave : Outcome Grid) (level : Grid) (places : List (List Place)) → gave.level ≡ level → gave.changed ≡ are_some places → (gave.changed ≡ false → gave.level ≡ grid)
-      → end_behind (at grid any) (told firing later (Ok (record { level = level; places = places }))) ≡ then_later later any false gave
+      → end_behind (at grid any) (firing_and_later firing later (Ok (record { level = level; places = places }))) ≡ then_later later any false gave
   fired_ends gave level [] same changes keeps = grind (arith, same, changes, keeps, or-false any)
   fired_ends gave level (first ∷ more) same changes keeps = grind (arith, same, changes, or-true any)
 
   told_ends : (runs : Result (Outcome Grid) StepFault) (gave : Result Fired StepFault) → Agrees runs gave → Leaves grid runs
-      → end_behind (at grid any) (told firing later gave) ≡ on_ok (then_later later any false) runs
+      → end_behind (at grid any) (firing_and_later firing later gave) ≡ on_ok (then_later later any false) runs
   told_ends (Err fault) (Err other) same leaves = ap Err (sym same)
-  told_ends (Ok gave) (Ok told) both leaves = fired_ends gave told.level told.places both.0 both.1 (λ none. leaves gave refl none)
-  told_ends (Err fault) (Ok told) never leaves = absurd never
+  told_ends (Ok gave) (Ok firing_and_later) both leaves = fired_ends gave firing_and_later.level firing_and_later.places both.0 both.1 (λ none. leaves gave refl none)
+  told_ends (Err fault) (Ok firing_and_later) never leaves = absurd never
   told_ends (Ok gave) (Err fault) never leaves = absurd never
 
 instance_ends : (rules : List RuleLine) (moment : Moment) (instance : Instance) → Ends (told_instance rules moment instance) (applied instance)
-instance_ends rules moment instance later grid any = told_ends moment _ instance.scan later grid any (applied instance grid) (fired instance grid) (agrees instance grid) (applied_leaves instance grid)
+instance_ends rules moment instance later grid any = told_ends moment _ instance.scan later grid any (applied instance grid) (firing_of instance grid) (agrees instance grid) (applied_leaves instance grid)
 
 -- ---- a pass
 module _ {I : Type 0} (tells : ℕ → I → Telling) (runs : I → Runs Grid) (each : (number : ℕ) (item : I) → Ends (tells number item) (runs item)) where
@@ -134,13 +134,13 @@ group_ends rules round number group later grid any =
 round_ends : (rules : List RuleLine) (groups : List (List Instance)) (round : ℕ) → Ends (told_round rules groups round) (pass_of (group_runs PASSES applied) groups)
 round_ends rules groups round = pass_ends (told_group rules round) (group_runs PASSES applied) (group_ends rules round) groups
 
-ok_ends : (grid : Grid) (r : Result (Outcome Grid) StepFault) → on_ok (then_later done false false) r ≡ without_commands r
+ok_ends : (grid : Grid) (r : Result (Outcome Grid) StepFault) → on_ok (then_later nothing_later false false) r ≡ without_commands r
 ok_ends grid (Err fault) = refl
 ok_ends grid (Ok gave) = refl
 
 pub firings_end : (rules : List RuleLine) (block : Block) (grid : Grid) → end_in grid (firings_of rules block grid) ≡ without_commands (block_runs block grid)
 unfolding firings_of block_runs
-firings_end rules (One group) grid = group_ends rules 0 0 group done grid false ∙ ok_ends grid (group_runs PASSES applied group grid)
+firings_end rules (One group) grid = group_ends rules 0 0 group nothing_later grid false ∙ ok_ends grid (group_runs PASSES applied group grid)
 firings_end rules (Loop groups) grid =
-    rest_ends (told_round rules groups) (pass_of (group_runs PASSES applied) groups) (round_ends rules groups) PASSES 0 done grid false
+    rest_ends (told_round rules groups) (pass_of (group_runs PASSES applied) groups) (round_ends rules groups) PASSES 0 nothing_later grid false
     ∙ ok_ends grid (rest_of PASSES (pass_of (group_runs PASSES applied) groups) grid)

@@ -19,9 +19,9 @@ use Rattle.pz_turn.specs.declared.resting.TheConstants.{PASSES}
 use Rattle.pz_trace.specs.declared.block_play.BlockPlay.{BlockPlay}
 use Rattle.pz_trace.specs.declared.block_play.Spot.{Spot}
 use Rattle.pz_trace.specs.declared.firing.Firing.{Firing}
-use Rattle.pz_trace.specs.Firings.{Sequence, Telling, over, preceded, stopped, told_instance, told_each, told_pass, told_group, told_round, done}
+use Rattle.pz_trace.specs.Firings.{Sequence, Telling, over, with_firing_before, stop_sequence, told_instance, told_each, told_pass, told_group, told_round, nothing_later}
 unfoldable use Rattle.pz_trace.specs.Firings.{firings_of, told_rest}
-use Rattle.pz_trace.specs.FiringPlay.{Setting, IsAllowed, IsPlayed, Yields, YieldsOrNot, behind_instance_at, setting_of, with_level, behind_round, behind_group, behind_pass, numbered, left_of_pass, left_of_groups, left, behind_pass_at, behind_group_at, behind_round_at, goes_round, first_spot, is_loop, one_if, another_if, ends_left}
+use Rattle.pz_trace.specs.FiringPlay.{Setting, IsAllowed, IsPlayed, Yields, YieldsOrNot, behind_instance_at, setting_of, with_level, behind_round, behind_group, behind_pass, moment_of, left_of_pass, left_of_groups, sequence_from, behind_pass_at, behind_group_at, behind_round_at, goes_round, first_spot, is_loop, one_if, another_if, ends_left}
 use Rattle.pz_trace.specs.SourceLines.{groups_of}
 
 -- one pass, and those behind it
@@ -30,7 +30,7 @@ pub rest_more : (tells : ℕ → Telling) (left number : ℕ) (later : Bool → 
 unfolding told_rest
 rest_more tells left number later grid = refl
 
-rest_none : (tells : ℕ → Telling) (number : ℕ) (later : Bool → Grid → Sequence) (grid : Grid) → told_rest tells 0 number later grid ≡ stopped LoopLimit
+rest_none : (tells : ℕ → Telling) (number : ℕ) (later : Bool → Grid → Sequence) (grid : Grid) → told_rest tells 0 number later grid ≡ stop_sequence LoopLimit
 unfolding told_rest
 rest_none tells number later grid = refl
 
@@ -44,7 +44,7 @@ one_left tells made later grid allowed =
     ∙ ap (λ (n : ℕ). told_rest tells (suc (PASSES - 1 - (made + 1))) n later grid) (sym (add-one made))
     ∙ rest_more tells (PASSES - 1 - (made + 1)) (made + 1) later grid
 
-no_left : (tells : ℕ → Telling) (made : ℕ) (later : Bool → Grid → Sequence) (grid : Grid) → made + 1 ≡ PASSES → told_rest tells (PASSES - 1 - made) (suc made) later grid ≡ stopped LoopLimit
+no_left : (tells : ℕ → Telling) (made : ℕ) (later : Bool → Grid → Sequence) (grid : Grid) → made + 1 ≡ PASSES → told_rest tells (PASSES - 1 - made) (suc made) later grid ≡ stop_sequence LoopLimit
 no_left tells made later grid last =
     let left : PASSES - 1 - made ≡ 0 = omega (arith, last) in
     ap (λ (n : ℕ). told_rest tells n (suc made) later grid) left ∙ rest_none tells (suc made) later grid
@@ -65,16 +65,16 @@ begin_groups : (setting : Setting) (round number : ℕ) (changed : Bool) (grid :
     → left_of_groups setting (start round number changed) grid groups
     ≡ told_each (told_group setting.rules round) number groups changed (behind_round setting (start round number changed).moment) grid
 begin_groups setting round number changed grid [] ends =
-    ap (λ (b : Bool). if b then told_rest (told_round setting.rules setting.groups) (PASSES - 1 - round) (suc round) done grid else over) (sym (ends refl))
+    ap (λ (b : Bool). if b then told_rest (told_round setting.rules setting.groups) (PASSES - 1 - round) (suc round) nothing_later grid else over) (sym (ends refl))
 begin_groups setting round number changed grid (group ∷ more) ends = begin_group setting round number changed grid group more
 
 -- a block begins
-pub begins : (rules : List RuleLine) (block : Block) (grid : Grid) → left (record { rules = rules; groups = groups_of block; is_loop = is_loop block }) first_spot grid ≡ firings_of rules block grid
+pub begins : (rules : List RuleLine) (block : Block) (grid : Grid) → sequence_from (record { rules = rules; groups = groups_of block; is_loop = is_loop block }) first_spot grid ≡ firings_of rules block grid
 unfolding firings_of
 begins rules (One group) grid = begin_group (record { rules = rules; groups = group ∷ []; is_loop = false }) 0 0 false grid group []
 begins rules (Loop groups) grid =
     begin_groups (record { rules = rules; groups = groups; is_loop = true }) 0 0 false grid groups (λ none. refl)
-    ∙ sym (rest_more (told_round rules groups) 199 0 done grid)
+    ∙ sym (rest_more (told_round rules groups) 199 0 nothing_later grid)
 
 pub groups_of_block : (layers : List ℕ) (block : Block) → IsBlockOf layers block → AreGroupsOf layers (groups_of block)
 groups_of_block layers (One group) of_game = All-cons (IsGroupOf layers) group [] of_game (All-nil (IsGroupOf layers))
@@ -92,31 +92,31 @@ module _ (setting : Setting) (spot : Spot) (group : List Instance) (is : slice_g
   -- what follows the instance
   abbrev behind : Bool → Grid → Sequence
   behind changes level =
-      told_each (λ number. told_instance setting.rules (numbered spot.moment number)) (suc spot.moment.instance) (drop (spot.moment.instance + 1) group) (spot.pass_changed || changes)
+      told_each (λ number. told_instance setting.rules (moment_of spot.moment number)) (suc spot.moment.instance) (drop (spot.moment.instance + 1) group) (spot.pass_changed || changes)
       (behind_pass setting spot group (drop (spot.moment.group + 1) setting.groups)) level
 
-  instance_first : (grid : Grid) → left setting spot grid ≡ told_instance setting.rules spot.moment instance behind grid
+  instance_first : (grid : Grid) → sequence_from setting spot grid ≡ told_instance setting.rules spot.moment instance behind grid
   instance_first grid =
       ap (left_of_groups setting spot grid) (from_here setting.groups spot.moment.group group is)
-      ∙ ap (λ (instances : List Instance). told_each (λ number. told_instance setting.rules (numbered spot.moment number)) spot.moment.instance instances spot.pass_changed (behind_pass setting spot group (drop (spot.moment.group + 1) setting.groups)) grid) (from_here group spot.moment.instance instance at)
+      ∙ ap (λ (instances : List Instance). told_each (λ number. told_instance setting.rules (moment_of spot.moment number)) spot.moment.instance instances spot.pass_changed (behind_pass setting spot group (drop (spot.moment.group + 1) setting.groups)) grid) (from_here group spot.moment.instance instance at)
 
-  instance_on : (changes : Bool) (level : Grid) → behind changes level ≡ left setting (behind_instance_at spot changes) level
+  instance_on : (changes : Bool) (level : Grid) → behind changes level ≡ sequence_from setting (behind_instance_at spot changes) level
   instance_on changes level =
-      ap (λ (n : ℕ). told_each (λ number. told_instance setting.rules (numbered spot.moment number)) n (drop (spot.moment.instance + 1) group) (spot.pass_changed || changes)
+      ap (λ (n : ℕ). told_each (λ number. told_instance setting.rules (moment_of spot.moment number)) n (drop (spot.moment.instance + 1) group) (spot.pass_changed || changes)
       (behind_pass setting spot group (drop (spot.moment.group + 1) setting.groups)) level) (sym (add-one spot.moment.instance))
       ∙ ap (left_of_groups setting (behind_instance_at spot changes) level) (sym (from_here setting.groups spot.moment.group group is))
 
   pub instance_fires : (grid level : Grid) (firing : Option Firing) → YieldsOrNot (λ later. told_instance setting.rules spot.moment instance later grid) firing level
-      → is_some firing ≡ true → Yields (left setting spot grid) firing level (left setting (behind_instance_at spot (is_some firing)) level)
+      → is_some firing ≡ true → Yields (sequence_from setting spot grid) firing level (sequence_from setting (behind_instance_at spot (is_some firing)) level)
   instance_fires grid level None yields some = absurd cc
-  instance_fires grid level (Some firing) yields some = instance_first grid ∙ yields behind ∙ ap (preceded (with_level firing level)) (instance_on true level)
+  instance_fires grid level (Some firing) yields some = instance_first grid ∙ yields behind ∙ ap (with_firing_before (with_level firing level)) (instance_on true level)
 
   pub instance_rests : (grid level : Grid) (firing : Option Firing) → YieldsOrNot (λ later. told_instance setting.rules spot.moment instance later grid) firing level
-      → is_some firing ≡ false → left setting (behind_instance_at spot (is_some firing)) level ≡ left setting spot grid
+      → is_some firing ≡ false → sequence_from setting (behind_instance_at spot (is_some firing)) level ≡ sequence_from setting spot grid
   instance_rests grid level (Some firing) yields none = absurd cc
   instance_rests grid level None yields none = sym (instance_first grid ∙ yields behind ∙ instance_on false level)
 
-  pub instance_stops : (grid : Grid) (fault : StepFault) → ((later : Bool → Grid → Sequence) → told_instance setting.rules spot.moment instance later grid ≡ stopped fault) → left setting spot grid ≡ stopped fault
+  pub instance_stops : (grid : Grid) (fault : StepFault) → ((later : Bool → Grid → Sequence) → told_instance setting.rules spot.moment instance later grid ≡ stop_sequence fault) → sequence_from setting spot grid ≡ stop_sequence fault
   instance_stops grid fault stops = instance_first grid ∙ stops behind
 
 -- an instance that doesn't fire leaves as many ends of passes
@@ -145,30 +145,30 @@ module _ (setting : Setting) (spot : Spot) (grid : Grid) (group : List Instance)
   more = drop (spot.moment.group + 1) setting.groups
 
   -- nothing is left of the pass
-  at_end : left setting spot grid ≡ behind_pass setting spot group more spot.pass_changed grid
+  at_end : sequence_from setting spot grid ≡ behind_pass setting spot group more spot.pass_changed grid
   at_end =
       ap (left_of_groups setting spot grid) (from_here setting.groups spot.moment.group group is)
-      ∙ ap (λ (instances : List Instance). told_each (λ number. told_instance setting.rules (numbered spot.moment number)) spot.moment.instance instances spot.pass_changed (behind_pass setting spot group more) grid) (drop_all spot.moment.instance group end)
+      ∙ ap (λ (instances : List Instance). told_each (λ number. told_instance setting.rules (moment_of spot.moment number)) spot.moment.instance instances spot.pass_changed (behind_pass setting spot group more) grid) (drop_all spot.moment.instance group end)
 
   changed_end : spot.pass_changed ≡ true
-      → left setting spot grid ≡ told_rest (told_pass setting.rules spot.moment.round spot.moment.group group) (PASSES - 1 - spot.moment.pass) (suc spot.moment.pass) (behind_group setting spot more) grid
+      → sequence_from setting spot grid ≡ told_rest (told_pass setting.rules spot.moment.round spot.moment.group group) (PASSES - 1 - spot.moment.pass) (suc spot.moment.pass) (behind_group setting spot more) grid
   changed_end changed = at_end ∙ ap (λ (b : Bool). behind_pass setting spot group more b grid) changed
 
-  pub pass_goes_on : (next : Spot) → next ≡ behind_pass_at spot → IsAllowed next → spot.pass_changed ≡ true → left setting next grid ≡ left setting spot grid
+  pub pass_goes_on : (next : Spot) → next ≡ behind_pass_at spot → IsAllowed next → spot.pass_changed ≡ true → sequence_from setting next grid ≡ sequence_from setting spot grid
   pass_goes_on next at allowed changed =
       let pass : next.moment.pass ≡ spot.moment.pass + 1 = ap (λ (s : Spot). s.moment.pass) at in
-      let here : left setting (behind_pass_at spot) grid ≡ left_of_pass setting (behind_pass_at spot) grid group more = ap (left_of_groups setting (behind_pass_at spot) grid) (from_here setting.groups spot.moment.group group is) in
-      ap (λ (s : Spot). left setting s grid) at ∙ here
+      let here : sequence_from setting (behind_pass_at spot) grid ≡ left_of_pass setting (behind_pass_at spot) grid group more = ap (left_of_groups setting (behind_pass_at spot) grid) (from_here setting.groups spot.moment.group group is) in
+      ap (λ (s : Spot). sequence_from setting s grid) at ∙ here
       ∙ sym (changed_end changed ∙ one_left (told_pass setting.rules spot.moment.round spot.moment.group group) spot.moment.pass (behind_group setting spot more) grid (omega (arith, pass, allowed.pass)))
 
-  pub pass_stops : spot.moment.pass + 1 ≡ PASSES → spot.pass_changed ≡ true → left setting spot grid ≡ stopped LoopLimit
+  pub pass_stops : spot.moment.pass + 1 ≡ PASSES → spot.pass_changed ≡ true → sequence_from setting spot grid ≡ stop_sequence LoopLimit
   pass_stops last changed = changed_end changed ∙ no_left (told_pass setting.rules spot.moment.round spot.moment.group group) spot.moment.pass (behind_group setting spot more) grid last
 
   -- the group is at rest
   abbrev changed : Bool
   changed = spot.round_changed || nat_lt 0 spot.moment.pass
 
-  quiet_end : spot.pass_changed ≡ false → left setting spot grid ≡ told_each (told_group setting.rules spot.moment.round) (suc spot.moment.group) more changed (behind_round setting spot.moment) grid
+  quiet_end : spot.pass_changed ≡ false → sequence_from setting spot grid ≡ told_each (told_group setting.rules spot.moment.round) (suc spot.moment.group) more changed (behind_round setting spot.moment) grid
   quiet_end quiet = at_end ∙ ap (λ (b : Bool). behind_pass setting spot group more b grid) quiet
 
   -- behind the last group nothing goes on, unless the round does
@@ -179,7 +179,7 @@ module _ (setting : Setting) (spot : Spot) (grid : Grid) (group : List Instance)
       let last : spot.moment.group + 1 ≡ length setting.groups = omega (arith, within, all, ap length none) in
       grind (arith, nat_tests, last, stays)
 
-  pub group_goes_on : spot.pass_changed ≡ false → goes_round setting spot ≡ false → left setting (behind_group_at spot) grid ≡ left setting spot grid
+  pub group_goes_on : spot.pass_changed ≡ false → goes_round setting spot ≡ false → sequence_from setting (behind_group_at spot) grid ≡ sequence_from setting spot grid
   group_goes_on quiet stays =
       begin_groups setting spot.moment.round (spot.moment.group + 1) changed grid more (ends_round stays)
       ∙ ap (λ (n : ℕ). told_each (told_group setting.rules spot.moment.round) n more changed (behind_round setting spot.moment) grid) (add-one spot.moment.group)
@@ -187,26 +187,26 @@ module _ (setting : Setting) (spot : Spot) (grid : Grid) (group : List Instance)
 
   -- the round goes on
   round_end : spot.pass_changed ≡ false → goes_round setting spot ≡ true
-      → left setting spot grid ≡ told_rest (told_round setting.rules setting.groups) (PASSES - 1 - spot.moment.round) (suc spot.moment.round) done grid
+      → sequence_from setting spot grid ≡ told_rest (told_round setting.rules setting.groups) (PASSES - 1 - spot.moment.round) (suc spot.moment.round) nothing_later grid
   round_end quiet round =
       let loops = and_parts setting.is_loop (changed && nat_eq (spot.moment.group + 1) (length setting.groups)) round in
       let ends = and_parts changed (nat_eq (spot.moment.group + 1) (length setting.groups)) loops.1 in
       let last : length setting.groups ≤ spot.moment.group + 1 = grind (arith, nat_tests, ends.1) in
       quiet_end quiet
       ∙ ap (λ (groups : List (List Instance)). told_each (told_group setting.rules spot.moment.round) (suc spot.moment.group) groups changed (behind_round setting spot.moment) grid) (drop_all (spot.moment.group + 1) setting.groups last)
-      ∙ (λ i. if loops.0 i && ends.0 i then told_rest (told_round setting.rules setting.groups) (PASSES - 1 - spot.moment.round) (suc spot.moment.round) done grid else over)
+      ∙ (λ i. if loops.0 i && ends.0 i then told_rest (told_round setting.rules setting.groups) (PASSES - 1 - spot.moment.round) (suc spot.moment.round) nothing_later grid else over)
 
-  pub round_goes_on : (next : Spot) → next ≡ behind_round_at spot → IsAllowed next → spot.pass_changed ≡ false → goes_round setting spot ≡ true → left setting next grid ≡ left setting spot grid
+  pub round_goes_on : (next : Spot) → next ≡ behind_round_at spot → IsAllowed next → spot.pass_changed ≡ false → goes_round setting spot ≡ true → sequence_from setting next grid ≡ sequence_from setting spot grid
   round_goes_on next at allowed quiet round =
       let number : next.moment.round ≡ spot.moment.round + 1 = ap (λ (s : Spot). s.moment.round) at in
       let loops = and_parts setting.is_loop (changed && nat_eq (spot.moment.group + 1) (length setting.groups)) round in
       let begun = begin_groups setting (spot.moment.round + 1) 0 false grid setting.groups (λ none. grind (arith, loops.0)) in
-      ap (λ (s : Spot). left setting s grid) at ∙ begun
-      ∙ (λ i. told_each (told_group setting.rules (spot.moment.round + 1)) 0 setting.groups false (λ changes level. if loops.0 i && changes then told_rest (told_round setting.rules setting.groups) (PASSES - 1 - (spot.moment.round + 1)) (suc (spot.moment.round + 1)) done level else over) grid)
-      ∙ sym (round_end quiet round ∙ one_left (told_round setting.rules setting.groups) spot.moment.round done grid (omega (arith, number, allowed.round)))
+      ap (λ (s : Spot). sequence_from setting s grid) at ∙ begun
+      ∙ (λ i. told_each (told_group setting.rules (spot.moment.round + 1)) 0 setting.groups false (λ changes level. if loops.0 i && changes then told_rest (told_round setting.rules setting.groups) (PASSES - 1 - (spot.moment.round + 1)) (suc (spot.moment.round + 1)) nothing_later level else over) grid)
+      ∙ sym (round_end quiet round ∙ one_left (told_round setting.rules setting.groups) spot.moment.round nothing_later grid (omega (arith, number, allowed.round)))
 
-  pub round_stops : spot.moment.round + 1 ≡ PASSES → spot.pass_changed ≡ false → goes_round setting spot ≡ true → left setting spot grid ≡ stopped LoopLimit
-  round_stops last quiet round = round_end quiet round ∙ no_left (told_round setting.rules setting.groups) spot.moment.round done grid last
+  pub round_stops : spot.moment.round + 1 ≡ PASSES → spot.pass_changed ≡ false → goes_round setting spot ≡ true → sequence_from setting spot grid ≡ stop_sequence LoopLimit
+  round_stops last quiet round = round_end quiet round ∙ no_left (told_round setting.rules setting.groups) spot.moment.round nothing_later grid last
 
 -- ---- fewer ends of passes are left
 another_most : (b : Bool) (groups : ℕ) → another_if b groups ≤ groups + 1

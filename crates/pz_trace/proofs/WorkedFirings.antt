@@ -13,8 +13,8 @@ use Rattle.pz_sheet.specs.Grid.{Grid}
 use Rattle.pz_grid.specs.declared.placing.Place.{Place}
 unfoldable use Rattle.pz_grid.specs.Places.{searched}
 use Rattle.pz_turn.specs.declared.outcome.StepFault.TheVariants.{LoopLimit}
-use Rattle.pz_trace.specs.Firings.{FiringState, over, done, told_pass}
-unfoldable use Rattle.pz_trace.specs.Firings.{fired, firings_of, told_rest}
+use Rattle.pz_trace.specs.Firings.{FiringState, over, nothing_later, told_pass}
+unfoldable use Rattle.pz_trace.specs.Firings.{firing_of, firings_of, told_rest}
 
 -- object 0 is the background on layer 0; 1 the player, 2 a crate and 3 a wall, on layer 1
 abbrev item : ℕ → Word → Item
@@ -57,12 +57,12 @@ turns = rule (row ((item 1 Present ∷ []) ∷ []) ∷ row ((item 1 Present ∷ 
 
 fires :
     -- at each player in order
-    (fired crates (strip (one 1 ∷ bare ∷ one 1 ∷ [])) ≡ Ok (record { level = strip (one 2 ∷ bare ∷ one 2 ∷ []); places = (place 0 ∷ []) ∷ (place 2 ∷ []) ∷ [] }))
+    (firing_of crates (strip (one 1 ∷ bare ∷ one 1 ∷ [])) ≡ Ok (record { level = strip (one 2 ∷ bare ∷ one 2 ∷ []); places = (place 0 ∷ []) ∷ (place 2 ∷ []) ∷ [] }))
     -- nowhere
-    × (fired crates (strip (bare ∷ one 2 ∷ [])) ≡ Ok (record { level = strip (bare ∷ one 2 ∷ []); places = [] }))
+    × (firing_of crates (strip (bare ∷ one 2 ∷ [])) ≡ Ok (record { level = strip (bare ∷ one 2 ∷ []); places = [] }))
     -- at (0, 0) the cell becomes a crate and then the player again, which counts; at (1, 0) the other cell a crate; the rest no longer holds
-    × (fired turns (strip (one 1 ∷ one 1 ∷ bare ∷ [])) ≡ Ok (record { level = strip (one 1 ∷ one 2 ∷ bare ∷ []); places = (place 0 ∷ place 0 ∷ []) ∷ (place 1 ∷ place 0 ∷ []) ∷ [] }))
-unfolding fired searched
+    × (firing_of turns (strip (one 1 ∷ one 1 ∷ bare ∷ [])) ≡ Ok (record { level = strip (one 1 ∷ one 2 ∷ bare ∷ []); places = (place 0 ∷ place 0 ∷ []) ∷ (place 1 ∷ place 0 ∷ []) ∷ [] }))
+unfolding firing_of searched
 fires = (refl, refl, refl)
 
 -- an instance that fired at one place
@@ -84,9 +84,9 @@ blocks :
       stop = None;
     })
     -- with two passes left, neither of which is the last
-    × (told_rest (told_pass [] 0 0 (crates ∷ players ∷ [])) 2 0 done (strip (one 1 ∷ [])) ≡ record {
+    × (told_rest (told_pass [] 0 0 (crates ∷ players ∷ [])) 2 0 nothing_later (strip (one 1 ∷ [])) ≡ record {
       firings = at 0 0 0 0 0 (one 2 ∷ []) ∷ at 0 0 0 1 0 (one 1 ∷ []) ∷ at 0 0 1 0 0 (one 2 ∷ []) ∷ at 0 0 1 1 0 (one 1 ∷ []) ∷ [];
       stop = Some LoopLimit;
     })
-unfolding firings_of told_rest fired searched
+unfolding firings_of told_rest firing_of searched
 blocks = (refl, refl, refl, refl)

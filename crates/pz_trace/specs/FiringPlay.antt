@@ -12,7 +12,7 @@ use Rattle.pz_trace.specs.declared.block_play.BlockPlay.{BlockPlay}
 use Rattle.pz_trace.specs.declared.block_play.Spot.{Spot}
 use Rattle.pz_trace.specs.declared.firing.Firing.{Firing}
 use Rattle.pz_trace.specs.declared.firing.Moment.{Moment}
-use Rattle.pz_trace.specs.Firings.{FiringState, Sequence, over, stopped, preceded, told_instance, told_each, told_rest, told_pass, told_group, told_round, done}
+use Rattle.pz_trace.specs.Firings.{FiringState, Sequence, over, stop_sequence, with_firing_before, told_instance, told_each, told_rest, told_pass, told_group, told_round, nothing_later}
 
 -- what is played: the rules that lines are told of, and the groups of a loop, or a group alone
 pub record Setting : Type 0 where
@@ -24,7 +24,7 @@ pub record Setting : Type 0 where
 abbrev pub behind_round : Setting → Moment → Bool → Grid → Sequence
 behind_round setting moment changed level =
     if setting.is_loop && changed
-    then told_rest (told_round setting.rules setting.groups) (PASSES - 1 - moment.round) (suc moment.round) done level
+    then told_rest (told_round setting.rules setting.groups) (PASSES - 1 - moment.round) (suc moment.round) nothing_later level
     else over
 
 -- behind a group: the groups after it
@@ -40,13 +40,13 @@ behind_pass setting spot group more changed level =
     else behind_group setting spot more (nat_lt 0 spot.moment.pass) level
 
 -- the instance of this number, at this moment of a pass
-abbrev pub numbered : Moment → ℕ → Moment
-numbered moment number = record { round = moment.round; group = moment.group; pass = moment.pass; instance = number }
+abbrev pub moment_of : Moment → ℕ → Moment
+moment_of moment number = record { round = moment.round; group = moment.group; pass = moment.pass; instance = number }
 
 -- the instances of a pass from the next one on, and what follows them
 abbrev pub left_of_pass : Setting → Spot → Grid → List Instance → List (List Instance) → Sequence
 left_of_pass setting spot grid group more =
-    told_each (λ number. told_instance setting.rules (numbered spot.moment number)) spot.moment.instance
+    told_each (λ number. told_instance setting.rules (moment_of spot.moment number)) spot.moment.instance
     (drop spot.moment.instance group) spot.pass_changed (behind_pass setting spot group more) grid
 
 abbrev pub left_of_groups : Setting → Spot → Grid → List (List Instance) → Sequence
@@ -54,19 +54,19 @@ left_of_groups setting spot grid [] = over
 left_of_groups setting spot grid (group ∷ more) = left_of_pass setting spot grid group more
 
 -- from a spot on, on this level
-abbrev pub left : Setting → Spot → Grid → Sequence
-left setting spot grid = left_of_groups setting spot grid (drop spot.moment.group setting.groups)
+abbrev pub sequence_from : Setting → Spot → Grid → Sequence
+sequence_from setting spot grid = left_of_groups setting spot grid (drop spot.moment.group setting.groups)
 
 abbrev pub setting_of : BlockPlay → Setting
 setting_of play = record { rules = play.rules.now; groups = play.groups.now; is_loop = play.is_loop }
 
 abbrev pub left_in : BlockPlay → Sequence
-left_in play = left (setting_of play) play.spot play.level.grid
+left_in play = sequence_from (setting_of play) play.spot play.level.grid
 
 -- what is left, unless it has stopped
 abbrev pub left_unless : Option StepFault → BlockPlay → Sequence
 left_unless None play = left_in play
-left_unless (Some fault) play = stopped fault
+left_unless (Some fault) play = stop_sequence fault
 
 -- no limit of passes is passed
 pub record IsAllowed (spot : Spot) : Type 0 where
@@ -81,7 +81,7 @@ pub record IsPlayed (play : BlockPlay) : Type 0 where
 -- behind an instance of a pass, which fires or doesn't
 abbrev pub behind_instance_at : Spot → Bool → Spot
 behind_instance_at spot fires = record {
-  moment = numbered spot.moment (spot.moment.instance + 1);
+  moment = moment_of spot.moment (spot.moment.instance + 1);
   pass_changed = spot.pass_changed || fires;
   round_changed = spot.round_changed;
 }
@@ -136,12 +136,12 @@ with_level firing level =
 -- an answer is the first of the firings that were left, and the level is the one after it
 abbrev pub Yields : Sequence → Option Firing → Grid → Sequence → Type 0
 Yields before None level after = (before ≡ over) × (after ≡ over)
-Yields before (Some firing) level after = before ≡ preceded (with_level firing level) after
+Yields before (Some firing) level after = before ≡ with_firing_before (with_level firing level) after
 
 -- an instance fires, or leaves the level to what follows it
 abbrev pub YieldsOrNot : ((Bool → Grid → Sequence) → Sequence) → Option Firing → Grid → Type 0
 YieldsOrNot before None level = (later : Bool → Grid → Sequence) → before later ≡ later false level
-YieldsOrNot before (Some firing) level = (later : Bool → Grid → Sequence) → before later ≡ preceded (with_level firing level) (later true level)
+YieldsOrNot before (Some firing) level = (later : Bool → Grid → Sequence) → before later ≡ with_firing_before (with_level firing level) (later true level)
 
 abbrev pub one_if : Bool → ℕ
 one_if false = 0

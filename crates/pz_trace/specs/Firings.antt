@@ -32,7 +32,7 @@ are_some (first ∷ more) = true
 
 -- stages.fires: it fires if it changes a cell somewhere
 abbrev pub has_fired : Fired → Bool
-has_fired fired = are_some fired.places
+has_fired firing_of = are_some firing_of.places
 
 -- a combination, if it changed a cell
 abbrev pub told_if : Bool → List Place → List (List Place)
@@ -56,8 +56,8 @@ fired_with instance grid (Err fault) = Err fault
 fired_with instance grid (Ok lists) = fired_to instance grid (combinations lists)
 
 -- an instance, applied to a level
-unfoldable pub fired : Instance → Grid → Result Fired StepFault
-fired instance grid = fired_with instance grid (places_of_rows grid instance.scan instance.left)
+unfoldable pub firing_of : Instance → Grid → Result Fired StepFault
+firing_of instance grid = fired_with instance grid (places_of_rows grid instance.scan instance.left)
 
 -- ---- what a block does
 
@@ -77,11 +77,11 @@ pub record Sequence : Type 0 where
 abbrev pub over : Sequence
 over = record { firings = []; stop = None }
 
-abbrev pub stopped : StepFault → Sequence
-stopped fault = record { firings = []; stop = Some fault }
+abbrev pub stop_sequence : StepFault → Sequence
+stop_sequence fault = record { firings = []; stop = Some fault }
 
-abbrev pub preceded : FiringState → Sequence → Sequence
-preceded firing later = record { firings = firing ∷ later.firings; stop = later.stop }
+abbrev pub with_firing_before : FiringState → Sequence → Sequence
+with_firing_before firing later = record { firings = firing ∷ later.firings; stop = later.stop }
 
 -- what is told of a run from a level on, with what follows it: that knows whether the run changed something, and the level that it
 -- left
@@ -89,14 +89,14 @@ abbrev pub Telling : Type 0
 Telling = (Bool → Grid → Sequence) → Grid → Sequence
 
 -- what an instance did, if it fired, and what follows it
-abbrev pub told : (Fired → FiringState) → (Bool → Grid → Sequence) → Result Fired StepFault → Sequence
-told firing later (Err fault) = stopped fault
-told firing later (Ok gave) = if has_fired gave then preceded (firing gave) (later true gave.level) else later false gave.level
+abbrev pub firing_and_later : (Fired → FiringState) → (Bool → Grid → Sequence) → Result Fired StepFault → Sequence
+firing_and_later firing later (Err fault) = stop_sequence fault
+firing_and_later firing later (Ok gave) = if has_fired gave then with_firing_before (firing gave) (later true gave.level) else later false gave.level
 
 -- stages.firings
 abbrev pub told_instance : List RuleLine → Moment → Instance → Telling
 told_instance rules moment instance later grid =
-    told (λ gave. record { moment = moment; line = line_of rules instance; scan = instance.scan; gave = gave }) later (fired instance grid)
+    firing_and_later (λ gave. record { moment = moment; line = line_of rules instance; scan = instance.scan; gave = gave }) later (firing_of instance grid)
 
 -- a pass: each item in order, the first with this number; `changed` says whether those before it changed something
 abbrev pub told_each : {I : Type 0} → (ℕ → I → Telling) → ℕ → List I → Bool → Telling
@@ -106,7 +106,7 @@ told_each tells number (item ∷ more) changed later grid =
 
 -- passes, the first with this number, up to the first that changes nothing; so many are left
 unfoldable pub told_rest : (ℕ → Telling) → ℕ → ℕ → Telling
-told_rest tells zero number later grid = stopped LoopLimit
+told_rest tells zero number later grid = stop_sequence LoopLimit
 told_rest tells (suc left) number later grid =
     tells number (λ changes level. if changes then told_rest tells left (suc number) later level else later (nat_lt 0 number) level) grid
 
@@ -123,10 +123,10 @@ abbrev pub told_round : List RuleLine → List (List Instance) → ℕ → Telli
 told_round rules groups round = told_each (told_group rules round) 0 groups false
 
 -- nothing follows
-abbrev pub done : Bool → Grid → Sequence
-done changed level = over
+abbrev pub nothing_later : Bool → Grid → Sequence
+nothing_later changed level = over
 
 -- stages.firings: the firings of a block. A group that is in no loop counts as group 0 of round 0.
 unfoldable pub firings_of : List RuleLine → Block → Grid → Sequence
-firings_of rules (One group) grid = told_group rules 0 0 group done grid
-firings_of rules (Loop groups) grid = told_rest (told_round rules groups) PASSES 0 done grid
+firings_of rules (One group) grid = told_group rules 0 0 group nothing_later grid
+firings_of rules (Loop groups) grid = told_rest (told_round rules groups) PASSES 0 nothing_later grid

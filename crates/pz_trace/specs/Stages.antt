@@ -33,11 +33,11 @@ abbrev pub over : Course
 over = record { stages = []; stop = None }
 
 -- stages.stop
-abbrev pub stopped : StepFault → Course
-stopped fault = record { stages = []; stop = Some fault }
+abbrev pub stop_course : StepFault → Course
+stop_course fault = record { stages = []; stop = Some fault }
 
-abbrev pub preceded : StageState → Course → Course
-preceded stage later = record { stages = stage ∷ later.stages; stop = later.stop }
+abbrev pub with_stage_before : StageState → Course → Course
+with_stage_before stage later = record { stages = stage ∷ later.stages; stop = later.stop }
 
 -- between two stages: the level, and the commands given so far
 pub record Standing : Type 0 where
@@ -49,8 +49,8 @@ after standing gave = record { level = gave.level; commands = either standing.co
 
 -- stages.commands: a part that gave this or stopped, and what follows it
 abbrev pub going_on : Part → Standing → (Standing → Course) → Result (Outcome Grid) StepFault → Course
-going_on part standing later (Err fault) = stopped fault
-going_on part standing later (Ok gave) = preceded (record { part = part; gave = gave }) (later (after standing gave))
+going_on part standing later (Err fault) = stop_course fault
+going_on part standing later (Ok gave) = with_stage_before (record { part = part; gave = gave }) (later (after standing gave))
 
 -- blocks in order, the first of them with this number, and what follows them
 abbrev pub blocks_from : (ℕ → Part) → ℕ → (Standing → Course) → List Block → Standing → Course
@@ -59,8 +59,8 @@ blocks_from part number later (block ∷ blocks) standing =
     going_on (part number) standing (blocks_from part (suc number) later blocks) (block_runs block standing.level)
 
 -- what leads from one level to another and gives no command
-abbrev pub led : Grid → Grid → Outcome Grid
-led before after = record { level = after; commands = no_commands; changed = not (same_grid after before) }
+abbrev pub change_between : Grid → Grid → Outcome Grid
+change_between before after = record { level = after; commands = no_commands; changed = not (same_grid after before) }
 
 -- a step that is asked for: of which game, from which level, with which input
 pub record Asked : Type 0 where
@@ -75,7 +75,7 @@ end_of asked standing =
     ended asked.grid standing.level (with_cancel (must_cancel asked.game asked.input asked.grid standing.level) standing.commands)
 
 abbrev pub end_from : Asked → Standing → Course
-end_from asked standing = preceded (record { part = End; gave = end_of asked standing }) over
+end_from asked standing = with_stage_before (record { part = End; gave = end_of asked standing }) over
 
 -- stages.late: from the late block of this number on
 abbrev pub late_from : Asked → ℕ → Standing → Course
@@ -83,7 +83,7 @@ late_from asked number standing = blocks_from Late number (end_from asked) (drop
 
 -- stages.movement: from the movement on
 abbrev pub movement_from : Asked → Standing → Course
-movement_from asked standing = going_on Movement standing (late_from asked 0) (Ok (led standing.level (resolved standing.level)))
+movement_from asked standing = going_on Movement standing (late_from asked 0) (Ok (change_between standing.level (resolved standing.level)))
 
 -- stages.early: from the early block of this number on
 abbrev pub early_from : Asked → ℕ → Standing → Course
@@ -92,7 +92,7 @@ early_from asked number standing = blocks_from Early number (movement_from asked
 -- stages.input: from the input on: a press gives its direction to the player, a tick gives none
 abbrev pub input_from : Asked → Standing → Course
 input_from asked standing =
-    going_on Input standing (early_from asked 0) (Ok (led asked.grid (given_input (players_of asked.game) asked.input standing.level)))
+    going_on Input standing (early_from asked 0) (Ok (change_between asked.grid (given_input (players_of asked.game) asked.input standing.level)))
 
 -- the stages of a step
 unfoldable pub stages_of : GameParts → Program → Grid → Option Dir → Course

@@ -6,7 +6,7 @@ use Rattle.pz_trace.specs.declared.play.Phase.{Phase}
 use Rattle.pz_trace.specs.declared.play.Phase.TheVariants as phase
 use Rattle.pz_trace.specs.declared.play.Play.{Play}
 use Rattle.pz_trace.specs.declared.stage.Stage.{Stage}
-use Rattle.pz_trace.specs.Stages.{StageState, Course, Standing, Asked, over, stopped, preceded, input_from, early_from, late_from}
+use Rattle.pz_trace.specs.Stages.{StageState, Course, Standing, Asked, over, stop_course, with_stage_before, input_from, early_from, late_from}
 
 -- what is left in a phase
 abbrev pub left_in : Phase → Asked → Standing → Course
@@ -14,7 +14,7 @@ left_in phase.Input asked standing = input_from asked standing
 left_in (phase.Early number) asked standing = early_from asked number standing
 left_in (phase.Late number) asked standing = late_from asked number standing
 left_in phase.Over asked standing = over
-left_in (phase.Stopped fault) asked standing = stopped fault
+left_in (phase.Stopped fault) asked standing = stop_course fault
 
 abbrev pub asked_in : Play → Asked
 asked_in play = record { game = play.game.now; program = play.program.now; grid = play.before.now.grid; input = play.input }
@@ -22,8 +22,8 @@ asked_in play = record { game = play.game.now; program = play.program.now; grid 
 abbrev pub standing_in : Play → Standing
 standing_in play = record { level = play.level.grid; commands = play.commands }
 
-abbrev pub left : Play → Course
-left play = left_in play.phase (asked_in play) (standing_in play)
+abbrev pub course_left : Play → Course
+course_left play = left_in play.phase (asked_in play) (standing_in play)
 
 -- what contracts see of a step that is traced: the level that it began with, the level after the stages so far, and what is left
 pub record Traced : Type 0 where
@@ -44,4 +44,4 @@ with_level stage level = record { part = stage.part; gave = record { level = lev
 -- an answer is the first of the stages that were left, and the level is the one after it
 abbrev pub Yields : Course → Option Stage → Grid → Course → Type 0
 Yields before None level after = (before ≡ over) × (after ≡ over)
-Yields before (Some stage) level after = before ≡ preceded (with_level stage level) after
+Yields before (Some stage) level after = before ≡ with_stage_before (with_level stage level) after

@@ -5,8 +5,8 @@ ghost use Rattle.pz_program.specs.Instance.{IsInstanceOf};
 ghost use Rattle.pz_sheet.specs.Grid.{Grid, SameSize};
 ghost use Rattle.pz_turn.specs.Outcome.{UnlessMemory};
 ghost use Rattle.pz_turn.specs.declared.outcome.StepFault.TheVariants.{LoopLimit};
-ghost use Rattle.pz_trace.specs.Firings.{Sequence, stopped, told_instance};
-ghost use Rattle.pz_trace.specs.FiringPlay.{IsAllowed, IsPlayed, Yields, YieldsOrNot, behind_group_at, behind_instance_at, behind_pass_at, behind_round_at, ends_left, goes_round, left, left_in, setting_of};
+ghost use Rattle.pz_trace.specs.Firings.{Sequence, stop_sequence, told_instance};
+ghost use Rattle.pz_trace.specs.FiringPlay.{IsAllowed, IsPlayed, Yields, YieldsOrNot, behind_group_at, behind_instance_at, behind_pass_at, behind_round_at, ends_left, goes_round, sequence_from, left_in, setting_of};
 
 use crate::firing::{Firing, Moment};
 use crate::firing_instance::fire;
@@ -78,7 +78,7 @@ impl<'a> BlockPlay<'a> {
             later self.old.level.grid) firing self.new.level.grid)
             (λ fault. (later : Bool → Grid → Sequence) →
             told_instance self.old.rules.now self.old.spot.moment instance.now later self.old.level.grid ≡
-            stopped fault) }
+            stop_sequence fault) }
         ensures setting { setting_of self.new ≡ setting_of self.old }
         ensures spot { self.new.spot ≡ self.old.spot }
         ensures size { SameSize self.old.level.grid self.new.level.grid }
@@ -102,7 +102,7 @@ impl<'a> BlockPlay<'a> {
         ensures firing { UnlessMemory result
             (λ firing. is_some firing ≡ true →
             Yields (left_in self.old) firing self.new.level.grid (left_in self.new))
-            (λ fault. left_in self.old ≡ stopped fault) }
+            (λ fault. left_in self.old ≡ stop_sequence fault) }
         ensures none { IfOk result (λ firing. firing ≡ None → left_in self.new ≡ left_in self.old) }
         ensures group { IfOk result
             (λ firing. firing ≡ None → self.new.spot.moment.group ≡ self.old.spot.moment.group) }
@@ -202,11 +202,11 @@ impl<'a> BlockPlay<'a> {
         requires group { slice_get self.now.groups.now self.now.spot.moment.group ≡ Some group.now }
         requires end { length group.now ≤ self.now.spot.moment.instance }
         requires allowed { IsAllowed self.now.spot }
-        ensures left { IfOk result (λ spot. left (setting_of self.now) spot self.now.level.grid ≡ left_in self.now) }
+        ensures sequence_from { IfOk result (λ spot. sequence_from (setting_of self.now) spot self.now.level.grid ≡ left_in self.now) }
         ensures fewer { IfOk result
             (λ spot. ends_left (setting_of self.now) spot < ends_left (setting_of self.now) self.now.spot) }
         ensures allowed { IfOk result IsAllowed }
-        ensures fault { IfErr result (λ fault. left_in self.now ≡ stopped fault) }
+        ensures fault { IfErr result (λ fault. left_in self.now ≡ stop_sequence fault) }
     {
         if self.spot.pass_changed {
             self.next_pass()
@@ -222,7 +222,7 @@ impl<'a> BlockPlay<'a> {
         requires played { IsPlayed self.old }
         ensures firing { UnlessMemory result
             (λ firing. Yields (left_in self.old) firing self.new.level.grid (left_in self.new))
-            (λ fault. left_in self.old ≡ stopped fault) }
+            (λ fault. left_in self.old ≡ stop_sequence fault) }
         ensures played { IsPlayed self.new }
         ensures size { SameSize self.old.level.grid self.new.level.grid }
     {

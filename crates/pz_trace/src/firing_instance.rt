@@ -7,7 +7,7 @@ ghost use Rattle.pz_grid.specs.Rewriting.{in_rewrite};
 ghost use Rattle.pz_turn.specs.Combinations.{combinations};
 ghost use Rattle.pz_turn.specs.Applying.{applied_at};
 ghost use Rattle.pz_turn.specs.Outcome.{Gives};
-ghost use Rattle.pz_trace.specs.Firings.{fired, fired_at};
+ghost use Rattle.pz_trace.specs.Firings.{firing_of, fired_at};
 
 use crate::firing::Places;
 use pz_base::listed::Listed;
@@ -105,7 +105,7 @@ pub(crate) fn fire(
     instance: &Instance,
 ) -> Result<Vec<Places>, StepFault>
     requires of_game { IsInstanceOf level.old.grid.layers instance.now }
-    ensures fired { Gives (fired instance.now level.old.grid)
+    ensures firing_of { Gives (firing_of instance.now level.old.grid)
         (λ places. record { level = level.new.grid; places = places.items }) result }
     ensures size { SameSize level.old.grid level.new.grid }
 {

@@ -4,7 +4,7 @@ ghost use Rattle.std.specs.Prelude.{◌≡◌, IfOk, IfErr};
 ghost use Rattle.pz_program.specs.Instance.{IsBlockOf};
 ghost use Rattle.pz_sheet.specs.Grid.{IsOfGame, SameSize};
 ghost use Rattle.pz_turn.specs.Outcome.{UnlessMemory};
-ghost use Rattle.pz_trace.specs.Firings.{firings_of, stopped};
+ghost use Rattle.pz_trace.specs.Firings.{firings_of, stop_sequence};
 ghost use Rattle.pz_trace.specs.FiringPlay.{Yields, first_spot, is_loop};
 ghost use Rattle.pz_trace.specs.SourceLines.{groups_of};
 
@@ -118,9 +118,9 @@ impl<'a> Firings<'a> {
     pub fn next(&mut self) -> Result<Option<Firing>, StepFault>
         ensures firing { UnlessMemory result
             (λ firing. Yields self.old.sequence firing self.new.level self.new.sequence)
-            (λ fault. self.old.sequence ≡ stopped fault) }
+            (λ fault. self.old.sequence ≡ stop_sequence fault) }
         ensures size { SameSize self.old.level self.new.level }
-        ensures stays { IfErr result (λ fault. self.new.sequence ≡ stopped fault) }
+        ensures stays { IfErr result (λ fault. self.new.sequence ≡ stop_sequence fault) }
     {
         if let Some(fault) = self.stop {
             return Err(fault);

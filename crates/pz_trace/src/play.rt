@@ -125,8 +125,8 @@ impl Drop for Play<'_> {
 }
 
 impl<'a> Play<'a> {
-    ghost use Rattle.pz_trace.specs.Stages.{Course, Standing, going_on, preceded, stopped, movement_from, end_from};
-    ghost use Rattle.pz_trace.specs.Tracing.{IsTraced, Yields, asked_in, left, standing_in, with_level};
+    ghost use Rattle.pz_trace.specs.Stages.{Course, Standing, going_on, with_stage_before, stop_course, movement_from, end_from};
+    ghost use Rattle.pz_trace.specs.Tracing.{IsTraced, Yields, asked_in, course_left, standing_in, with_level};
 
     /// The stage of a part that has led to the level, given these commands and perhaps changed something. Rule `stages.commands`.
     fn stage(&mut self, part: Part, commands: Commands, changed: bool) -> Stage
@@ -148,7 +148,7 @@ impl<'a> Play<'a> {
     fn input(&mut self) -> Stage
         requires phase { self.old.phase ≡ Phase.Input }
         requires traced { IsTraced self.old }
-        ensures stage { left self.old ≡ preceded (with_level result self.new.level.grid) (left self.new) }
+        ensures stage { course_left self.old ≡ with_stage_before (with_level result self.new.level.grid) (course_left self.new) }
         ensures before { self.new.before.now ≡ self.old.before.now }
         ensures traced { IsTraced self.new }
     {
@@ -164,7 +164,7 @@ impl<'a> Play<'a> {
         ensures stage { UnlessMemory result
             (λ stage. (later : Standing → Course) →
             going_on part (standing_in self.old) later (block_runs block.now self.old.level.grid) ≡
-            preceded (with_level stage self.new.level.grid) (later (standing_in self.new)))
+            with_stage_before (with_level stage self.new.level.grid) (later (standing_in self.new)))
             (λ fault. block_runs block.now self.old.level.grid ≡ Err fault) }
         ensures phase { IfOk result (λ stage. self.new.phase ≡ next) }
         ensures asked { asked_in self.new ≡ asked_in self.old }
@@ -181,7 +181,7 @@ impl<'a> Play<'a> {
         requires traced { IsTraced self.old }
         ensures stage { IfOk result
             (λ stage. movement_from (asked_in self.old) (standing_in self.old) ≡
-            preceded (with_level stage self.new.level.grid) (left self.new)) }
+            with_stage_before (with_level stage self.new.level.grid) (course_left self.new)) }
         ensures before { self.new.before.now ≡ self.old.before.now }
         ensures traced { IsTraced self.new }
     {
@@ -195,7 +195,7 @@ impl<'a> Play<'a> {
         requires traced { IsTraced self.old }
         ensures stage { IfOk result
             (λ stage. end_from (asked_in self.old) (standing_in self.old) ≡
-            preceded (with_level stage self.new.level.grid) (left self.new)) }
+            with_stage_before (with_level stage self.new.level.grid) (course_left self.new)) }
         ensures before { self.new.before.now ≡ self.old.before.now }
         ensures traced { IsTraced self.new }
     {
@@ -214,8 +214,8 @@ impl<'a> Play<'a> {
     pub fn advance(&mut self) -> Result<Option<Stage>, StepFault>
         requires traced { IsTraced self.old }
         ensures stage { UnlessMemory result
-            (λ stage. Yields (left self.old) stage self.new.level.grid (left self.new))
-            (λ fault. left self.old ≡ stopped fault) }
+            (λ stage. Yields (course_left self.old) stage self.new.level.grid (course_left self.new))
+            (λ fault. course_left self.old ≡ stop_course fault) }
         ensures before { self.new.before.now ≡ self.old.before.now }
         ensures traced { IsTraced self.new }
     {

@@ -32,17 +32,17 @@ impl Drop for Tracing<'_> {
 }
 
 impl<'a> Model for Tracing<'a> {
-    ghost use Rattle.pz_trace.specs.Tracing.{Traced, left, IsTraced};
+    ghost use Rattle.pz_trace.specs.Tracing.{Traced, course_left, IsTraced};
 
     ghost Value = { Traced };
 
-    ghost view = { λ t. record { grid = t.play.before.now.grid; level = t.play.level.grid; course = left t.play } };
+    ghost view = { λ t. record { grid = t.play.before.now.grid; level = t.play.level.grid; course = course_left t.play } };
 
     ghost invariant = { λ t. IsTraced t.play };
 }
 
 impl<'a> Tracing<'a> {
-    ghost use Rattle.pz_trace.specs.Stages.{stopped};
+    ghost use Rattle.pz_trace.specs.Stages.{stop_course};
     ghost use Rattle.pz_trace.specs.Tracing.{Yields};
 
     /// A step before its first stage: a press with its direction, or a tick (`None`). Err: memory was refused.
@@ -90,9 +90,9 @@ impl<'a> Tracing<'a> {
     pub fn next(&mut self) -> Result<Option<Stage>, StepFault>
         ensures stage { UnlessMemory result
             (λ stage. Yields self.old.course stage self.new.level self.new.course)
-            (λ fault. self.old.course ≡ stopped fault) }
+            (λ fault. self.old.course ≡ stop_course fault) }
         ensures grid { self.new.grid ≡ self.old.grid }
-        ensures stays { IfErr result (λ fault. self.new.course ≡ stopped fault) }
+        ensures stays { IfErr result (λ fault. self.new.course ≡ stop_course fault) }
     {
         match self.play.advance() {
             Ok(stage) => Ok(stage),

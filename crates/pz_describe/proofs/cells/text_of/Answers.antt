@@ -1,5 +1,5 @@
 use Rattle.std.proofs.Common.{◌≡◌, ap, ◌∙◌, map, rules}
-use Rattle.pz_json_text.specs.CellTexts.{joined}
+use Rattle.pz_json_text.specs.CellTexts.{text_of_names}
 use Rattle.pz_describe.proofs.Joining.{joins}
 use Rattle.pz_describe.proofs.cells.text_of.Goals as goal
 

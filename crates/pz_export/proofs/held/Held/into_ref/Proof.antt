@@ -21,7 +21,7 @@ use Rattle.std.proofs.raw_atomic.Walks.{proved_at}
 use Rattle.std.proofs.option.Made.{Some-of, none_of}
 use Rattle.std.specs.contracts.option.Option as OP
 use Rattle.pz_open.specs.Opened.{OpenState}
-use Rattle.pz_export.specs.Held.{held}
+use Rattle.pz_export.specs.Held.{borrow_of_sessions}
 use Rattle.pz_open.specs.contracts.sessions.OpenSessions.{the_row as R}
 use Rattle.pz_export.specs.contracts.held.Held.{the_row as H}
 use Rattle.pz_export.specs.contracts.held.Held.into_ref as f
@@ -36,7 +36,7 @@ word at is_held = vstruct (vcons (ptr_val at) (vcons (vbool is_held) vnil))
 
 module _ {M : Type 1} {𝓤 : Ura M} {𝓛 : Logic 𝓤} {K : Type 0} {Γ : List (Item 𝓤)} {G : Goal 𝓤 𝓛.H} where
   opened : K → (h : H.Denot) (vs : List Val)
-      → (vs ≡ word h.at h.is_held ∷ [] → Seq K 𝓛 (‵ (held h.is_held h.at h.value) ∷ Γ) G)
+      → (vs ≡ word h.at h.is_held ∷ [] → Seq K 𝓛 (‵ (borrow_of_sessions h.is_held h.at h.value) ∷ Γ) G)
       → Seq K 𝓛 (‵ (H.own_val h vs) ∷ Γ) G
   opened t h vs k =
       fsplit t $ fpick t (λ vss. fsplit t $ feq_l t (λ ev. fsplit t $ feq_l t (λ ep. fsplit t $ feq_l t (λ eb. drop t $
@@ -46,9 +46,9 @@ abbrev of_word : List Val → Val
 of_word us = vstruct (of_list (us ++ (vbool true ∷ [])))
 
 by_cases : {M : Type 1} {𝓤 : Ura M} (𝓛 : Logic 𝓤) (P : Ptr → Bool → SProp 𝓤) (value : Option (MutBor (List (Option OpenState))))
-    → ((at : Ptr) (r : MutBor (List (Option OpenState))) → value ≡ Some r → ent 𝓤 (sem 𝓛 (held true at (Some r))) (P at true))
+    → ((at : Ptr) (r : MutBor (List (Option OpenState))) → value ≡ Some r → ent 𝓤 (sem 𝓛 (borrow_of_sessions true at (Some r))) (P at true))
     → (value ≡ None → ent 𝓤 (sem 𝓛 ftrue) (P null_ptr false))
-    → (at : Ptr) (d : Bool) (x : Option (MutBor (List (Option OpenState)))) → value ≡ x → ent 𝓤 (sem 𝓛 (held d at x)) (P at d)
+    → (at : Ptr) (d : Bool) (x : Option (MutBor (List (Option OpenState)))) → value ≡ x → ent 𝓤 (sem 𝓛 (borrow_of_sessions d at x)) (P at d)
 by_cases 𝓛 P value some none at true (Some r) e = some at r e
 by_cases {𝓤 = 𝓤} 𝓛 P value some none at true None e = never_e 𝓤 _
 by_cases {𝓤 = 𝓤} 𝓛 P value some none null_ptr false (Some r) e = never_e 𝓤 _
@@ -61,9 +61,9 @@ into_ref_spec 𝓤 𝓛 𝓜 𝓡 wired =
     proved_at 𝓛 f.ended stayed c 𝓜 𝓡 (Goes-dropped 𝓛 0 (plain (λ _. H)) yes (λ κs x w. refl), tt)
     f.Key.name code.function (code.unfolded 𝓤 𝓛.H 𝓜 𝓡 wired) (λ z are.
     let h = z.0.3.0 in let vs = z.0.4.0 in let Run : List Val → SProp 𝓤 = λ ws. WpFn 𝓤 𝓛.H 𝓣.C 𝓣.Λ code.function ws (W.post z) in
-    let kept : (at : Ptr) (r : MutBor (List (Option OpenState))) → h.value ≡ Some r → ent 𝓤 (sem 𝓛 (held true at (Some r))) (Run (word at true ∷ [])) = λ at r e.
+    let kept : (at : Ptr) (r : MutBor (List (Option OpenState))) → h.value ≡ Some r → ent 𝓤 (sem 𝓛 (borrow_of_sessions true at (Some r))) (Run (word at true ∷ [])) = λ at r e.
     let b = r.ref_ptr.0 in let o = r.ref_ptr.1 in
-    qed 𝓛 (‵ (held true at (Some r)) ∷ []) ∵ fsplit ! $ feq_l ! (λ ep. feq_i ! (List Val) (vptr b o ∷ []) (vptr b o ∷ []) refl $ fjoin ! $
+    qed 𝓛 (‵ (borrow_of_sessions true at (Some r)) ∷ []) ∵ fsplit ! $ feq_l ! (λ ep. feq_i ! (List Val) (vptr b o ∷ []) (vptr b o ∷ []) refl $ fjoin ! $
     suffices ! (Run (of_word (vptr b o ∷ []) ∷ [])) (subst (λ (us : List Val). ent 𝓤 (Run (of_word (vptr b o ∷ []) ∷ [])) (Run (of_word us ∷ []))) (sym ep) (id⊢ 𝓤 _)) $
     enter ! _ _ _ _ _ $ alloc_all ! (λ l. pass_all ! refl ((tt, (tt, (tt, tt))), tt) $
     sets ! (of_opd ! (get_in ! (fld ! refl (stop !)) (sub ! 0 refl (whole !)))) refl (tt, tt) $

@@ -1,4 +1,4 @@
-use Rattle.pz_level_text.proofs.Common.{ap, ◌∙◌, set_of, joined, GameParts, WriterView, standing_names, known_still, labels_still}
+use Rattle.pz_level_text.proofs.Common.{ap, ◌∙◌, set_of, text_of_names, GameParts, WriterView, standing_names, known_still, labels_still}
 use Rattle.pz_level_text.proofs.Labelling.{set_standing}
 use Rattle.pz_level_text.proofs.cell_labels.CellLabels.label_at.Goals as goal
 
@@ -20,4 +20,4 @@ pub returns-clause-text : goal.returns-clause-text
 returns-clause-text c =
     c.in_ok-label.ensures.label.1
     ∙ set_standing c.label.new.self.game.objects c.args.level.now.grid c.args.x c.args.y c.objects_at-objects.result c.objects_at-objects.ensures
-    ∙ ap (λ (g : GameParts). joined (set_of (standing_names g.objects c.args.level.now.grid (c.args.x, c.args.y)))) (c.label.ensures.game ∙ ap (λ (s : WriterView). s.table.game) c.self.view_is)
+    ∙ ap (λ (g : GameParts). text_of_names (set_of (standing_names g.objects c.args.level.now.grid (c.args.x, c.args.y)))) (c.label.ensures.game ∙ ap (λ (s : WriterView). s.table.game) c.self.view_is)

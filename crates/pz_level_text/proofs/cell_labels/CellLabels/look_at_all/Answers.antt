@@ -1,4 +1,4 @@
-use Rattle.pz_level_text.proofs.Common.{common_steps, ◌≡◌, ◌<◌, ◌*◌, ◌++◌, ◌∷◌, [], length, get_or, arith, ap, ap₂, sym, ◌∙◌, take_more, take_all, GameParts, Order, set_of, text_at, WriterView, TableView, texts_in, standing_names, joined, column_of, row_of}
+use Rattle.pz_level_text.proofs.Common.{common_steps, ◌≡◌, ◌<◌, ◌*◌, ◌++◌, ◌∷◌, [], length, get_or, arith, ap, ap₂, sym, ◌∙◌, take_more, take_all, GameParts, Order, set_of, text_at, WriterView, TableView, texts_in, standing_names, text_of_names, column_of, row_of}
 use Rattle.pz_level_text.proofs.Ordered.{text_at_number, length-texts_in}
 use Rattle.pz_level_text.proofs.cell_labels.CellLabels.look_at_all.Goals as goal
 
@@ -18,7 +18,7 @@ loop-number-preserved c =
     let row : y ≡ row_of order grid n = c.position-x.ensures.row ∙ ap (λ (o : Order). row_of o grid n) kept in
     let before = c.label_at.ensures.cells ∙ c.loop-number.invariant.cells in
     let text : text_at c.label_at.new.self.table.texts c.in_ok-label.label ≡ get_or texts n [] =
-    c.in_ok-label.ensures.text ∙ (ap (λ (g : GameParts). joined (set_of (standing_names g.objects grid (x, y)))) c.loop-number.invariant.game ∙ sym (text_at_number game order grid n x y within column row)) in
+    c.in_ok-label.ensures.text ∙ (ap (λ (g : GameParts). text_of_names (set_of (standing_names g.objects grid (x, y)))) c.loop-number.invariant.game ∙ sym (text_at_number game order grid n x y within column row)) in
     let here : n < length texts = omega (arith, within, length-texts_in game order grid) in
     record {
       cells = c.in_ok-push.ensures.cells ∙ ((λ i. before i ++ text i ∷ []) ∙ sym (take_more texts n [] here));

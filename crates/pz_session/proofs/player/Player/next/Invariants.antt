@@ -1,4 +1,4 @@
-use Rattle.pz_session.proofs.Common.{◌≡◌, left, work}
+use Rattle.pz_session.proofs.Common.{◌≡◌, items_left, work}
 use Rattle.pz_session.proofs.player.Player.next.Given as goal
 
 abbrev pub decreases-links : goal.decreases-links
@@ -7,4 +7,4 @@ decreases-links l = work l.self
 -- what is left stays as it is
 abbrev pub invariant-links : goal.invariant-links
 invariant-links l =
-    (left l.self ≡ left l.fn.self) × (l.self.number ≡ l.fn.self.number)
+    (items_left l.self ≡ items_left l.fn.self) × (l.self.number ≡ l.fn.self.number)

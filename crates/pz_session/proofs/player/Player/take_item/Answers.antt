@@ -1,4 +1,4 @@
-use Rattle.pz_session.proofs.Common.{arith, drop, option_to_list, ◌≡◌, [], ◌∷◌, None, refl, ap, sym, ◌∙◌, left}
+use Rattle.pz_session.proofs.Common.{arith, drop, option_to_list, ◌≡◌, [], ◌∷◌, None, refl, ap, sym, ◌∙◌, items_left}
 use Rattle.pz_case.specs.declared.item.Item.TheVariants as item
 use Rattle.pz_session.proofs.Leaving.{left-first, left-of_stopped, left-of_over, left-of_closed}
 use Rattle.pz_session.proofs.player.Player.take_item.Goals as goal
@@ -26,7 +26,7 @@ returns-clause-item c =
     let p = c.args.self.now in
     let e : p.first ≡ None = sym c.take.ensures.value ∙ c.in_default.is in
     let f : p.second ≡ None = sym c.take-2.ensures.value ∙ c.in_default-take.is in
-    let before : left p ≡ item.Close c.match-self.close ∷ [] =
+    let before : items_left p ≡ item.Close c.match-self.close ∷ [] =
     elim c.match-self.branch [
       | in-Stopped w ↦ rw w.close-is (left-of_stopped p _ w.in-Stopped.is e f)
       | in-Between w ↦ rw (w.close-is, w.verdict-close.ensures) (left-of_over p w.in-Between.is e f c.requires.ready)

@@ -5,7 +5,7 @@ use Rattle.std.specs.Prelude.{is_some, slice_get}
 use Rattle.pz_grid.proofs.MovementLemmas.{same_size_on}
 use Rattle.pz_program.specs.declared.instance.Instance.{Instance}
 use Rattle.pz_trace.specs.Firings.{Sequence}
-use Rattle.pz_trace.specs.FiringPlay.{IsAllowed, Yields, behind_instance_at, ends_left, left, left_in, setting_of}
+use Rattle.pz_trace.specs.FiringPlay.{IsAllowed, Yields, behind_instance_at, ends_left, sequence_from, left_in, setting_of}
 use Rattle.pz_trace.proofs.Going.{ends_stay, instance_fires, instance_of_game, instance_rests, instance_stops, played_on}
 use Rattle.pz_trace.proofs.block_play.BlockPlay.next_in_pass.Goals as goal
 
@@ -56,9 +56,9 @@ returns-then-is_some-clause-firing c =
     let level = c.apply.new.self.level.grid in
     let at : c.behind_instance-self.result ≡ behind_instance_at spot (is_some firing) = c.behind_instance-self.ensures ∙ (λ i. behind_instance_at (c.apply.ensures.spot i) (c.is_some.ensures i)) in
     let allowed : IsAllowed (behind_instance_at spot (is_some firing)) = record { pass = inv.played.allowed.pass; round = inv.played.allowed.round } in
-    let after : left (setting_of c.apply.new.self) c.behind_instance-self.result level ≡ left (setting_of play) (behind_instance_at spot (is_some firing)) level = (λ i. left (c.apply.ensures.setting i) (at i) level) in
+    let after : sequence_from (setting_of c.apply.new.self) c.behind_instance-self.result level ≡ sequence_from (setting_of play) (behind_instance_at spot (is_some firing)) level = (λ i. sequence_from (c.apply.ensures.setting i) (at i) level) in
     let fires = instance_fires (setting_of play) spot group is instance here play.level.grid level firing c.in_ok-firing.ensures.firing in
-    λ some. subst (λ (before : Sequence). Yields before firing level (left (setting_of c.apply.new.self) c.behind_instance-self.result level)) inv.left
+    λ some. subst (λ (before : Sequence). Yields before firing level (sequence_from (setting_of c.apply.new.self) c.behind_instance-self.result level)) inv.left
     (subst (λ (behind : Sequence). Yields (left_in play) firing level behind) (sym after) (fires some))
 
 pub returns-then-is_some-clause-played : goal.returns-then-is_some-clause-played
@@ -88,7 +88,7 @@ instances-preserved c =
     let allowed : IsAllowed (behind_instance_at spot (is_some firing)) = record { pass = inv.played.allowed.pass; round = inv.played.allowed.round } in
     let none : is_some firing ≡ false = sym c.is_some-in-instances.ensures ∙ c.if-is_some.false in
     record {
-      left = (λ i. left (c.apply.ensures.setting i) (at i) level) ∙ instance_rests (setting_of play) spot group is instance here play.level.grid level firing c.in_ok-firing.ensures.firing none ∙ inv.left;
+      left = (λ i. sequence_from (c.apply.ensures.setting i) (at i) level) ∙ instance_rests (setting_of play) spot group is instance here play.level.grid level firing c.in_ok-firing.ensures.firing none ∙ inv.left;
       setting = c.apply.ensures.setting ∙ inv.setting;
       group = ap (λ s. s.moment.group) at ∙ inv.group;
       ends = (λ i. ends_left (c.apply.ensures.setting i) (at i)) ∙ ap (λ (b : Bool). ends_left (setting_of play) (behind_instance_at spot b)) none ∙ ends_stay (setting_of play) spot ∙ inv.ends;
