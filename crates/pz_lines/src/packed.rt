@@ -245,7 +245,7 @@ fn put_chunk(line: &mut [u8], place: u32, own: &[u8])
 
 /// Changes a chunk of a line at each place, by the bytes that are kept, and answers those that are left.
 fn change<'a>(line: &mut [u8], places: &[u32], own: &'a [u8]) -> &'a [u8]
-    ensures with_chunks { line.new ≡ with_chunks CHUNK line.old places.now own.now }
+    ensures changed { line.new ≡ with_chunks CHUNK line.old places.now own.now }
     ensures tail { result.now ≡ tail_of CHUNK places.now own.now }
 {
     let mut rest = own;

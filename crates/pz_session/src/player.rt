@@ -92,7 +92,7 @@ impl<'a> Player<'a> {
 
     /// A session whose first link has been played: it shows the start.
     pub fn start(board: Board<'a>, inputs: Tape<'a>) -> Result<Player<'a>, AllocError>
-        ensures items_left { IfOk result
+        ensures left { IfOk result
             (λ player. items_left player ≡ left_with MOST_TICKS 0 0 inputs.entry (Ok (start_link board.entry))) }
         ensures number { IfOk result (λ player. player.number ≡ 0) }
     {
@@ -158,7 +158,7 @@ impl<'a> Player<'a> {
     ) -> Result<(), AllocError>
         requires first { self.old.first ≡ None }
         requires second { self.old.second ≡ None }
-        ensures items_left { OnOk result ((link : Result (Link State) Stop) → GivesLink link self.old.board outcome →
+        ensures left { OnOk result ((link : Result (Link State) Stop) → GivesLink link self.old.board outcome →
             items_left self.new
             ≡ left_with allowed self.old.number self.old.taken (drop self.old.taken self.old.inputs) link) }
         ensures stop { IfErr result (λ _. (stop : Stop) → outcome ≢ Err (PlayFault.Stopped stop)) }
@@ -193,7 +193,7 @@ impl<'a> Player<'a> {
     /// Plays one link. Rule `play.again-limit`.
     fn advance(&mut self) -> Result<(), AllocError>
         requires { is_waiting self.old ≡ true }
-        ensures items_left { OnOk result (items_left self.new
+        ensures left { OnOk result (items_left self.new
             ≡ items_left self.old) }
         ensures work { OnOk result (work self.new < work self.old) }
         ensures number { self.new.number ≡ self.old.number }

@@ -202,7 +202,7 @@ impl<'a> BlockPlay<'a> {
         requires group { slice_get self.now.groups.now self.now.spot.moment.group ≡ Some group.now }
         requires end { length group.now ≤ self.now.spot.moment.instance }
         requires allowed { IsAllowed self.now.spot }
-        ensures sequence_from { IfOk result (λ spot. sequence_from (setting_of self.now) spot self.now.level.grid ≡ left_in self.now) }
+        ensures left { IfOk result (λ spot. sequence_from (setting_of self.now) spot self.now.level.grid ≡ left_in self.now) }
         ensures fewer { IfOk result
             (λ spot. ends_left (setting_of self.now) spot < ends_left (setting_of self.now) self.now.spot) }
         ensures allowed { IfOk result IsAllowed }

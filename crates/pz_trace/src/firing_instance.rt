@@ -105,7 +105,7 @@ pub(crate) fn fire(
     instance: &Instance,
 ) -> Result<Vec<Places>, StepFault>
     requires of_game { IsInstanceOf level.old.grid.layers instance.now }
-    ensures firing_of { Gives (firing_of instance.now level.old.grid)
+    ensures fired { Gives (firing_of instance.now level.old.grid)
         (λ places. record { level = level.new.grid; places = places.items }) result }
     ensures size { SameSize level.old.grid level.new.grid }
 {
