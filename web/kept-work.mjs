@@ -3,7 +3,7 @@ import { keyOfValue, lackingOf, withNote } from "./notes.mjs";
 import { packed, takePack, unpacked } from "./packing.mjs";
 import { lastLost, lostNow, remembering, withTexts } from "./past.mjs";
 import { SessionFile } from "./session-file.mjs";
-import { whyNoField } from "./texts.mjs";
+import { hasManyLists, whyNoField } from "./texts.mjs";
 import { beginning, besideField } from "./work.mjs";
 
 const VERSION = 2;
@@ -51,7 +51,7 @@ function queueFrom(queue) {
 function fileFrom(value) {
   if (!value) return null;
   const bytes = unpacked(value);
-  wanted(isText(value.name) && bytes instanceof Uint8Array);
+  wanted(isText(value.name) && bytes instanceof Uint8Array && !hasManyLists(new TextDecoder().decode(bytes)));
   return takePack(new SessionFile(value.name, bytes), value);
 }
 

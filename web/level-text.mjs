@@ -1,5 +1,5 @@
 // Level texts, read as docs/sessions.md has them: cells as labels of sets of names. The twin of python/saxtegun/levels.py.
-import { fold } from "./texts.mjs";
+import { fold, salted } from "./texts.mjs";
 
 const MOST_DIGITS = 9; // more cells than any level has
 export const MOST_OF_A_LEVEL = 2 ** 21; // letters of a level's text that the page reads, for which it takes half a second; levels for people have some thousand
@@ -14,15 +14,16 @@ export class Labels {
 
   // The number of the set of names that a text spells.
   of(text) {
-    if (!this.byText.has(text)) {
-      const names = [...new Set(text.split(" ").filter(Boolean).map(fold))].sort(), key = names.join(" ");
+    const spelled = salted(text);
+    if (!this.byText.has(spelled)) {
+      const all = text.split(" ").filter(Boolean).map(fold).sort(), names = all.filter((name, place) => name !== all[place - 1]), key = salted(names.join(" "));
       if (!this.byNames.has(key)) {
         this.byNames.set(key, this.names.length);
         this.names.push(names);
       }
-      this.byText.set(text, this.byNames.get(key));
+      this.byText.set(spelled, this.byNames.get(key));
     }
-    return this.byText.get(text);
+    return this.byText.get(spelled);
   }
 }
 

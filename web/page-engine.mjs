@@ -5,6 +5,7 @@ import { at } from "./elements.mjs";
 import { framesTold, handedOver, isLevelLonger, takenOver } from "./frames-of-lines.mjs";
 import { KeptOpen, ONE_MORE } from "./kept-open.mjs";
 import { MOST_OF_A_LEVEL } from "./level-text.mjs";
+import { readerIn, rehearse } from "./rehearsing.mjs";
 import { MOST_INPUTS } from "./session-file.mjs";
 import { playedText } from "./ticks.mjs";
 
@@ -165,6 +166,11 @@ export function servePlayer() {
       open.catch(() => {});
       return;
     }
+    if (data.file) {
+      await engine;
+      await rehearse(data.file, () => globalThis.postMessage({ isRead: false })).then(() => globalThis.postMessage({ isRead: true }));
+      return;
+    }
     hand(await answerTo(data).then(readableAnswer).catch(() => BROKEN));
     if (data.wanted) timer = setTimeout(follow, data.wanted.from > 0 ? 0 : IDLE, data.wanted);
   });
@@ -203,5 +209,5 @@ export async function startEngine() {
     return answer ?? engine.replayInWorkers(bytes, options);
   };
   const asked = (kind) => (question, signal) => player.ask({ [kind]: question }, signal);
-  return { play: asked("wanted"), stages: asked("staged"), acted: asked("covered"), solution: searchesIn(begin, module), playAll };
+  return { play: asked("wanted"), stages: asked("staged"), acted: asked("covered"), solution: searchesIn(begin, module), read: readerIn(() => begin(PLAYER), module), playAll };
 }

@@ -15,6 +15,7 @@ import { Runner } from "./running.mjs";
 import { Refusal, SessionFile } from "./session-file.mjs";
 import { isFailure } from "./session-list.mjs";
 import { RECORDINGS, comparing, savedLater, withComparison, withOtherFile, withRecordings } from "./filing.mjs";
+import { mayRead, slowTold } from "./rehearsing.mjs";
 import { framesOf, isAtEnd, shownOf } from "./replaying.mjs";
 import { keepingTold, visitTold } from "./page-words.mjs";
 import { say } from "./saying.mjs";
@@ -26,7 +27,7 @@ const FRAME_PAUSE = 160; // milliseconds between two frames when playing
 
 class Playground {
   constructor(state, engine, store) {
-    this.store = store;
+    Object.assign(this, { engine, store });
     this.timer = 0;
     this.kept = null;
     const acts = {
@@ -144,7 +145,7 @@ class Playground {
   // Takes a file by what is in it. Whatever goes wrong, it is said that it was not opened.
   async take(name, bytes) {
     try {
-      const it = await this.runner.reading(`Reading ${name}`, (...words) => inPieces(handing(name, bytes), ...words));
+      const it = await this.runner.reading(`Reading ${name}`, (...words) => this.read(name, bytes, ...words));
       if (it === null) throw new Refusal(`${name} was stopped while it was read`);
       if (it.kind === "recordings") await this.add(it.found.map((one) => ({ ...one, source: one.source.replaceAll("\r\n", "\n") })), it.skipped);
       else if (it.kind === "sessions") this.act(withOtherFile, new SessionFile(name, it.bytes), name === PASTED);
@@ -154,6 +155,13 @@ class Playground {
       if (!(error instanceof Refusal)) console.error(error);
       this.refuse(error.message);
     }
+  }
+
+  // Reads a file, once a worker has read it in time; null where it was stopped.
+  async read(name, bytes, signal, progress) {
+    const isReadable = await mayRead(name, bytes, this.state, this.engine.read, signal);
+    if (isReadable === false) throw new Refusal(slowTold(name));
+    return isReadable && inPieces(handing(name, bytes), signal, progress);
   }
 
   // Compares another engine's lines with how the sessions went, once these are played.

@@ -9,6 +9,7 @@ import { MOST_READ, framesIn, readingRuns, runsOf } from "../../web/lines.mjs";
 import { clockTold, readingTold, tabTold, verdictOf } from "../../web/page-words.mjs";
 import { readableAnswer } from "../../web/page-engine.mjs";
 import { atOnce, inPieces } from "../../web/pieces.mjs";
+import { mayRead, readerIn, rehearse, slowTold } from "../../web/rehearsing.mjs";
 import { MOST_SESSIONS, Refusal, SessionFile, refusalTold } from "../../web/session-file.mjs";
 import { differenceOf, rowsOf, sessionOpened } from "../../web/suite.mjs";
 import { whyNoField } from "../../web/texts.mjs";
@@ -271,4 +272,67 @@ it("sessions that were changed since they were compared count as compared no lon
   await bench.act(withOtherFile, fileOf(entries));
   const compared = comparedWithLines(bench.state, "theirs", new TextDecoder().decode(bench.state.suite.lines)), changed = { ...compared, isHeld: true, file: fileOf(entries.slice(1)) };
   assert.deepEqual([compared, changed].map((state) => verdictOf(state, null)), [{ text: "Compared with theirs: 2 the same, 0 diverge.", close: "passed" }, { text: "Not played yet.", close: null }]);
+});
+
+// ---- a long file is read by a worker before
+
+const bytesOf = (value) => new TextEncoder().encode(typeof value === "string" ? value : JSON.stringify(value));
+
+it("a file is read in a rehearsal to its end, whatever it is", async () => {
+  const sessions = [["one", [GAME, [0, 1], ""]], ["two", ["", [2], ""]]], recorded = JSON.stringify(["Test", [GAME, [0, 1], "background:0,", 0]]);
+  const former = { name: "former.json", bytes: bytesOf([["one", ["", [3], ""]]]) };
+  for (const bytes of [bytesOf(sessions), bytesOf(`printed: ${recorded}`), bytesOf(GAME), bytesOf('{"session": 0}\n'), bytesOf(Array(65_537).fill(["", ["", [], ""]])), new Uint8Array([255, 216, 255])]) {
+    for (const before of [null, former]) await rehearse({ name: "file", bytes, text: GAME, former: before }, () => {});
+  }
+  // once it is read a word is given, and what is no refusal is thrown
+  let words = 0;
+  await rehearse({ name: "file", bytes: bytesOf(sessions), text: GAME, former }, () => { words += 1; });
+  assert.equal(words, 1);
+  await assert.rejects(rehearse({ name: "file", bytes: null, text: GAME, former: null }, () => {}), TypeError);
+});
+
+class Reading {
+  constructor() {
+    Object.assign(this, { asked: [], isEnded: false });
+  }
+
+  postMessage(message) {
+    this.asked.push(message);
+  }
+
+  terminate() {
+    this.isEnded = true;
+  }
+
+  tell(isRead) {
+    this.onmessage({ data: { isRead } });
+  }
+}
+
+test("a worker that reads a file to its end says so, one that gives no word for long is ended, and so is one that is stopped", async (t) => {
+  t.mock.timers.enable({ apis: ["setTimeout"] });
+  const workers = [], begin = () => workers[workers.push(new Reading()) - 1], read = readerIn(begin, "the module", 50), stopping = new AbortController();
+  const whole = read("a file", signal), silent = read("another", signal), broken = read("a third", signal), stopped = read("a fourth", stopping.signal);
+  assert.deepEqual(workers[0].asked, [{ module: "the module" }, { file: "a file" }]);
+  for (let word = 0; word < 4; word += 1) {
+    t.mock.timers.tick(20);
+    workers[0].tell(false);
+  }
+  assert.deepEqual([await silent, workers[0].isEnded, workers[1].isEnded], [false, false, true]);
+  workers[0].tell(true);
+  workers[2].onerror({ preventDefault: () => {} });
+  stopping.abort();
+  assert.deepEqual([await whole, await broken, await stopped, workers.map(({ isEnded }) => isEnded)], [true, false, false, [true, true, true, true]]);
+});
+
+test("only a long file is read so, and one that is stopped is told apart from one that may not be read", async () => {
+  const asked = [], answering = (answer) => async (file) => { asked.push(file); return answer; }, stopping = new AbortController();
+  const state = { text: "a text", file: null }, withFile = { text: "a text", file: new SessionFile("f.json", bytesOf([])) }, long = new Uint8Array(65_536);
+  assert.equal(await mayRead("short", new Uint8Array(65_535), state, answering(false), signal), true);
+  assert.deepEqual(asked, []);
+  assert.deepEqual([await mayRead("long", long, state, answering(true), signal), await mayRead("long", long, withFile, answering(false), signal)], [true, false]);
+  assert.deepEqual(asked, [{ name: "long", bytes: long, text: "a text", former: null }, { name: "long", bytes: long, text: "a text", former: { name: "f.json", bytes: bytesOf([]) } }]);
+  stopping.abort();
+  assert.equal(await mayRead("long", long, state, answering(false), stopping.signal), null);
+  assert.equal(slowTold("x.json"), "x.json keeps its reader busy for over 4 seconds, in which the page would stand still: play it by the command");
 });
