@@ -1,5 +1,5 @@
 //! The levels of a session between two links, and the links that lead on from them.
-#![tactic(auto, unfolding(crate::specs::Board::frame_of, crate::specs::Board::start_link, crate::specs::Board::restarted, crate::specs::Board::won_link, crate::specs::Board::kept_link, crate::specs::Board::reached_link, crate::specs::Board::effect, crate::specs::Board::press_link, crate::specs::Board::tick_link, crate::specs::Board::undo_link, crate::specs::Board::begun, crate::specs::Board::settled))]
+#![tactic(auto, unfolding(crate::specs::Board::frame_of, crate::specs::Board::start_link, crate::specs::Board::restart_link, crate::specs::Board::won_link, crate::specs::Board::kept_link, crate::specs::Board::reached_link, crate::specs::Board::effect, crate::specs::Board::press_link, crate::specs::Board::tick_link, crate::specs::Board::undo_link, crate::specs::Board::first_link, crate::specs::Board::with_past))]
 
 ghost use Rattle.std.specs.Prelude.{◌≡◌, ◌≢◌, ◌<◌, ◌+◌, true, not, if◌then◌else◌, length, IfOk, IfErr, IfSome, OnOk, Ok, Err};
 ghost use Rattle.pz_program.specs.Commands.{has, cancel, checkpoint};
