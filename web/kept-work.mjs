@@ -2,7 +2,7 @@
 import { keyOfValue, lackingOf, withNote } from "./notes.mjs";
 import { packed, takePack, unpacked } from "./packing.mjs";
 import { lastLost, lostNow, remembering, withTexts } from "./past.mjs";
-import { SessionFile } from "./session-file.mjs";
+import { MOST_INPUTS, SessionFile } from "./session-file.mjs";
 import { hasManyLists, whyNoField } from "./texts.mjs";
 import { beginning, besideField } from "./work.mjs";
 
@@ -45,7 +45,7 @@ function workFrom({ own, index, inputs, name, opened }, file) {
 function queueFrom(queue) {
   const isKey = ({ input, behind, looked }) => isKeptInput(input) && [behind, looked].every((number) => number === null || isWhole(number));
   wanted(isListOf(queue, isKey));
-  return queue.map(({ input, behind, looked }) => ({ input, behind, looked }));
+  return queue.slice(0, MOST_INPUTS).map(({ input, behind, looked }) => ({ input, behind, looked }));
 }
 
 function fileFrom(value) {

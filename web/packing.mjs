@@ -7,9 +7,11 @@ const reading = new TextDecoder("utf-8", { ignoreBOM: true });
 function packOf(file) {
   const { name, bytes } = file, texts = [], numbers = new Map(), pieces = [];
   if (bytes.length < LEAST) return { name, bytes };
+  const spans = [...file.sourceSpans()], own = spans.reduce((sum, [begin, end]) => sum + end - begin, 0);
+  if (2 * own <= bytes.length) return { name, bytes };
   const between = (begin, end) => reading.decode(bytes.subarray(begin, end));
   let at = 0, size = 0;
-  for (const [begin, end] of file.sourceSpans()) {
+  for (const [begin, end] of spans) {
     const text = between(begin, end);
     if (!numbers.has(text)) {
       size += text.length;
