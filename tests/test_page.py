@@ -24,6 +24,7 @@ from saxtegun.pages import look_of
 from saxtegun.recording_search import find
 from saxtegun.recordings import COMPILER, CUT_OFF, HOW, OBJECTS, as_sessions, own_name
 from saxtegun.sessions import Entry
+from saxtegun.webpages import without_types
 
 NODE, OWN, MODULE = shutil.which("node"), TOP / "tests" / "web", b"\0asm\1\0\0\0"
 # The name of a language of XML, which nothing is fetched from.
@@ -122,6 +123,36 @@ class Page(InARoom):
         answer = run(self.room / "dev/page", "--module", self.room / "module.wasm", "--output", self.room / "page.html")
         self.assertEqual((answer.status, answer.errors), (1, "dev/page: modules share one scope, and two declare a name: paceOf in animating.mjs and saying.mjs, load in saxtegun.mjs and saying.mjs\n"))
         self.assertFalse((self.room / "page.html").exists())
+
+    def test_what_tells_types_is_left_out_and_no_other_comment(self):
+        script = Elements(self.built()[0]).texts["script"]
+        self.assertNotRegex(script, r"@(?:ts-check|type|typedef|param|template|returns)\b")
+        self.assertIn("// Elements of a page. What came from games goes into them as text alone.\n", script)
+        self.assertIn("/** As many workers as leave the page a processor. */\n", script)
+
+    def test_only_comments_that_tell_types_are_left_out(self):
+        text = '''// @ts-check
+// Words.
+/** @typedef {{ one: string }} One */
+
+/** Other words. */
+/** @type {(one: One) => string} */
+export const f = (one) => /** @type {Other} */ (one).name; // more words
+class It {
+  /** @type {number} */
+  #count = 0;
+}
+const words = "// @ts-check";
+'''
+        self.assertEqual(without_types(text), '''// Words.
+
+/** Other words. */
+export const f = (one) => (one).name; // more words
+class It {
+  #count = 0;
+}
+const words = "// @ts-check";
+''')
 
     @unittest.skipUnless(NODE, "Node is not there")
     def test_node_reads_its_script(self):

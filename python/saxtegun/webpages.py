@@ -12,12 +12,19 @@ from typing import Dict, List
 
 WEB = Path(__file__).resolve().parents[2] / "web"
 IMPORT = re.compile(r'^import \{[^}]*\} from "\./([a-z-]+\.mjs)";\n', re.M)
+# What tells a checker types, on lines of its own or before brackets: nothing of it goes into a page.
+TYPES = re.compile(r"^// @ts-check\n|^ */\*\* @[a-z]+ [^*\n]*\*/\n|/\*\* @type [^*\n]*\*/ (?=\()", re.M)
 EXPORT = re.compile(r"^export (?=(?:async )?(?:const|let|function|class)\b)", re.M)
 
 
 def part(name: str) -> str:
     """A file of web/."""
     return (WEB / name).read_text(encoding="utf-8")
+
+
+def without_types(text: str) -> str:
+    """The text of a module as it goes into a page."""
+    return TYPES.sub("", text)
 
 
 def modules_of(name: str) -> List[str]:
@@ -36,7 +43,7 @@ def modules_of(name: str) -> List[str]:
 
 def script_of(name: str) -> str:
     """A module and all that it imports as one script."""
-    pieces = [EXPORT.sub("", IMPORT.sub("", part(it))).strip("\n") for it in modules_of(name)]
+    pieces = [EXPORT.sub("", IMPORT.sub("", without_types(part(it)))).strip("\n") for it in modules_of(name)]
     return "\n".join(['"use strict";', "(() => {", *pieces, "})();"]) + "\n"
 
 
