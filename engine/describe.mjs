@@ -1,4 +1,5 @@
 #!/usr/bin/env node
+// @ts-check
 // engine/describe.mjs [--levels | --sessions] FILE..: what the engine has read of each source, as one line of JSON; of each level text, or of each file of sessions.
 // The exit status is 0, or 2 with a line of failure; a source that is refused is described too, and what is no level text is null. SAXTEGUN_MODULE may name another
 // module than out/saxtegun.wasm.

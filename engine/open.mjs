@@ -1,4 +1,5 @@
 #!/usr/bin/env node
+// @ts-check
 // engine/open.mjs [--order ORDER] ENTRY GAME: keeps a session of a game open, which begins at an entry of LEVELS. Each line of the standard input is a list of
 // inputs that it is given, or a number of inputs to which it goes back. The opening and each such line are answered by the lines of the frames that come with the
 // last input, as in a recording, and of the close; or by one line {"fault":".."}, where the session stays as it was, but for `memory` and `broken`, which may

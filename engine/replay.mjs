@@ -1,4 +1,5 @@
 #!/usr/bin/env node
+// @ts-check
 // engine/replay.mjs [--workers N] [--order rows|columns] [FILE]: the program's command line, lines and exit statuses, for Node 20 and later. With more than one
 // worker a file is cut and its parts are played side by side; without the option one plays. Of a standard stream that is closed Node doesn't know.
 // SAXTEGUN_MODULE may name another module than out/saxtegun.wasm.

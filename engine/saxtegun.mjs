@@ -1,5 +1,14 @@
+// @ts-check
 // The engine of Saxtegun for Node 20 and later and for browsers: from the text of a sessions file to the lines of its recording. docs/engine.md tells how
 // it is used, and saxtegun.d.ts what each function takes and gives.
+
+/** @typedef {import('./saxtegun').Answer} Answer */
+/** @typedef {string | ArrayBuffer | ArrayBufferView} Content */
+/** @typedef {{ at: number, size: number }} Room */
+/** @typedef {{ memory: WebAssembly.Memory, take_room(size: number): number, give_back_room(at: number): void } & Record<`saxtegun_${string}`, (...words: (number | bigint)[]) => bigint>} Exports */
+/** @typedef {(exports: Exports, input: Room, room: Room, outcome: number) => bigint} Call */
+/** @typedef {(exports: Exports, held: number, input: Room, room: Room, outcome: number) => bigint | number} OpenCall */
+/** @typedef {{ file: Uint8Array, first: number, sessions: number }} Part */
 
 /** The kinds of faults by their numbers, and the orders of the cells of a level. */
 const FAULTS = ['', 'memory', 'not-json', 'bad-entry', 'bad-level', 'too-many', 'not-open', 'too-many-inputs', 'too-few-inputs'];
@@ -19,6 +28,7 @@ const OUTCOME_BYTES = 24;
 /** The bytes of the place that holds an instance's open sessions, all zero at first. */
 const HELD_BYTES = 24;
 /** The inputs that are no presses, and the bytes by which an open session is given them. */
+/** @type {Map<unknown, number>} */
 const WORDS = new Map([['undo', 5], ['restart', 6], ['tick', 7]]);
 const MOST_WORKERS = 64;
 const PARTS_OF_A_WORKER = 8;
@@ -31,6 +41,7 @@ const MOST_LEVELS = 1_000_000, MOST_KEPT_BYTES = 2 ** 27; // that a search keeps
 
 const isNode = typeof process === 'object' && typeof process.versions?.node === 'string';
 
+/** @type {(fault: string) => Answer} */
 function refused(fault) {
   return { status: 2, passed: false, lines: new Uint8Array(0), fault };
 }
@@ -47,12 +58,13 @@ function faultOf(error) {
 }
 
 /** The bytes of a text, no more than tell that they are too many; null where it is no text, since it has half of a surrogate pair. */
+/** @type {(text: Content) => Uint8Array | null} */
 function bytesOf(text) {
   if (typeof text === 'string') {
     return /\p{Surrogate}/u.test(text) ? null : new TextEncoder().encode(text).subarray(0, MOST_BYTES + 1);
   }
   // also one of another frame
-  if (Object.prototype.toString.call(text) === '[object ArrayBuffer]') return new Uint8Array(text).subarray(0, MOST_BYTES + 1);
+  if (Object.prototype.toString.call(text) === '[object ArrayBuffer]') return new Uint8Array(/** @type {ArrayBuffer} */ (text)).subarray(0, MOST_BYTES + 1);
   if (ArrayBuffer.isView(text)) return new Uint8Array(text.buffer, text.byteOffset, Math.min(text.byteLength, MOST_BYTES + 1));
   throw new TypeError('a sessions file, and a source, is a string or bytes');
 }
@@ -89,17 +101,19 @@ function bytesOfInputs(inputs) {
   });
 }
 
+/** @type {(session: import('./saxtegun').Session) => string} */
 const fileOfOne = ({ source, inputs, level = '', index = 0 }) => JSON.stringify([['', [source, inputs, level, index]]]);
 
 /** An instance of the module, with the room into which it writes lines. */
 class Instance {
+  /** @type {Exports} */
   #exports;
   #room = { at: 0, size: 0 };
   #held = null;
 
   /** With room for so many bytes of lines, where fewer than usual are wanted at most. */
   constructor(module, most = ROOM) {
-    this.#exports = new WebAssembly.Instance(module).exports;
+    this.#exports = /** @type {Exports} */ (new WebAssembly.Instance(module).exports);
     for (let size = Math.max(LEAST_ROOM, Math.min(ROOM, most)); size >= LEAST_ROOM && !this.#room.at; size = size / 2 - 8) this.#room = this.#take(size);
   }
 
@@ -108,11 +122,13 @@ class Instance {
   }
 
   /** Room of this many bytes; at 0, where there is none. */
+  /** @type {(size: number) => Room} */
   #take(size) {
     return { at: this.#exports.take_room(size) >>> 0, size };
   }
 
   /** Asks a function of the module about a file or a source, once again where the room was too small for the lines, unless these are more than so many bytes. */
+  /** @type {(file: Uint8Array, call: Call, most: number) => Answer & { size?: number }} */
   ask(file, call, most) {
     const input = this.#take(file.length);
     const outcome = this.#take(OUTCOME_BYTES);
@@ -137,6 +153,7 @@ class Instance {
    * Calls a function that opens or moves a session: { number, lines, fault }. Lines for which the room was too small are asked for once more, by giving
    * the session no inputs.
    */
+  /** @type {(bytes: Uint8Array, call: OpenCall) => { number: number, lines: Uint8Array, fault: string | null }} */
   askOpen(bytes, call) {
     this.#held ??= this.#takeZeros(HELD_BYTES);
     const input = this.#take(bytes.length), outcome = this.#take(OUTCOME_BYTES);
@@ -174,6 +191,7 @@ class Instance {
   }
 
   /** What a call has left in the memory. */
+  /** @type {(outcome: number, count: number) => Answer} */
   #answer(outcome, count) {
     const { status, kind, entry } = this.#said(outcome);
     if (status === 2) {
@@ -182,7 +200,7 @@ class Instance {
     }
     if (status > 2 || count > this.#room.size) throw new Error('the module breaks its word');
     const lines = new Uint8Array(this.#exports.memory.buffer, this.#room.at, count).slice();
-    return { status, passed: status === 0, lines, fault: null };
+    return { status: status === 0 ? 0 : 1, passed: status === 0, lines, fault: null };
   }
 }
 
@@ -204,6 +222,7 @@ class Shelf {
   }
 
   /** What a call answers: { number, frames, close, fault }. */
+  /** @type {(bytes: Uint8Array, call: OpenCall) => import('./saxtegun').Moved & { number: number }} */
   ask(bytes, call) {
     if (this.isBroken) return { number: -1, frames: [], close: null, fault: 'broken' };
     try {
@@ -216,6 +235,7 @@ class Shelf {
   }
 
   /** Leaves the instance, whose sessions may have gone on without anyone being told. */
+  /** @type {(fault: string) => import('./saxtegun').Moved & { number: number }} */
   #end(fault) {
     this.#instance = null;
     this.#isBroken = true;
@@ -249,6 +269,7 @@ class OpenSession {
     return this.#number !== null && !this.#shelf.isBroken;
   }
 
+  /** @type {import('./saxtegun').OpenSession['give']} */
   give(inputs) {
     const given = [...inputs], bytes = bytesOfInputs(given);
     const answer = this.#ask(bytes, (exports, held, input, room, outcome) =>
@@ -257,6 +278,7 @@ class OpenSession {
     return answer;
   }
 
+  /** @type {import('./saxtegun').OpenSession['back']} */
   back(count) {
     const stay = smallNumberOf(count);
     const answer = this.#ask(NO_BYTES, (exports, held, _, room, outcome) =>
@@ -265,6 +287,7 @@ class OpenSession {
     return answer;
   }
 
+  /** @type {import('./saxtegun').OpenSession['copy']} */
   copy() {
     const { number, fault } = this.#asked(NO_BYTES, (exports, held, _, room, outcome) => {
       exports.saxtegun_copy(held, this.#number, outcome);
@@ -278,10 +301,12 @@ class OpenSession {
     this.#number = null;
   }
 
+  /** @type {(bytes: Uint8Array, call: OpenCall) => import('./saxtegun').Moved & { number: number }} */
   #asked(bytes, call) {
     return this.#number === null ? { number: -1, frames: [], close: null, fault: 'not-open' } : this.#shelf.ask(bytes, call);
   }
 
+  /** @type {(bytes: Uint8Array, call: OpenCall) => import('./saxtegun').Moved} */
   #ask(bytes, call) {
     const { frames, close, fault } = this.#asked(bytes, call);
     return { frames, close, fault };
@@ -300,12 +325,14 @@ class Engine {
     this.#worker = worker;
   }
 
+  /** @param {Content} text @param {import('./saxtegun').PlayOptions} options */
   replay(text, { order = 'columns', most = Infinity } = {}) {
     const number = numberOf(order);
     return this.#ask(text, (exports, input, room, outcome) =>
       exports.saxtegun_lines(input.at, BigInt(input.size), number, room.at, BigInt(room.size), outcome), most);
   }
 
+  /** @param {import('./saxtegun').Session} session @param {import('./saxtegun').Options & { from?: number }} options */
   frames(session, { order = 'columns', from = 0 } = {}) {
     const number = numberOf(order), first = inputOf(from);
     return framesOf(this.#ask(fileOfOne(session), (exports, input, room, outcome) =>
@@ -316,6 +343,7 @@ class Engine {
     return this.#has(OPEN);
   }
 
+  /** @param {import('./saxtegun').Session} session @param {import('./saxtegun').Options} options */
   open(session, { order = 'columns' } = {}) {
     const { source, level, index } = session, inputs = [...session.inputs];
     const number = numberOf(order), file = bytesOf(fileOfOne({ source, inputs: [], level, index }));
@@ -345,6 +373,7 @@ class Engine {
     return this.#has(FIRINGS);
   }
 
+  /** @param {Content} text @param {number} session @param {number} input @param {import('./saxtegun').StageOptions} options */
   stagesOf(text, session, input, { order = 'columns', firings = false } = {}) {
     const number = numberOf(order), [of, at] = [session, input].map(smallNumberOf), asked = firings ? FIRINGS : STAGES;
     if (!this.#has(asked)) return refused('no-stages');
@@ -352,6 +381,7 @@ class Engine {
       exports[asked](file.at, BigInt(file.size), number, of, at, room.at, BigInt(room.size), outcome));
   }
 
+  /** @type {import('./saxtegun').Engine['stages']} */
   stages(session, input, options) {
     return valuesOf('stages', this.stagesOf(fileOfOne(session), 0, input, options));
   }
@@ -360,30 +390,37 @@ class Engine {
     return this.#has(DESCRIPTION);
   }
 
+  /** @type {import('./saxtegun').Engine['descriptionOf']} */
   descriptionOf(source) {
     return this.#describe(DESCRIPTION, source);
   }
 
+  /** @type {import('./saxtegun').Engine['description']} */
   description(source) {
     return valueOf('description', this.descriptionOf(source));
   }
 
+  /** @type {import('./saxtegun').Engine['levelDescriptionOf']} */
   levelDescriptionOf(level) {
     return this.#describe(LEVEL_DESCRIPTION, level);
   }
 
+  /** @type {import('./saxtegun').Engine['levelDescription']} */
   levelDescription(level) {
     return valueOf('description', this.levelDescriptionOf(level));
   }
 
+  /** @type {import('./saxtegun').Engine['fileDescriptionOf']} */
   fileDescriptionOf(text) {
     return this.#describe(FILE_DESCRIPTION, text);
   }
 
+  /** @type {import('./saxtegun').Engine['fileDescription']} */
   fileDescription(text) {
     return valueOf('description', this.fileDescriptionOf(text));
   }
 
+  /** @type {(asked: `saxtegun_${string}`, text: Content) => Answer} */
   #describe(asked, text) {
     if (!this.#has(asked)) return refused('no-descriptions');
     if (bytesOf(text)?.length > MOST_BYTES) return refused('too-many');
@@ -395,6 +432,7 @@ class Engine {
     return this.#has(SOLUTIONS);
   }
 
+  /** @param {Content} text @param {import('./saxtegun').SearchOptions} options */
   solutionsOf(text, { levels = MOST_LEVELS, bytes = MOST_KEPT_BYTES } = {}) {
     const bounds = [levels, bytes].map(boundOf);
     if (!this.#has(SOLUTIONS)) return refused('no-solutions');
@@ -402,11 +440,13 @@ class Engine {
       exports[SOLUTIONS](file.at, BigInt(file.size), ...bounds, room.at, BigInt(room.size), outcome));
   }
 
+  /** @type {import('./saxtegun').Engine['solution']} */
   solution(session, options) {
     const { answer, fault } = valueOf('answer', this.solutionsOf(fileOfOne(session), options));
     return { solution: answer?.solution ?? null, fault };
   }
 
+  /** @param {Content} text @param {import('./saxtegun').WorkerOptions} options */
   async replayInWorkers(text, { order = 'columns', workers = idleProcessors(), progress = () => {}, signal, most = Infinity } = {}) {
     numberOf(order);
     if (!Number.isInteger(workers) || workers < 1 || workers > MOST_WORKERS) throw new TypeError(`there are 1 to ${MOST_WORKERS} workers`);
@@ -426,6 +466,7 @@ class Engine {
     }
   }
 
+  /** @type {(text: Content, call: Call, most?: number) => Answer} */
   #ask(text, call, most = Infinity) {
     const file = bytesOf(text);
     if (file === null) return refused('not-json');
@@ -442,6 +483,7 @@ class Engine {
   }
 }
 
+/** @type {(fault: string | null) => import('./saxtegun').Moved & { session: null }} */
 const notOpened = fault => ({ session: null, frames: [], close: null, fault });
 
 async function bytesAt(url) {
@@ -459,11 +501,13 @@ async function moduleOf(source) {
 
 const ownWorker = name => new Worker(import.meta.url, { type: 'module', name });
 
+/** @type {typeof import('./saxtegun').load} */
 export async function load(source = new URL('out/saxtegun.wasm', import.meta.url), { worker = ownWorker } = {}) {
   return new Engine(await moduleOf(source), worker);
 }
 
 /** Each line by itself: all of them may be longer than a string can be. */
+/** @type {typeof import('./saxtegun').parse} */
 export function parse(lines) {
   const decoder = new TextDecoder(), values = [];
   for (let begin = 0, end = lines.indexOf(0x0a); end >= 0; begin = end + 1, end = lines.indexOf(0x0a, begin)) {
@@ -473,6 +517,7 @@ export function parse(lines) {
 }
 
 /** The objects of an answer's lines by a name, with its fault. */
+/** @type {(name: string, answer: Pick<Answer, 'lines' | 'fault'>) => any} */
 function valuesOf(name, { lines, fault }) {
   if (fault !== null) return { [name]: [], fault };
   if (lines.length > MOST_OF_FRAMES) return { [name]: [], fault: 'memory' };
@@ -484,6 +529,7 @@ function valuesOf(name, { lines, fault }) {
 }
 
 /** The value of an answer's text by a name, with its fault. */
+/** @type {(name: string, answer: Pick<Answer, 'lines' | 'fault'>) => any} */
 function valueOf(name, { lines, fault }) {
   if (fault !== null) return { [name]: null, fault };
   try {
@@ -494,6 +540,7 @@ function valueOf(name, { lines, fault }) {
 }
 
 /** The frames and the close of the one session that was played. */
+/** @type {(answer: Pick<Answer, 'lines' | 'fault'>) => import('./saxtegun').Moved} */
 function framesOf(answer) {
   const { frames, fault } = valuesOf('frames', answer);
   return { frames, close: frames.pop() ?? null, fault };
@@ -504,7 +551,9 @@ function framesOf(answer) {
 const isBlank = byte => byte === 0x20 || byte === 0x0a || byte === 0x0d || byte === 0x09;
 
 /** Where the elements of the list that a text is begin and end; null where it isn't one, as far as can be seen without reading its elements. */
+/** @type {(bytes: Uint8Array) => [number, number][] | null} */
 export function elementsOf(bytes) {
+  /** @type {[number, number][]} */
   const found = [];
   let at = 0, depth = 0, begin = 0, isEmpty = true, end = -1;
   for (; at < bytes.length; at++) {
@@ -520,7 +569,7 @@ export function elementsOf(bytes) {
     } else if (depth > 0) {
       isEmpty = false;
     }
-    if (byte === 0x22) for (at++; at < bytes.length && bytes[at] !== 0x22; at++) at += bytes[at] === 0x5c;
+    if (byte === 0x22) for (at++; at < bytes.length && bytes[at] !== 0x22; at++) if (bytes[at] === 0x5c) at++;
     if (byte === 0x5b || byte === 0x7b) begin = depth++ === 0 ? at + 1 : begin;
     if (closes && --depth === 0) end = at;
   }
@@ -528,6 +577,7 @@ export function elementsOf(bytes) {
 }
 
 /** The file as files of consecutive sessions, each with the number of its first; null where it is played whole. */
+/** @type {(bytes: Uint8Array, most: number) => Part[] | null} */
 export function partsOf(bytes, most) {
   const elements = bytes.length > MOST_BYTES ? null : elementsOf(bytes);
   if (!elements || elements.length < 2 || elements.length > MOST_SESSIONS || most < 2) return null;
@@ -565,6 +615,7 @@ function* numbersIn(lines) {
 }
 
 /** The lines of a part, its sessions numbered from this number on. Of so many lines nothing is held but their bytes. */
+/** @type {(lines: Uint8Array, first: number) => Uint8Array} */
 export function numbered(lines, first) {
   if (first === 0) return lines;
   let size = lines.length;
@@ -744,7 +795,7 @@ if (isNode) {
     const engine = new Engine(workerData[WORKER]);
     parentPort.on('message', asked => serve(engine, asked, (answer, moved) => parentPort.postMessage(answer, moved)));
   }
-} else if (typeof WorkerGlobalScope !== 'undefined' && globalThis.name === WORKER) {
+} else if (typeof WorkerGlobalScope !== 'undefined' && self.name === WORKER) {
   let engine = null;
   globalThis.addEventListener('message', ({ data }) => {
     if (data.module) engine = new Engine(data.module);

@@ -1,4 +1,5 @@
 #!/usr/bin/env node
+// @ts-check
 // engine/solve.mjs LEVELS BYTES: what wins each session of a sessions file from where it stands behind its inputs, a line each; the file comes on the
 // standard input. LEVELS are the most levels that a search may keep, BYTES the most that these may take. The exit status is 0, or 2 with a line of
 // failure. SAXTEGUN_MODULE may name another module than out/saxtegun.wasm.

@@ -1,4 +1,5 @@
 #!/usr/bin/env node
+// @ts-check
 // engine/stages.mjs SESSION INPUT [columns] [firings]: the stages of an input of a session, a line each, and where that is asked for the firings of
 // instances too; the sessions file comes on the standard input. SESSION is numbered from 0; INPUT 0 is the session's start, and 1 its first input. Cells go
 // by rows, or by columns where that is named. The exit status is 0, or 2 with a line of failure. SAXTEGUN_MODULE may name another module than

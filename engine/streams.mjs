@@ -1,3 +1,4 @@
+// @ts-check
 // The streams of the command lines of this folder, as the program reads and writes them.
 import { openSync, readSync, writeSync } from 'node:fs';
 import { pathToFileURL } from 'node:url';
