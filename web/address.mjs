@@ -1,3 +1,4 @@
+// @ts-check
 // What stands behind the # of an address: #session=4&frame=16&close=differs&name=level. Each part may be missing, and then is null.
 
 function numberIn(text) {

@@ -1,3 +1,4 @@
+// @ts-check
 // What an input led to, frame by frame: the ticks of `again` at the game's pace, and a won level for a moment before the next.
 import { settingsOf } from "./descriptions.mjs";
 import { firstFrom } from "./recording.mjs";
@@ -26,7 +27,11 @@ export function scenesOf(state) {
 export class Animation {
   // show() draws anew. Where `isStill()` says so nothing moves.
   constructor(show, isStill = () => false) {
-    Object.assign(this, { show, isStill, scenes: [], played: null, timer: 0 });
+    this.show = show;
+    this.isStill = isStill;
+    this.scenes = [];
+    this.played = null;
+    this.timer = 0;
   }
 
   // Begins where a key was played, and ends where anything else was done.

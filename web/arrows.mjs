@@ -1,5 +1,7 @@
+// @ts-check
 // Where pieces head, as small arrows on their cells: a bright one with a dark edge, of which one is seen on any ground.
 const TURNS = { up: 0, right: 1, down: 2, left: 3 };
+/** @type {[number, number][]} */
 const TIP = [[0, -0.42], [0.17, -0.2], [-0.17, -0.2]]; // of an arrow upwards, from the middle of a cell and in its sides
 const POINT_SIDE = 0.2; // of what marks a piece that heads nowhere: it was given the action
 

@@ -1,3 +1,4 @@
+// @ts-check
 // What need not be seen together with a key: it is done behind the frame that shows the key, once the browser has nothing else to do. Of acts that wait the
 // last is done, so keys that are held down leave nothing behind that queues.
 const BEHIND_FRAME = 100; // milliseconds that it waits behind the frame at most
@@ -8,7 +9,8 @@ const whenIdle = (act) => (globalThis.requestIdleCallback ? requestIdleCallback(
 
 export class Behind {
   constructor() {
-    Object.assign(this, { act: null, timer: 0 });
+    this.act = null;
+    this.timer = 0;
   }
 
   get isWaiting() {

@@ -1,3 +1,4 @@
+// @ts-check
 // Levels beside one another on both pages: how large they are drawn, which part of them is seen, which cells are framed, and what stands in a cell.
 import { DifferingCells, InWords, cellTold } from "./cells.mjs";
 import { Pictures, SIDE, cellBelow, drawLevel, scaleFor } from "./drawing.mjs";
@@ -18,7 +19,14 @@ export class Boards {
   // scale) is called once they are drawn. With `isChangeWhole` changed cells have whole frames, and not their corners alone; with `isFollowing` the page
   // scrolls to what changes.
   constructor(page) {
-    Object.assign(this, { page, places: page.places, sides: [], framed: [], zoom: 0, scale: 1, blinking: null, timer: 0 });
+    this.page = page;
+    this.places = page.places;
+    this.sides = [];
+    this.framed = [];
+    this.zoom = 0;
+    this.scale = 1;
+    this.blinking = null;
+    this.timer = 0;
     this.words = new InWords();
     this.cells = new DifferingCells((number) => { this.draw(); this.reveal(number); });
     this.places.forEach(([canvas], place) => {
@@ -33,14 +41,17 @@ export class Boards {
 
   // The pictures of a game, for cells with these names.
   use(look, names) {
-    Object.assign(this, { names, pictures: new Pictures(look, names) });
+    this.names = names;
+    this.pictures = new Pictures(look, names);
   }
 
   // Shows levels: { level, caption, told, changed, headings } for each, where cells that changed are framed, and [column, row, object, direction] of what heads
   // somewhere is an arrow. In both the cells are framed in which they differ; `beside` is what the second is called.
   show(sides, framed, beside) {
     const before = this.level;
-    Object.assign(this, { sides, framed, beside });
+    this.sides = sides;
+    this.framed = framed;
+    this.beside = beside;
     if (!this.isCompared) this.stopBlinking();
     this.cells.show(framed, (number) => this.told(...placeOf(this.level, number)));
     this.words.show(this.level, (label) => this.names[label]);

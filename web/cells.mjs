@@ -1,3 +1,4 @@
+// @ts-check
 // The cells of a level in words, and those in which two levels differ as a list that is gone through one by one.
 import { at, cut, fill, make, plural, sayable } from "./elements.mjs";
 import { heightOf, isDrawn, numberAt } from "./levels.mjs";
@@ -39,7 +40,8 @@ export class InWords {
   }
 
   show(level, namesOf) {
-    Object.assign(this, { level, namesOf });
+    this.level = level;
+    this.namesOf = namesOf;
     put(at("in-words"), { hidden: !isDrawn(level) });
     this.draw();
   }
@@ -53,7 +55,9 @@ export class InWords {
 // The cells in which two levels differ. show(number) shows one, and is told null where none is chosen.
 export class DifferingCells {
   constructor(choose) {
-    Object.assign(this, { choose, cells: [], current: null });
+    this.choose = choose;
+    this.cells = [];
+    this.current = null;
     at("next-cell").addEventListener("click", () => this.next());
   }
 
@@ -61,7 +65,8 @@ export class DifferingCells {
   show(cells, told) {
     const isSame = cells.length === this.cells.length && cells.every((cell, place) => cell === this.cells[place]);
     if (!isSame) this.current = null;
-    Object.assign(this, { cells, told });
+    this.cells = cells;
+    this.told = told;
     put(at("differing-cells"), { hidden: cells.length === 0 });
     if (!isSame || cells.length > 0) this.draw();
   }

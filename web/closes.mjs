@@ -1,3 +1,4 @@
+// @ts-check
 // How a session closes, told by a word, a shape and a colour (common.css).
 
 export const CLOSES = ["passed", "differs", "stopped", "refused"];

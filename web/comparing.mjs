@@ -1,3 +1,4 @@
+// @ts-check
 // How two runs of a session part, and how the level that a session reached differs from the recorded one. The twin of python/saxtegun/divergence.py
 // and of what explanations.py says of the end.
 import { differing, isOfOneSize } from "./levels.mjs";

@@ -1,3 +1,4 @@
+// @ts-check
 // Recordings in any text: what an editor's console prints, with whatever stands around it, or published test data. The twin of
 // python/saxtegun/recording_search.py, which holds what is looked for; both are held to the texts of tests/forms.
 import { ROUNDS, WHITE_SPACE, behindSpace, endOfEscaped, endOfText, replacing, tokenAt, unescaping } from "./javascript.mjs";
@@ -40,14 +41,21 @@ const fromHtml = (text) => replacing(text, HTML_LETTER, letterOfHtml);
 // How many lines end between two places. Nothing is looked for beyond the second.
 function feedsIn(text, low, high) {
   let count = 0;
-  for (let at = low; at < high; at += 1) count += text.charCodeAt(at) === 0x0a;
+  for (let at = low; at < high; at += 1) if (text.charCodeAt(at) === 0x0a) count += 1;
   return count;
 }
 
 // A search through a text. One that was quoted or escaped is inner, and not unquoted again.
 class Search {
   constructor(text, firstLine = 1, isInner = false) {
-    Object.assign(this, { text, isInner, counted: 0, line: firstLine, lastComment: text.lastIndexOf("*/"), heading: -1, found: [], skipped: [] });
+    this.text = text;
+    this.isInner = isInner;
+    this.counted = 0;
+    this.line = firstLine;
+    this.lastComment = text.lastIndexOf("*/");
+    this.heading = -1;
+    this.found = [];
+    this.skipped = [];
     this.left = 4 * text.length + LEAST_READ;
   }
 

@@ -1,3 +1,4 @@
+// @ts-check
 // Buttons that copy a text.
 
 const SHOWN = 1500; // milliseconds for which a button says that it did

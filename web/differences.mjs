@@ -1,3 +1,4 @@
+// @ts-check
 // Where the site may decide otherwise: which of the differences of docs/differences.md a session that differs has the form of. The twin of
 // python/saxtegun/differences.py.
 import { before, descriptionOf, settingsOf } from "./descriptions.mjs";
@@ -85,7 +86,8 @@ function cellsIn(words) {
 // first. Each name is gone through once, since many words of rules may be one name of many objects.
 class Layers {
   constructor(game) {
-    Object.assign(this, { game, known: new Map() });
+    this.game = game;
+    this.known = new Map();
   }
 
   of(name) {

@@ -1,3 +1,4 @@
+// @ts-check
 // Draws a level on a canvas, from the look of its game: { ground, objects }. The ground is a colour; each object is
 // [name, layer, colours, sprite], where a colour that is null is transparent, and a sprite is 25 letters (a digit for a colour,
 // or "." for none), or "" for a block of the first colour. A game without objects is one that couldn't be read: its cells are drawn by letters.

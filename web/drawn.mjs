@@ -1,3 +1,4 @@
+// @ts-check
 // Draws the state of the playground: draw(state, doing, isBusy) shows all of it, and nothing else changes what the page shows. It reads the state and never
 // changes it. Behind a key the level is drawn at once, and all else with the next frame.
 import { Behind } from "./behind.mjs";
@@ -110,7 +111,7 @@ export class Drawn {
 
   drawLevels(state) {
     const { index } = state.work, levels = levelsOf(sourceOf(state)), game = gameOf(sourceOf(state));
-    const options = levels.map(({ number, index: entry, width, height }) => new Option(`${number} (${width} \u00d7 ${height})`, entry, false, entry === index));
+    const options = levels.map(({ number, index: entry, width, height }) => new Option(`${number} (${width} \u00d7 ${height})`, String(entry), false, entry === index));
     // a session may start at a message, and plays from the next level on
     if (!levels.some((level) => level.index === index)) options.unshift(new Option(`from entry ${index} on`, index, false, true));
     fill(at("levels"), options);

@@ -1,9 +1,12 @@
+// @ts-check
 // Elements of a page. What came from games goes into them as text alone.
 
+/** @type {import("./kinds").At} */
 export const at = (id) => document.getElementById(id);
 
 export const json = (id) => JSON.parse(at(id).textContent);
 
+/** @type {<Tag extends keyof HTMLElementTagNameMap>(tag: Tag, className: string, text: string) => HTMLElementTagNameMap[Tag]} */
 export function make(tag, className, text) {
   const element = document.createElement(tag);
   element.className = className;
@@ -12,12 +15,14 @@ export function make(tag, className, text) {
 }
 
 // Puts nodes into an element, in the place of what is there. A stranger may cause more of them than a call takes arguments.
+/** @type {(element: Element, nodes: Iterable<Node | string>) => void} */
 export function fill(element, nodes) {
   const all = document.createDocumentFragment();
   for (const node of nodes) all.append(node);
   element.replaceChildren(all);
 }
 
+/** @type {(className: string, text: string, act: () => void) => HTMLButtonElement} */
 export function makeButton(className, text, act) {
   const button = make("button", className, text);
   button.type = "button";

@@ -1,3 +1,4 @@
+// @ts-check
 // What the cause of a session is, in words, with the culprit: the name that isn't there, the keyword that isn't played, the lines of a loop. The
 // twin of what python/saxtegun/explanations.py and culprits.py say.
 import { before, descriptionOf, settingsOf } from "./descriptions.mjs";
@@ -208,7 +209,7 @@ export const inputTold = (input) => (typeof input === "string" ? input : INPUTS[
 // At which input a session stopped, where it did.
 function stopTold(cause, source, inputs, frames) {
   // ticks of an input are shown with it taken; another stop comes before anything of its input is shown
-  const at = (frames.at(-1)?.at ?? -1) - (cause === "again-limit");
+  const at = (frames.at(-1)?.at ?? -1) - (cause === "again-limit" ? 1 : 0);
   const where = at >= 0 && at < inputs.length ? ` at input ${at} (${inputTold(inputs[at])})` : " at the start";
   return where + (cause === "loop-limit" ? loopsTold(source) : "");
 }

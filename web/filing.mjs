@@ -1,3 +1,4 @@
+// @ts-check
 // Changes of the sessions file in the state of the page: sessions are saved, accepted and removed, another file is opened, or another engine's lines.
 import { partingIn } from "./comparing.mjs";
 import { plural } from "./elements.mjs";

@@ -1,3 +1,4 @@
+// @ts-check
 // Recordings that were found in a text, as sessions of a file: their names, those that are there already, and what is said of the rest. The twin of
 // python/saxtegun/recordings.py.
 import { descriptionOf } from "./descriptions.mjs";
@@ -44,6 +45,7 @@ class Titles {
   }
 
   // Reads the texts of recordings; whether it came to the end.
+  /** @type {(recordings: { source: string }[], ...words: import("./pieces.mjs").Heard) => Promise<boolean>} */
   async read(recordings, ...words) {
     return eachInPieces([...new Set(recordings.map(({ source }) => source))].filter((source) => source !== ""), (source) => this.of(source), ...words);
   }
@@ -52,7 +54,7 @@ class Titles {
   of(source) {
     if (!this.known.has(source)) {
       const numbers = [1];
-      for (const rows of entriesOfLevels(source)) numbers.push(numbers.at(-1) + (rows.length > 0));
+      for (const rows of entriesOfLevels(source)) numbers.push(numbers.at(-1) + (rows.length > 0 ? 1 : 0));
       this.known.set(source, { title: titleOf(source), numbers });
     }
     return this.known.get(source);
@@ -66,6 +68,7 @@ class Titles {
 }
 
 // The titles that recordings need for their names, or null where that was stopped.
+/** @type {(recordings: { source: string }[], ...words: import("./pieces.mjs").Heard) => Promise<Titles | null>} */
 export async function titlesOf(recordings, ...words) {
   const titles = new Titles();
   return (await titles.read(recordings, ...words)) ? titles : null;

@@ -1,3 +1,4 @@
+// @ts-check
 // The frames of a recording as its lines tell them. A recording may have tens of thousands, so a level is read from its line once it is asked for, and the
 // worker hands the page the lines, with where the frames stand in them.
 import { KINDS, endOfLine } from "./lines.mjs";

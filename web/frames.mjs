@@ -1,3 +1,4 @@
+// @ts-check
 // The levels of a run as the page holds them: the first is whole, and each other is what it has otherwise than the one before.
 import { differing, isOfOneSize } from "./levels.mjs";
 

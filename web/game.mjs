@@ -1,3 +1,4 @@
+// @ts-check
 // How a game looks, of what the engine has read of its text: objects with their colours, sprites and layers. The twin of python/saxtegun/games.py, but that
 // nothing is drawn of a text that is refused: it has no layers here.
 import { descriptionOf, settingsOf } from "./descriptions.mjs";
@@ -97,7 +98,7 @@ export class Game {
 }
 
 // The entries of LEVELS: the rows of a level, or none where it is a message.
-export const entriesOfLevels = (source) => descriptionOf(source).levels.map(({ rows }) => rows ?? []);
+export const entriesOfLevels = (source) => descriptionOf(source).levels.map((it) => ("rows" in it ? it.rows : []));
 
 // The levels to choose from: the number of each, from 1, the entry of LEVELS that it is, and its sides.
 export function levelsOf(source) {

@@ -1,3 +1,4 @@
+// @ts-check
 // The presses that win, shown one after another by a ghost, as long as nothing else is done.
 import { ghostOf, solutionNow } from "./solving.mjs";
 
@@ -7,7 +8,10 @@ const LAST_PAUSE = 1500; // milliseconds for which the last of them is shown
 export class Ghost {
   // `show` draws anew.
   constructor(show) {
-    Object.assign(this, { show, found: null, count: 0, timer: 0 });
+    this.show = show;
+    this.found = null;
+    this.count = 0;
+    this.timer = 0;
   }
 
   begin(state) {

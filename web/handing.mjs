@@ -1,3 +1,4 @@
+// @ts-check
 // Files that come into the page and leave it, by the hand of whoever sits before it.
 import { searching } from "./console.mjs";
 import { at } from "./elements.mjs";
@@ -5,6 +6,7 @@ import { allSkippedTold, nothingTold } from "./findings.mjs";
 import { atOnce } from "./pieces.mjs";
 import { MOST_SESSIONS, Refusal, codingOf, textOf } from "./session-file.mjs";
 import { hasManyLists, whyNoField } from "./texts.mjs";
+/** @typedef {{ kind: string, text: string, bytes?: Uint8Array, found?: import("./session-file.mjs").Entry[], skipped?: object[] }} Handed */
 
 const MOST_OF_A_FILE = 64 * 2 ** 20; // of a file that is read, as python/saxtegun/files.py has it
 
@@ -30,6 +32,7 @@ const isLines = (text) => text.trimStart()[0] === "{" && !text.includes('"source
 
 // What bytes are taken for, { kind, text, bytes, found, skipped }: "sessions", "recordings" (found in a text), "lines", or a "game". Refused where they are none.
 // A long text is searched as work in pieces.
+/** @returns {Generator<number[], Handed>} */
 export function* handing(name, bytes) {
   const long = tooLongTold(name, bytes.length);
   if (long !== null) throw new Refusal(long);

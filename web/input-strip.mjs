@@ -1,3 +1,4 @@
+// @ts-check
 // The inputs of a session as a strip of marks in a report, as many as there is room for.
 import { at, makeButton } from "./elements.mjs";
 import { inputLetter, inputWord } from "./telling.mjs";

@@ -1,3 +1,4 @@
+// @ts-check
 // Lists, texts, numbers and words of JavaScript within any text, each as its value. The twin of python/saxtegun/javascript.py, which holds what is read.
 
 // What Python calls white space in a text.
@@ -18,7 +19,7 @@ const SMART_ENDS = "\u201c\u201d";
 // What ends a text that begins with a quote, and what of it is passed over in one step.
 const QUOTES = new Map([
   ['"', { ends: '"', plain: /[^"\\\n]*/y }], ["'", { ends: "'", plain: /[^'\\\n]*/y }], ["`", { ends: "`", plain: /[^`\\$]*/y }],
-  ..."\u201c\u201d\u201e".split("").map((quote) => [quote, { ends: SMART_ENDS, plain: /[^\u201c\u201d\\\n]*/y }]),
+  ..."\u201c\u201d\u201e".split("").map((quote) => /** @type {[string, { ends: string, plain: RegExp }]} */ ([quote, { ends: SMART_ENDS, plain: /[^\u201c\u201d\\\n]*/y }])),
 ]);
 const ESCAPED_PLAIN = /[^"\\\n]*/y;
 // What stands in a list of inputs as JSON has it, which is what most of a recording is.

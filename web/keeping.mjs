@@ -1,3 +1,4 @@
+// @ts-check
 // Keeps what is worked on between visits, in the browser's own storage on this machine. Each tab keeps its own, so none overwrites another's.
 import { forgetNote, namesNoted, noted, noteDown, numberKept } from "./notes.mjs";
 import { FIRST, TAKING, formerVisit, giveBack, isFree, newName, noteLeaving, noteName } from "./visits.mjs";
@@ -67,7 +68,20 @@ export class Store {
   }
 
   constructor() {
-    Object.assign(this, { name: null, left: [], entries: [], isCut: false, isGone: false, turn: 0, there: null, unkept: null, now: null, isWriting: false, isOfKeys: false, isLate: false, endPause: () => {} });
+    this.name = null;
+    this.left = [];
+    this.entries = [];
+    this.isCut = false;
+    this.isGone = false;
+    this.turn = 0;
+    this.there = null;
+    this.unkept = null;
+    this.now = null;
+    this.isWriting = false;
+    this.isOfKeys = false;
+    this.isLate = false;
+    /** @type {(value?: unknown) => void} */
+    this.endPause = () => {};
     // a browser may end what a page does as it is left, but not twice
     window.addEventListener("pagehide", () => this.leave());
     document.addEventListener("visibilitychange", () => (document.visibilityState === "hidden" ? this.leave() : formerVisit()));

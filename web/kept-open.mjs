@@ -1,9 +1,11 @@
+// @ts-check
 // A session that the player's worker keeps open behind what it played last, so that a key costs a press and not the whole recording.
 import { isPlayOf } from "./replaying.mjs";
 import { MOST_INPUTS } from "./session-file.mjs";
 import { playedText } from "./ticks.mjs";
 
 // The press that wins the last level shows a `move`, as others do; that play is over then is shown behind one more input, which runs no rule.
+/** @type {"undo"} */
 export const ONE_MORE = "undo";
 
 // How many inputs two lists begin with that are the same.
@@ -15,8 +17,12 @@ function sharedBy(one, other) {
 }
 
 export class KeptOpen {
+  /** @param {import("../engine/saxtegun").Engine} engine */
   constructor(engine) {
-    Object.assign(this, { engine, of: null, session: null });
+    this.engine = engine;
+    this.of = null;
+    /** @type {import("../engine/saxtegun").OpenSession | null} */
+    this.session = null;
   }
 
   // What one more input led to, as `playedBy` tells it; null where no open session stands before it, or the engine gave no answer.

@@ -1,3 +1,4 @@
+// @ts-check
 // A state as it is kept between visits, and back. What is kept has a version; what can't be read is no state.
 import { keyOfValue, lackingOf, withNote } from "./notes.mjs";
 import { packed, takePack, unpacked } from "./packing.mjs";

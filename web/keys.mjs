@@ -1,3 +1,4 @@
+// @ts-check
 // What the keys of the page do: inputs of the game, and what moves through a recording and a list.
 
 export const INPUT_KEYS = new Map(Object.entries({

@@ -1,3 +1,4 @@
+// @ts-check
 // The level in the middle: the frame that is looked at, beside what it is compared with, or the level behind the stage that is chosen.
 import { Boards } from "./boards.mjs";
 import { Ending } from "./comparing.mjs";

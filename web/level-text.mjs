@@ -1,3 +1,4 @@
+// @ts-check
 // Level texts, read as docs/sessions.md has them: cells as labels of sets of names. The twin of python/saxtegun/levels.py.
 import { fold, salted } from "./texts.mjs";
 

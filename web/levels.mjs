@@ -1,3 +1,4 @@
+// @ts-check
 // A level is { width, cells, order }: the label of each cell, row by row where the order is "rows" and column by column where it is "columns".
 // A label is a number for a set of objects.
 

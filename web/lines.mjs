@@ -1,3 +1,4 @@
+// @ts-check
 // The lines of a recording, as docs/sessions.md has them, cut into runs: what they say of each session.
 import { CLOSES } from "./closes.mjs";
 import { Refusal } from "./session-file.mjs";
@@ -18,6 +19,7 @@ export function endOfLine(bytes, begin) {
 }
 
 // The lines of bytes as spans.
+/** @type {(bytes: Uint8Array) => Generator<[number, number], any>} */
 function* spansOf(bytes) {
   for (let begin = 0, end; begin < bytes.length; begin = end + 1) {
     end = endOfLine(bytes, begin);
@@ -49,12 +51,15 @@ export function isOverIn(bytes, { end, count }) {
 // The frames of a run in its lines. Each is read once it is asked for, and the last alone is kept: a run may have more than a page has time and memory for.
 class FramesRead {
   constructor(bytes, { begin, end, count }) {
-    Object.assign(this, { bytes: bytes.subarray(begin, end), length: count });
+    this.bytes = bytes.subarray(begin, end);
+    this.length = count;
     this.rewind();
   }
 
   rewind() {
-    Object.assign(this, { number: -1, frame: undefined, spans: spansOf(this.bytes) });
+    this.number = -1;
+    this.frame = undefined;
+    this.spans = spansOf(this.bytes);
   }
 
   // A frame, as a list has it: undefined behind the last.

@@ -1,3 +1,4 @@
+// @ts-check
 // What is clicked and pressed in the playground: each leads from a state to the next.
 import { at } from "./elements.mjs";
 import { download, fileNameOf } from "./handing.mjs";

@@ -1,3 +1,4 @@
+// @ts-check
 // Lines of a text that are marked: in the column of their numbers, and as bands of colour behind the text.
 
 // The numbers of so many lines, of which some are marked by the kinds of their marks.

@@ -1,8 +1,9 @@
+// @ts-check
 // The messages of LEVELS, where the site shows them: where a game begins, before a level that comes next, and behind the last.
 import { descriptionOf } from "./descriptions.mjs";
 
 // The entries of LEVELS: the text of a message, or null for a level.
-export const messagesOf = (source) => descriptionOf(source).levels.map(({ message }) => message ?? null);
+export const messagesOf = (source) => descriptionOf(source).levels.map((it) => ("message" in it ? it.message : null));
 
 // The messages directly before an entry.
 function messagesBefore(entries, index) {

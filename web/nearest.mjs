@@ -1,3 +1,4 @@
+// @ts-check
 // The nearest of some words, as Python's difflib finds it, which the command line tells too.
 
 const CUTOFF = 0.6;

@@ -1,3 +1,4 @@
+// @ts-check
 // What is noted of a value where the database doesn't have it yet: a page that is left has no time for that. A browser has little room for notes, so what
 // the database surely has is left out of them.
 const NOTE = "saxtegun-left ";

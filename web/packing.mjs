@@ -1,3 +1,4 @@
+// @ts-check
 // A sessions file as the browser keeps it: where many sessions have one text, that stands there once. Each byte comes back.
 const LEAST = 65_536; // bytes of a file that is packed
 

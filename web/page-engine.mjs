@@ -1,3 +1,4 @@
+// @ts-check
 // The engine in the page: the module that stands in it. Games are played in workers alone, so that the page answers whatever a game does.
 import { load } from "../engine/saxtegun.mjs";
 import { readBy } from "./descriptions.mjs";
@@ -8,6 +9,9 @@ import { MOST_OF_A_LEVEL } from "./level-text.mjs";
 import { readerIn, rehearse } from "./rehearsing.mjs";
 import { MOST_INPUTS } from "./session-file.mjs";
 import { playedText } from "./ticks.mjs";
+
+/** @typedef {import("../engine/saxtegun").Engine} Engine */
+/** @typedef {{ source: string, index: number, order: "rows" | "columns", inputs: import("../engine/saxtegun").Session["inputs"], isTicked: boolean }} Asked */
 
 export const PLAYER = "saxtegun-player"; // the name of the workers that play for the page
 
@@ -50,6 +54,7 @@ export function readableAnswer(answer) {
 }
 
 // What the engine makes of a recording: { frames, cause, isSolved }. A fault of the engine is a cause that begins with `engine:`.
+/** @type {(engine: Engine, asked: Asked & { from: number }) => { frames: object[], cause: string | null, isSolved: boolean }} */
 export function playedBy(engine, { source, index, order, inputs, from, isTicked }) {
   const played = inputs.length >= MOST_INPUTS ? inputs : [...inputs, ONE_MORE], text = playedText(source, isTicked);
   const whole = () => framesTold(engine.replay(JSON.stringify([["", [text, played, "", index]]]), { order, most: MOST_ROOM_OF_LEVELS }));
@@ -59,6 +64,7 @@ export function playedBy(engine, { source, index, order, inputs, from, isTicked 
 }
 
 // The stages of some inputs of a recording: { stages, fault }.
+/** @type {(engine: Engine, asked: Asked & { numbers: number[] }) => { stages: object[], fault: string | null }} */
 export function stagesBy(engine, { source, index, order, inputs, isTicked, numbers }) {
   const session = { source: playedText(source, isTicked), index, inputs }, answers = numbers.map((number) => engine.stages(session, number, { order }));
   const fault = answers.find((answer) => answer.fault !== null)?.fault ?? null;
@@ -66,20 +72,22 @@ export function stagesBy(engine, { source, index, order, inputs, isTicked, numbe
 }
 
 // The lines of rules that acted, for each of some inputs from one on, as many as are looked through in a moment: { lines, fault }.
+/** @type {(engine: Engine, asked: Asked & { from: number, count: number }) => { lines: number[][], fault: string | null }} */
 export function actedBy(engine, { source, index, order, inputs, isTicked, from, count }) {
   const played = playedText(source, isTicked), lines = [];
   for (const begin = performance.now(); from + lines.length < count && (lines.length === 0 || performance.now() - begin < MOMENT);) {
     const number = from + lines.length, { stages, fault } = engine.stages({ source: played, index, inputs: inputs.slice(0, number) }, number, { order });
     if (fault !== null) return { lines, fault };
-    lines.push([...new Set(stages.flatMap((stage) => stage.lines ?? []))]);
+    lines.push([...new Set(stages.flatMap((stage) => ("lines" in stage ? stage.lines : [])))]);
   }
   return { lines, fault: null };
 }
 
 // What wins a recording from where it ends, and the frames that this shows: { solution, frames, fault }.
+/** @type {(engine: Engine, asked: Asked) => { solution: import("../engine/saxtegun").Solution | null, frames: import("../engine/saxtegun").Frame[], fault: string | null }} */
 export function solutionBy(engine, { source, index, order, inputs, isTicked }) {
   if (!engine.hasSolutions) return { solution: null, frames: [], fault: "no-solutions" };
-  const played = playedText(source, isTicked), found = engine.solution({ source: played, index, inputs }), presses = found.solution?.solved;
+  const played = playedText(source, isTicked), found = engine.solution({ source: played, index, inputs }), presses = /** @type {{ solved?: (0 | 1 | 2 | 3 | 4)[] } | null} */ (found.solution)?.solved;
   if (presses === undefined) return { ...found, frames: [] };
   const shown = engine.frames({ source: played, index, inputs: [...inputs, ...presses] }, { order, from: inputs.length + 1 });
   return { solution: shown.fault === null ? found.solution : null, frames: shown.frames, fault: shown.fault };
@@ -88,7 +96,10 @@ export function solutionBy(engine, { source, index, order, inputs, isTicked }) {
 // A worker that answers one question at a time. One whose answer isn't wanted any more is given a moment, and then ended, whatever it does.
 class PlayerThread {
   constructor(begin, module) {
-    Object.assign(this, { begin, module, worker: null, last: Promise.resolve() });
+    this.begin = begin;
+    this.module = module;
+    this.worker = null;
+    this.last = Promise.resolve();
   }
 
   start() {
@@ -103,6 +114,7 @@ class PlayerThread {
 
   async ask(question, signal) {
     const before = this.last;
+    /** @type {(value?: unknown) => void} */
     let settled = () => {};
     this.last = new Promise((settle) => { settled = settle; });
     await before;

@@ -1,3 +1,4 @@
+// @ts-check
 // What the page says of its state, in words. Inputs are counted from 0, as the command and the reports count them.
 import { afterTold, endingTold, partingTold } from "./comparing.mjs";
 import { plural } from "./elements.mjs";

@@ -1,3 +1,4 @@
+// @ts-check
 // Sessions that are more than the engine takes in one file: they are played in parts, whose lines are joined as if they were one.
 import { numbered } from "../engine/saxtegun.mjs";
 import { rest } from "./pieces.mjs";

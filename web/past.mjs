@@ -1,3 +1,4 @@
+// @ts-check
 // What can be put back: texts, recordings, names and sessions files that something else took the place of. The newest stands last.
 
 export const MOST_PAST = 60;

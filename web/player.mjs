@@ -1,3 +1,4 @@
+// @ts-check
 // The player of a session: its frames, drawn beside the recorded level or beside those of another run.
 import { Boards } from "./boards.mjs";
 import { shapeOf } from "./closes.mjs";
@@ -76,7 +77,7 @@ export class Player {
     }
     this.boards.use(this.gameOf(this.session.game), this.session.labels);
     this.bumps = this.sides[0].run.bumps();
-    at("slider").max = this.last;
+    at("slider").max = String(this.last);
     at("cell").textContent = POINT;
     this.goTo(frame ?? this.session.opens);
   }
@@ -111,7 +112,7 @@ export class Player {
     const told = [frameTold(run.frames[number], this.session.inputs, changes === null ? null : changes.length)];
     if (this.sides.length > 1) told.push(differenceTold(this.differing === null ? null : this.differing.length, this.session.beside));
     at("step").textContent = told.join(" ");
-    at("slider").value = this.at;
+    at("slider").value = String(this.at);
     at("place").textContent = `frame ${this.at} of ${this.last}`;
     at("back").disabled = this.at === 0;
     at("on").disabled = this.at === this.last;

@@ -1,3 +1,4 @@
+// @ts-check
 // The playground: a game is played, recorded and replayed, by the engine that stands in the page. What is clicked and pressed leads from one state to
 // the next (work.mjs, suite.mjs), which is drawn (drawn.mjs), played (running.mjs) and kept (keeping.mjs).
 import { Animation } from "./animating.mjs";
@@ -27,7 +28,8 @@ const FRAME_PAUSE = 160; // milliseconds between two frames when playing
 
 class Playground {
   constructor(state, engine, store) {
-    Object.assign(this, { engine, store });
+    this.engine = engine;
+    this.store = store;
     this.timer = 0;
     this.kept = null;
     const acts = {
@@ -214,4 +216,4 @@ async function start() {
 
 // in a worker this script plays what it is handed, and there is no page
 if (typeof document === "object") start();
-else if (globalThis.name === PLAYER) servePlayer();
+else if (globalThis.self?.name === PLAYER) servePlayer();

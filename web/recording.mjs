@@ -1,3 +1,4 @@
+// @ts-check
 // The frames of a recording, { at, kind, level }, of which each has how many inputs were taken when it was shown.
 
 // The frames before so many inputs, and then others.

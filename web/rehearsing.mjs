@@ -1,3 +1,4 @@
+// @ts-check
 // A long file is read by a worker before the page reads it. Whatever keeps its reader busy, the page answers meanwhile, and doesn't begin with what it would
 // stand still for.
 import { withOtherFile, withRecordings } from "./filing.mjs";
@@ -11,10 +12,11 @@ import { beginning } from "./work.mjs";
 const LONG = 65_536; // bytes of a file that is read so: none of fewer takes long
 const MOST_OF_A_STEP = 4000; // milliseconds that the worker may give no word
 const OFTEN = 200; // milliseconds after which a word is given
-const ENDED = AbortSignal.abort();
+const ENDED = /** @type {typeof AbortSignal & AbortSignals} */ (AbortSignal).abort();
 const NAMED = { nameOf: ({ name }) => name || "a recording" }; // names from the texts themselves are read in steps
 
 // What the page does at once with what was read of a file, in a state with this text and this file.
+/** @param {import("./handing.mjs").Handed} handed @param {{ name: string, text: string, former: { name: string, bytes: Uint8Array } | null }} request */
 async function taken({ kind, found, skipped, bytes }, { name, text, former }) {
   const state = { ...beginning(text), file: former && new SessionFile(former.name, former.bytes) };
   const next = kind === "recordings" ? withRecordings(state, found, skipped, NAMED) : kind === "sessions" ? withOtherFile(state, new SessionFile(name, bytes)) : state, { file } = next;

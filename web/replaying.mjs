@@ -1,3 +1,4 @@
+// @ts-check
 // What the engine is wanted to play of a state, what its answer leads to, and the frames that were played.
 import { culpritTold } from "./faults.mjs";
 import { Game } from "./game.mjs";

@@ -1,3 +1,4 @@
+// @ts-check
 // The page of a report: a list of sessions, and a player for the one that is open.
 import { addressOf, readAddress } from "./address.mjs";
 import { makeCopy } from "./copying.mjs";
@@ -70,6 +71,7 @@ function showResult() {
 
 const whenOpen = (act) => () => { if (player.isOpen) act(); };
 
+/** @type {Record<string, [string | null, string | null, () => void]>} */
 const KEYS = {
   ArrowLeft: ["left arrow or [, right arrow or ]", "a frame back, a frame forward", whenOpen(() => player.goTo(player.at - 1))],
   ArrowRight: [null, null, whenOpen(() => player.goTo(player.at + 1))],

@@ -1,3 +1,4 @@
+// @ts-check
 // Runs the page: after each change of the state the engine is asked for what is wanted of it, the state is drawn, and it is kept.
 import { playedInParts } from "./parts.mjs";
 import { answered, isWanted, wantedPlay } from "./replaying.mjs";
@@ -14,10 +15,15 @@ export class Runner {
   // draw(state, doing, isBusy, isKey) shows what there is, and keep(state, isPlaying, isKey) keeps it, where `isPlaying` is whether something is played that isn't over
   // in a moment, and `isKey` whether a key led to it.
   constructor(state, { engine, draw, keep, pause = TYPING_PAUSE }) {
-    Object.assign(this, { state, engine, draw, keep, pause });
+    this.state = state;
+    this.engine = engine;
+    this.draw = draw;
+    this.keep = keep;
+    this.pause = pause;
     this.doing = { play: null, suite: null, stages: null, coverage: null, solution: null, reading: null, isTyping: false }; // what is asked now: { wanted, controller, done, total, isSlow }
     this.timer = 0;
     this.coming = 0; // files that are being read
+    /** @type {Promise<unknown>} */
     this.read = Promise.resolve(); // what came before, once it is read
     this.waiting = [];
   }
@@ -49,12 +55,14 @@ export class Runner {
   }
 
   // Reads something that came, by read(signal, progress), behind what came before; `what` says what is done. It is null where it was stopped.
+  /** @type {<Answer>(what: string, read: (...words: import("./pieces.mjs").Heard) => Promise<Answer>) => Promise<Answer>} */
   reading(what, read) {
     const answer = this.read.then(() => this.readNow(what, read));
     this.read = answer.catch(() => {});
     return answer;
   }
 
+  /** @type {<Answer>(what: string, read: (...words: import("./pieces.mjs").Heard) => Promise<Answer>) => Promise<Answer>} */
   async readNow(what, read) {
     const doing = { what, wanted: null, controller: new AbortController(), done: 0, total: 0, isSlow: false };
     doing.timer = setTimeout(() => this.showSlow(doing), SLOW);

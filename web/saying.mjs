@@ -1,3 +1,4 @@
+// @ts-check
 // Puts words and values into the elements of the page, where they have changed: what is written again as it stands costs a browser as much as a change.
 import { shapeOf } from "./closes.mjs";
 import { at, make, sayable } from "./elements.mjs";

@@ -1,6 +1,10 @@
+// @ts-check
 // A sessions file as docs/sessions.md has it: its entries, and its bytes, of which a change leaves all else letter by letter. The twin of
 // python/saxtegun/sessions.py.
 import { elementsOf } from "../engine/saxtegun.mjs";
+
+/** @typedef {[number, number]} Span */
+/** @typedef {{ name: string, source: string, inputs: import("../engine/saxtegun").Session["inputs"], level: string, index: number, rest?: unknown[] }} Entry */
 
 const WORDS = ["undo", "restart", "tick"];
 const MOST_INDEX = 2 ** 64;
@@ -91,6 +95,7 @@ function furtherFault(body, rest) {
 }
 
 // What makes a value no body of a session, a list of its source, inputs, level and index, or null.
+/** @type {(body: any[]) => string | null} */
 export function bodyFault([source, inputs, level, index = null]) {
   if (typeof source !== "string" || !Array.isArray(inputs) || typeof level !== "string") return "after its name there is no list of a source, a list of inputs and a level text";
   const bad = inputs.findIndex((input) => !isInput(input));
@@ -108,6 +113,7 @@ export function faultOf(entry) {
 }
 
 // A span of bytes without the white space around it.
+/** @type {(bytes: Uint8Array, span: Span) => Span} */
 function tight(bytes, [begin, end]) {
   let [first, last] = [begin, end];
   while (first < last && BLANK.includes(bytes[first])) first += 1;
@@ -116,9 +122,11 @@ function tight(bytes, [begin, end]) {
 }
 
 // Where the elements of the list stand that a span of bytes is.
+/** @type {(bytes: Uint8Array, span: Span) => Span[]} */
 const spansIn = (bytes, [begin, end]) => elementsOf(bytes.subarray(begin, end)).map(([one, other]) => tight(bytes, [begin + one, begin + other]));
 
 // The bytes with others in the place of some spans, [[span, piece]] in their order.
+/** @type {(bytes: Uint8Array, changes: [Span, Uint8Array][]) => Uint8Array} */
 function spliced(bytes, changes) {
   const whole = new Uint8Array(changes.reduce((size, [[begin, end], piece]) => size + piece.length - (end - begin), bytes.length));
   let from = 0, to = 0;
@@ -170,7 +178,8 @@ const sizeOf = (text) => new TextEncoder().encode(text).length;
 // The texts of games as the engine gets them, each made once.
 class PlayedTexts {
   constructor(played) {
-    Object.assign(this, { played, known: new Map() });
+    this.played = played;
+    this.known = new Map();
   }
 
   // A text as it is played: { isSame, json, size }, where `isSame` is whether it stays as it is.
@@ -183,11 +192,13 @@ class PlayedTexts {
   }
 
   // What a file has of an entry, before its text, that, and behind it.
+  /** @type {(entry: Entry, game: string) => string[]} */
   piecesOf({ name, source, inputs, level, index }, game) {
     return [`[${JSON.stringify(name)},[`, this.of(source || game).json, `,${JSON.stringify([inputs, level, index]).slice(1)}]`];
   }
 
   // The bytes of these pieces, with the comma behind them.
+  /** @type {(entry: Entry, game: string, pieces: string[]) => number} */
   sizeOf({ source }, game, [before, , behind]) {
     return sizeOf(before) + this.of(source || game).size + sizeOf(behind) + 1;
   }
@@ -196,7 +207,8 @@ class PlayedTexts {
 // Consecutive sessions as a file of their own, from a number on.
 class Part {
   constructor(first) {
-    Object.assign(this, { first, sessions: [] });
+    this.first = first;
+    this.sessions = [];
   }
 
   take(pieces) {
@@ -313,6 +325,7 @@ export class SessionFile {
 }
 
 // An entry as a sessions file has it.
+/** @type {(entry: Entry) => unknown[]} */
 export const valueOf = ({ name, source, inputs, level, index, rest = [] }) => [name, [source, inputs, level, index], ...rest];
 
 const REFUSALS = {

@@ -1,6 +1,9 @@
+// @ts-check
 // The list of sessions on both pages: filtered by close and by name. Rows are there only where they can be seen, so it may be long.
 import { countOf, shapeOf } from "./closes.mjs";
 import { at, cut, make, makeButton, plural } from "./elements.mjs";
+
+/** @typedef {{ name: string, close: string | null, frames: number | null, parting: object | null, isUnsolved?: boolean }} Row */
 
 const ROW_HEIGHT = 30; // pixels of a row, as common.css has it
 const MORE_ROWS = 12; // rows beyond those that can be seen
@@ -29,7 +32,12 @@ export class SessionList {
   // toldOfCount(listed, all) how many are listed, refilter() is called where a filter changes; `closes` have buttons, those of `always` also where there is
   // none; with `areFailuresFirst` failures come first, and the next one isn't sought round and round. Where no row is left, `elsewhere` gets the focus.
   constructor(page) {
-    Object.assign(this, { page, rows: [], order: [], shown: [], close: "all", current: null });
+    this.page = page;
+    this.rows = [];
+    this.order = [];
+    this.shown = [];
+    this.close = "all";
+    this.current = null;
     at("filter").addEventListener("input", () => this.filter());
     at("rows").addEventListener("scroll", () => this.draw());
     new ResizeObserver(() => this.draw()).observe(at("rows"));
@@ -40,7 +48,9 @@ export class SessionList {
   }
 
   show(rows, current) {
-    Object.assign(this, { rows, current, order: this.ordered([...rows.keys()], rows) });
+    this.rows = rows;
+    this.current = current;
+    this.order = this.ordered([...rows.keys()], rows);
     this.places = new Map(this.order.map((number, place) => [number, place]));
     if (![...this.page.always, "all"].includes(this.close) && this.count(this.close) === 0) this.close = "all";
     this.select();
@@ -60,6 +70,7 @@ export class SessionList {
   }
 
   // The next session that is listed and wanted, or the one before; null where there is none.
+  /** @type {(step: number, isWanted?: (row: Row) => boolean) => number | null} */
   next(step, isWanted = () => true) {
     const isRound = !this.page.areFailuresFirst || !this.shown.includes(this.current);
     return following(this.shown.filter((number) => isWanted(this.rows[number])), this.current, step, { isRound, placeOf: (number) => this.places.get(number) });
@@ -89,7 +100,7 @@ export class SessionList {
   }
 
   countButton(close, count) {
-    const button = makeButton(close, "", () => { this.close = close; this.filter(); at("counts").querySelector(`.${close}`).focus(); });
+    const button = makeButton(close, "", () => { this.close = close; this.filter(); /** @type {HTMLElement} */ (at("counts").querySelector(`.${close}`)).focus(); });
     button.append(...(close === "all" ? [plural(count, "session")] : [shapeOf(close), countOf(close, count)]));
     button.setAttribute("aria-pressed", String(close === this.close));
     button.disabled = count === 0 && close !== "all";
@@ -106,19 +117,19 @@ export class SessionList {
   }
 
   draw() {
-    const box = at("rows"), focused = document.activeElement?.dataset.number, first = Math.max(0, Math.floor(box.scrollTop / ROW_HEIGHT) - MORE_ROWS);
+    const box = at("rows"), focused = /** @type {HTMLElement} */ (document.activeElement)?.dataset.number, first = Math.max(0, Math.floor(box.scrollTop / ROW_HEIGHT) - MORE_ROWS);
     const shown = this.shown.slice(first, Math.ceil((box.scrollTop + box.clientHeight) / ROW_HEIGHT) + MORE_ROWS);
     // one of them is reached by Tab, and from there j and k lead on
     this.reached = shown.includes(this.current) ? this.current : shown[0];
     at("list").replaceChildren(...shown.map((number, place) => this.item(number, first + place)));
-    if (focused !== undefined) at("list").querySelector(`[data-number="${focused}"]`)?.focus({ preventScroll: true });
+    if (focused !== undefined) /** @type {HTMLElement} */ (at("list").querySelector(`[data-number="${focused}"]`))?.focus({ preventScroll: true });
   }
 
   item(number, place) {
     const item = make("li", "", "");
     item.style.top = `${place * ROW_HEIGHT}px`;
-    item.setAttribute("aria-setsize", this.shown.length);
-    item.setAttribute("aria-posinset", place + 1);
+    item.setAttribute("aria-setsize", String(this.shown.length));
+    item.setAttribute("aria-posinset", String(place + 1));
     item.append(this.button(number));
     return item;
   }

@@ -1,3 +1,4 @@
+// @ts-check
 // What wins from the frame that is looked at, in the state of the page: what the engine is asked for, what it found, and its presses as a ghost, which stands
 // in no recording.
 import { isSameList } from "./past.mjs";

@@ -1,3 +1,4 @@
+// @ts-check
 // The game's text with the numbers of its lines, the fault at its line, and the lines that are marked: those of the rules that acted in the stage that is
 // looked at, and those that never acted.
 import { at, fill, makeButton, sayable } from "./elements.mjs";
@@ -10,7 +11,12 @@ export class SourcePanel {
   constructor(change, point) {
     this.text = at("source");
     this.numbers = at("numbers");
-    Object.assign(this, { count: 0, fault: undefined, line: null, lit: [], never: [], isShown: false });
+    this.count = 0;
+    this.fault = undefined;
+    this.line = null;
+    this.lit = [];
+    this.never = [];
+    this.isShown = false;
     this.text.addEventListener("input", () => change(this.text.value));
     this.text.addEventListener("scroll", () => { this.numbers.scrollTop = this.text.scrollTop; this.drawBands(); });
     new ResizeObserver(() => this.resized()).observe(this.text);
@@ -47,7 +53,10 @@ export class SourcePanel {
   }
 
   drawNumbers() {
-    const kinds = new Map([...this.never.map((line) => [line, "never"]), ...this.lit.map((line) => [line, "lit"]), ...(this.line === null ? [] : [[this.line, "faulty"]])]);
+    const kinds = new Map();
+    for (const line of this.never) kinds.set(line, "never");
+    for (const line of this.lit) kinds.set(line, "lit");
+    if (this.line !== null) kinds.set(this.line, "faulty");
     fill(this.numbers, rowsMarked(this.count, kinds));
     this.numbers.scrollTop = this.text.scrollTop;
   }

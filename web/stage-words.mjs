@@ -1,3 +1,4 @@
+// @ts-check
 // Stages, and where the rules of a line acted, in words. Lines are counted from 1; inputs from 0, as the page counts them.
 import { plural } from "./elements.mjs";
 import { inputTold } from "./faults.mjs";

@@ -1,3 +1,4 @@
+// @ts-check
 // How the playground shows levels (boards.mjs): beside or below one another, as large as there is room for, and scrolled to what changes.
 import { SIDE } from "./drawing.mjs";
 import { at } from "./elements.mjs";

@@ -1,3 +1,4 @@
+// @ts-check
 // The stages of the input that is looked at as a list, and the inputs in which the rules of a line acted.
 import { at, make, makeButton, reveal } from "./elements.mjs";
 import { windowAround } from "./recording.mjs";

@@ -1,3 +1,4 @@
+// @ts-check
 // The stages of the input that is looked at, in the state of the page: what the engine is wanted to say of them, which of them is chosen, and in which
 // inputs the rules of a line acted. Rules of one group or loop act together: the engine names the lines of all.
 import { descriptionOf } from "./descriptions.mjs";

@@ -1,3 +1,4 @@
+// @ts-check
 // The inputs of a recording as a strip of marks, and its frames as a slider.
 import { at, makeButton, plural, reveal } from "./elements.mjs";
 import { inputTold } from "./faults.mjs";
@@ -9,7 +10,10 @@ const MOST_MARKS = 240; // marks that stand in the strip at once
 export class Strip {
   // act.input(taken) shows what so many inputs led to, act.frame(number) a frame.
   constructor(act) {
-    Object.assign(this, { act, inputs: [], first: 0, marks: [] }); // the marks that stand there, and of which inputs they are
+    this.act = act;
+    this.inputs = [];
+    this.first = 0;
+    this.marks = []; // the marks that stand there, and of which inputs they are
     at("slider").addEventListener("input", () => act.frame(Number(at("slider").value)));
   }
 

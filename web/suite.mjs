@@ -1,3 +1,4 @@
+// @ts-check
 // The sessions of the file in the state of the page: how they closed over the text at hand, which of them is open, and what was seen of it.
 import { Ending, obstacleTold, partingOf } from "./comparing.mjs";
 import { ONE_MORE } from "./kept-open.mjs";

@@ -1,3 +1,4 @@
+// @ts-check
 // Inputs and frames in words. Both are counted from 0, as the tools count them.
 import { plural } from "./elements.mjs";
 

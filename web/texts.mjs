@@ -1,3 +1,4 @@
+// @ts-check
 // Texts of games and of strangers letter by letter, as the engine tells letters apart.
 
 // What Unicode calls white space.

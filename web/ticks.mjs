@@ -1,3 +1,4 @@
+// @ts-check
 // Games with a clock, `realtime_interval`, which are refused. A recording has its ticks among its inputs, so it is played without that line where that is
 // wanted: each answer says so.
 import { descriptionOf, settingsOf } from "./descriptions.mjs";
@@ -30,7 +31,8 @@ export function withoutClock(source) {
 // What is known of the clocks of many texts, each of which is read once.
 export class Clocks {
   constructor(without = withoutClock) {
-    Object.assign(this, { without, known: new Map() });
+    this.without = without;
+    this.known = new Map();
   }
 
   // Reads texts that aren't known yet; whether it came to the end.

@@ -1,3 +1,4 @@
+// @ts-check
 // The name of a tab, under which it keeps its work, and whether it is open. A tab has its name again after a reload, and no other has it meanwhile.
 const TAB = "saxtegun-tab"; // where a tab finds its own name again
 const LEFT = "saxtegun-page-left"; // what a tab notes as it leaves the page, which a copy of a tab that stays doesn't have
@@ -14,7 +15,7 @@ export const newName = () => `${FIRST} ${Date.now().toString(36)} ${Math.random(
 export function isFree(name, patience = 0) {
   if (!navigator.locks) return true;
   return new Promise((settle) => {
-    const options = patience > 0 ? { signal: AbortSignal.timeout(patience) } : { ifAvailable: true };
+    const options = patience > 0 ? { signal: /** @type {typeof AbortSignal & AbortSignals} */ (AbortSignal).timeout(patience) } : { ifAvailable: true };
     const take = (lock) => {
       settle(lock !== null);
       return lock === null ? undefined : new Promise((release) => releases.set(name, release));

@@ -1,3 +1,4 @@
+// @ts-check
 // The state of the page, which is never changed, and what can be done with a text and a recording: functions from a state to the next. Nothing here
 // knows the page or the engine. What the engine is wanted to play follows from the state, and its answer leads to the next (replaying.mjs, suite.mjs).
 import { levelsOf } from "./game.mjs";
