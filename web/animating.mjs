@@ -3,6 +3,7 @@
 import { settingsOf } from "./descriptions.mjs";
 import { firstFrom } from "./recording.mjs";
 import { framesOf, isPlayed, sourceOf } from "./replaying.mjs";
+/** @typedef {import("./state").State} State */
 
 export const WON = 700; // milliseconds for which a won level is shown
 const TICK = 100; // milliseconds for which a tick is, where the game names no pace,
@@ -15,6 +16,7 @@ export function paceOf(source) {
 }
 
 // The frames that are shown on the way to the last one, each with its time: [[frame, milliseconds]].
+/** @param {State} state */
 export function scenesOf(state) {
   const { played, messages, looked, queue } = state;
   if (played === null || !played.isKey || looked !== null || queue.length > 0 || !isPlayed(state)) return [];
@@ -35,7 +37,9 @@ export class Animation {
   }
 
   // Begins where a key was played, and ends where anything else was done.
+  /** @param {State} state */
   follow(state) {
+    /** @param {State} state */
     const isNew = state.played !== this.played;
     if (!isNew && this.scenes.length > 0 && scenesOf(state).length === 0) this.end();
     if (!isNew) return;
@@ -63,6 +67,7 @@ export class Animation {
   }
 
   // The state as it is shown now.
+  /** @param {State} state */
   seen(state) {
     return this.scenes.length === 0 ? state : { ...state, looked: this.scenes[0][0], messages: [] };
   }

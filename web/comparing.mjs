@@ -29,6 +29,7 @@ function isSameFrame(one, other) {
 
 // Looks where two runs part, as work in pieces: { frame, kind }; null where they are the same. Where only their closes differ, the frame is the one behind
 // the last.
+/** @returns {Generator<number[], import("./state").Parting | null>} */
 export function* partingIn(one, other) {
   const count = Math.max(one.frames.length, other.frames.length);
   for (let frame = 0; frame < count; frame += 1) {

@@ -17,6 +17,7 @@ import { SourcePanel } from "./source-panel.mjs";
 import { isSavable, namesakeOf } from "./filing.mjs";
 import { framesOf, gameOf, isAtEnd, isPlayed, shownOf, sourceOf, takenOf } from "./replaying.mjs";
 import { countOfOthers, differenceOf, rowsOf, runsOfNow, seenOf } from "./suite.mjs";
+/** @typedef {import("./state").State} State */
 
 const TABS = ["game", "sessions"];
 
@@ -53,6 +54,7 @@ export class Drawn {
     return this.level.boards;
   }
 
+  /** @param {State} state */
   draw(state, doing, isBusy) {
     this.behind.drop();
     this.drawSeen(state, doing);
@@ -61,17 +63,20 @@ export class Drawn {
   }
 
   // Draws what a key, or what it led to, changes before the eyes; all else behind the next frame. Until then the page counts as busy.
+  /** @param {State} state */
   drawSoon(state, doing, isBusy) {
     this.drawSeen(state, doing);
     this.behind.put(() => this.draw(state, doing, isBusy));
     put(document.documentElement.dataset, { busy: "true" });
   }
 
+  /** @param {State} state */
   drawSeen(state, doing) {
     this.drawMessage(state.messages[0]);
     if (!doing.isTyping) this.drawLevel(state);
   }
 
+  /** @param {State} state */
   drawRest(state, doing) {
     const when = (...words) => this.changes.when(...words), shown = shownOf(state);
     when("tabs", [state.tab], () => this.drawTabs(state.tab));
@@ -96,6 +101,7 @@ export class Drawn {
   }
 
   // The level is read by the text: not while that is being typed.
+  /** @param {State} state */
   drawLevel(state) {
     const isStage = chosenStage(state) !== null;
     this.changes.when("level", [framesOf(state), shownOf(state), state.order, state.suite, state.comparison, state.file, state.work, isStage && state.staging.came, chosenStage(state), isPlayed(state), at("stage").clientWidth], () => this.level.draw(state));
@@ -109,16 +115,18 @@ export class Drawn {
     }
   }
 
+  /** @param {State} state */
   drawLevels(state) {
     const { index } = state.work, levels = levelsOf(sourceOf(state)), game = gameOf(sourceOf(state));
     const options = levels.map(({ number, index: entry, width, height }) => new Option(`${number} (${width} \u00d7 ${height})`, String(entry), false, entry === index));
     // a session may start at a message, and plays from the next level on
-    if (!levels.some((level) => level.index === index)) options.unshift(new Option(`from entry ${index} on`, index, false, true));
+    if (!levels.some((level) => level.index === index)) options.unshift(new Option(`from entry ${index} on`, String(index), false, true));
     fill(at("levels"), options);
     say("title", game.title);
     say("notes", notesTold(game));
   }
 
+  /** @param {State} state */
   drawRecording(state) {
     const frames = framesOf(state), { inputs } = state.work, { text, isSolved } = endTold(state), counted = isPlayed(state) ? [make("span", "", plural(frames.length, "frame"))] : [];
     at("summary").replaceChildren(make("span", "", plural(inputs.length, "input")), ...counted, make("span", isSolved ? "solved" : "", text));
@@ -139,6 +147,7 @@ export class Drawn {
     say("message-text", message ?? "");
   }
 
+  /** @param {State} state */
   drawPlaying(state, play) {
     const isSlow = play?.isSlow ?? false;
     put(at("playing"), { hidden: !isSlow && !state.isHeld });
@@ -146,6 +155,7 @@ export class Drawn {
     put(at("begin-play"), { hidden: !state.isHeld });
   }
 
+  /** @param {State} state */
   drawButtons(state) {
     const { inputs } = state.work, number = namesakeOf(state), isPlayable = framesOf(state).length > 0;
     put(at("cut"), { disabled: inputs.length === 0 || (!isAtEnd(state) && takenOf(state) === inputs.length) });
@@ -160,6 +170,7 @@ export class Drawn {
   }
 
   // What is looked for that wins, and what was found.
+  /** @param {State} state */
   drawSolving(state, search) {
     const isFound = solutionNow(state) !== null, { ghost } = state;
     put(at("solve"), { disabled: !isSolvable(state) || search !== null });
@@ -170,6 +181,7 @@ export class Drawn {
     say("solution", ghost === undefined ? solutionTold(state) : `A ghost shows press ${ghost.count} of ${ghost.of}: it stands in no recording.`);
   }
 
+  /** @param {State} state */
   drawFile(state, suite) {
     const { file } = state, seen = seenOf(state).length;
     put(at("none"), { hidden: file !== null });

@@ -10,35 +10,45 @@ import { MOST_SESSIONS, Refusal, SessionFile, isSolvedWanted } from "./session-f
 import { isOther, runWithFrames, runsOfNow, sessionOpened } from "./suite.mjs";
 import { whyNoField } from "./texts.mjs";
 import { RECORDED_ORDER } from "./work.mjs";
+/** @typedef {import("./state").State} State */
 
 export const RECORDINGS = "recordings.json";
 const NAMELESS = "a recording";
 
+/** @param {State} state */
 const withFile = (state, file, more) => remembering(state, { ...state, file, isUnsaved: true, told: null, saved: "", ...more });
 
 // Makes what was seen the recorded level of these sessions.
+/** @param {State} state */
 export function accepted(state, numbers) {
   if (numbers.length === 0) return state;
+  /** @param {State} state */
   const file = state.file.withLevels(numbers.map((number) => [number, state.seen.get(number).reached]));
   const isUnsolved = numbers.some((number) => isSolvedWanted(file.entries[number]) && !state.seen.get(number).isSolved), demanded = isUnsolved ? "; not all are solved that must be" : "";
   return withFile(state, file, { saved: `${plural(numbers.length, "recorded level")} changed${demanded}` });
 }
 
 // Whether what is worked on can be saved: it is played to its end, and no ghost is seen in its place.
+/** @param {State} state */
 export const isSavable = (state) => !state.ghost && isPlayed(state) && state.played.cause === null && framesOf(state).length > 0 && state.queue.length === 0;
 
+/** @param {State} state */
 const nameOf = (state) => state.work.name || NAMELESS;
 
 // The number of the session that has the name which is written, or -1. Of several with that name it is the one that is open.
+/** @param {State} state */
 export function namesakeOf(state) {
+  /** @param {State} state */
   const entries = state.file?.entries ?? [], name = nameOf(state), { opened } = state.work;
   return entries[opened]?.name === name ? opened : entries.findIndex((entry) => entry.name === name);
 }
 
 // Saves the recording as a session, in the place of another where one is named. A recording over the text at hand has no text of its own.
+/** @param {State} state */
 export function savedAs(state, number = null) {
   if (!isSavable(state) || state.order !== RECORDED_ORDER) return state;
   const { own, inputs, index } = state.work, entry = { name: nameOf(state), source: own ?? "", inputs, level: framesOf(state).at(-1).level, index };
+  /** @param {State} state */
   const former = state.file ?? SessionFile.empty(RECORDINGS), file = number === null ? former.with(entry) : former.withReplaced(number, entry);
   const opened = number ?? file.entries.length - 1;
   const next = withFile({ ...state, work: { ...state.work, opened: null } }, file, { work: { ...state.work, opened }, looked: null });
@@ -47,30 +57,38 @@ export function savedAs(state, number = null) {
 }
 
 // Whether what is at hand is what was, or goes on with it.
+/** @param {State} state */
 function isSameAtHand(state, asked) {
+  /** @param {State} state */
   const isSame = state.file === asked.file && sourceOf(state) === sourceOf(asked) && ["index", "name", "opened"].every((it) => state.work[it] === asked.work[it]);
   return isSame && isBeginningOf(asked.work.inputs, state.work.inputs);
 }
 
 // Whether the open session is what was to be saved, as where that was asked for twice.
+/** @param {State} state */
 function isSavedAlready(state, asked) {
+  /** @param {State} state */
   const entry = state.file?.entries[state.work.opened], { index, inputs } = asked.work;
   return entry !== undefined && nameOf(state) === nameOf(asked) && entry.name === nameOf(asked) && entry.index === index && (entry.source || state.text) === sourceOf(asked) && isSameList(entry.inputs, inputs);
 }
 
 // Saves the recording as `savedAs` does, where that was asked for in an earlier state, and waited until all was played: not what came to hand meanwhile.
+/** @param {State} state */
 export function savedLater(state, asked, number) {
   if (isSameAtHand(state, asked)) return savedAs(state, number);
   return isSavedAlready(state, asked) ? state : { ...state, saved: "Not saved: another text, recording or file came meanwhile." };
 }
 
+/** @param {State} state */
 export function removed(state) {
   if (state.work.opened === null) return state;
   return withFile(state, state.file.without(state.work.opened), { work: { ...state.work, opened: null }, seen: new Map(), comparison: null, good: null });
 }
 
 // Lets the sessions that have another text follow the one at hand.
+/** @param {State} state */
 export function followed(state) {
+  /** @param {State} state */
   const numbers = state.file.entries.map((_, number) => number).filter((number) => isOther(state, number));
   const { work } = state, isOpenOther = work.opened !== null && numbers.includes(work.opened);
   const next = withFile(state, state.file.withoutSources(numbers), { seen: new Map(), work: isOpenOther ? { ...work, own: null } : work });
@@ -78,8 +96,10 @@ export function followed(state) {
 }
 
 // Another file takes the place of the one that is open, or none. Where it has one session, that is opened at once, and played while the file is.
+/** @param {State} state */
 export function withOtherFile(state, file, isUnsaved = false) {
   const work = { ...state.work, opened: null }, own = file === null ? null : theOneText(file);
+  /** @param {State} state */
   const isUntouched = state.text.trim() === "" || state.text === state.example;
   const taken = own !== null && isUntouched && work.own === null ? { text: own } : {};
   const next = { ...state, ...taken, file, work, isUnsaved, suite: null, good: null, seen: new Map(), comparison: null, isHeld: false, isNew: file !== null, tab: "sessions", told: null, saved: "", since: null };
@@ -88,9 +108,11 @@ export function withOtherFile(state, file, isUnsaved = false) {
 }
 
 // Adds recordings that were found in a text: those that aren't there yet. What was skipped beside them is told.
+/** @param {State} state */
 export function withRecordings(state, recordings, skipped = [], titles = undefined) {
   if (recordings.length > 4 * MOST_SESSIONS) throw new Refusal(`there are ${recordings.length.toLocaleString("en")} recordings: more than 65,536 sessions have no room here`);
   const one = theOneText({ entries: recordings }), isUntouched = state.text.trim() === "" || state.text === state.example;
+  /** @param {State} state */
   const text = state.file === null && isUntouched ? one ?? state.text : state.text, former = state.file ?? SessionFile.empty(RECORDINGS);
   const found = toAdd(recordings, former.entries, text, titles);
   if (former.entries.length + found.added.length > MOST_SESSIONS) throw new Refusal(`with them ${former.name} would have more than 65,536 sessions`);
@@ -108,6 +130,7 @@ function theOneText({ entries }) {
 // ---- another engine
 
 // Compares how the sessions went with the lines of another engine, as work in pieces: { name, suite, others, partings }.
+/** @param {State} state */
 export function* comparing(state, name, text) {
   const runs = runsOfNow(state), { file, suite } = state, partings = [];
   if (runs === null) throw new Refusal(`${name} has lines: open and play the sessions file first that they are of`);
@@ -134,6 +157,7 @@ function* partingOfSession(suite, number, other, count) {
 }
 
 // Takes what a comparison came to, where the sessions still stand as they were compared, and opens the first that diverges.
+/** @param {State} state */
 export function withComparison(state, { name, suite, others, partings }) {
   if (runsOfNow(state) === null || state.suite !== suite) throw new Refusal(`the sessions of ${state.file?.name ?? "the file"} were changed while ${name} was compared with them`);
   const next = { ...state, comparison: { name, others, partings }, tab: "sessions", told: null }, first = partings.findIndex((it) => it !== null);

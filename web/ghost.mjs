@@ -1,6 +1,7 @@
 // @ts-check
 // The presses that win, shown one after another by a ghost, as long as nothing else is done.
 import { ghostOf, solutionNow } from "./solving.mjs";
+/** @typedef {import("./state").State} State */
 
 const PRESS_PAUSE = 160; // milliseconds between two of its presses
 const LAST_PAUSE = 1500; // milliseconds for which the last of them is shown
@@ -14,6 +15,7 @@ export class Ghost {
     this.timer = 0;
   }
 
+  /** @param {State} state */
   begin(state) {
     this.end();
     const found = solutionNow(state);
@@ -43,6 +45,7 @@ export class Ghost {
   }
 
   // The state as it is shown now.
+  /** @param {State} state */
   seen(state) {
     const found = this.found === null ? null : solutionNow(state);
     if (found?.presses !== this.found?.presses) this.end();

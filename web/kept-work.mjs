@@ -6,6 +6,7 @@ import { lastLost, lostNow, remembering, withTexts } from "./past.mjs";
 import { MOST_INPUTS, SessionFile } from "./session-file.mjs";
 import { hasManyLists, whyNoField } from "./texts.mjs";
 import { beginning, besideField } from "./work.mjs";
+/** @typedef {import("./state").State} State */
 
 const VERSION = 2;
 const ORDERS_OF_CELLS = ["columns", "rows"];
@@ -20,6 +21,7 @@ function keptLoss(lost) {
 }
 
 // What is kept of a state: what was made by hand, and keys that wait. `isBusy` is whether something was played when it was kept.
+/** @param {State} state */
 export function keptOf({ text, order, work, queue, file, isUnsaved, past, tab, isTicked }, isBusy) {
   return { version: VERSION, kept: Date.now(), text, order, work, queue, file: keptFile(file), isUnsaved, tab, isTicked, isBusy, past: past.map(keptLoss) };
 }
@@ -92,6 +94,7 @@ function stateOfEntry({ value, note = null }, example) {
 }
 
 // What another tab left, as it can be put back.
+/** @param {State} state */
 function leftBy({ text, work, file, isUnsaved, past, example }) {
   const isWork = work.inputs.length > 0 || work.name !== "" || work.own !== null;
   const own = { ...(text === example ? {} : { text }), ...(isWork ? { work } : {}), ...(file ? { file, isUnsaved } : {}) };
@@ -117,6 +120,7 @@ function takenBeside(others, state) {
 }
 
 // A state with whose text the field may begin, and else why not: the example stands there then.
+/** @param {State} state */
 function withField(state) {
   const { text, work, example, past } = state, why = whyNoField(text), beside = why && besideField({ text, work });
   return { why, state: why === null ? state : { ...state, text: example, work: beside.work, past: lastLost([...past, ...lostNow(beside.past, past)]) } };

@@ -13,6 +13,7 @@ import { STAGE } from "./stage.mjs";
 import { chosenStage } from "./staging.mjs";
 import { stageShown } from "./stage-words.mjs";
 import { differenceOf, runsOfNow, sessionOf } from "./suite.mjs";
+/** @typedef {import("./state").State} State */
 
 export class LevelDrawn {
   constructor() {
@@ -21,14 +22,18 @@ export class LevelDrawn {
   }
 
   // The frame that is looked at, beside what it is compared with: the recorded level at the end, or another engine's frame.
+  /** @param {State} state */
   comparedWith(state) {
+    /** @param {State} state */
     const parting = state.comparison?.partings[state.work.opened] ?? null;
     if (sessionOf(state) === null || runsOfNow(state) === null || !isPlayed(state)) return null;
     if (parting === null) return differenceOf(state) && { text: differenceOf(state).recorded, caption: "recorded" };
+    /** @param {State} state */
     const other = state.comparison.others[state.work.opened].frames[shownOf(state)];
     return other === undefined ? null : { text: other.level, caption: `the other engine's frame ${shownOf(state)}`, isOfEngines: true };
   }
 
+  /** @param {State} state */
   draw(state) {
     const frame = framesOf(state)[shownOf(state)];
     at("boards").classList.toggle("stale", frame !== undefined && !isPlayed(state));
@@ -45,6 +50,7 @@ export class LevelDrawn {
   }
 
   // Takes the look of the game at hand; the labels of its cells.
+  /** @param {State} state */
   use(state) {
     const source = sourceOfFrames(state), game = gameOf(source);
     if (this.look?.source !== source) {
@@ -56,6 +62,7 @@ export class LevelDrawn {
   }
 
   // The level behind the stage that is chosen, beside nothing.
+  /** @param {State} state */
   drawStage(state) {
     const labels = this.use(state), game = gameOf(sourceOf(state)), { text, before, headings, told } = stageShown(state);
     const level = readLevel(game.levelText(text), labels, state.order), changed = before === null ? [] : differing(readLevel(game.levelText(before), labels, state.order), level) ?? [];
@@ -64,6 +71,7 @@ export class LevelDrawn {
   }
 
   // Where a session differs: what the site may decide otherwise.
+  /** @param {State} state */
   drawLikely(state) {
     const source = sourceOf(state), isDiffering = sessionOf(state) !== null && isPlayed(state) && runsOfNow(state)?.[state.work.opened].close === "differs";
     const told = isDiffering ? likelyTold({ source, game: gameOf(source), inputs: state.work.inputs, frames: framesOf(state) }) : null;
@@ -71,6 +79,7 @@ export class LevelDrawn {
   }
 
   // Where the text that is written can't be played, what the last one showed stays.
+  /** @param {State} state */
   drawRefused(state) {
     const { title } = gameOf(sourceOf(state));
     if (this.kept?.title === title && this.kept.index === state.work.index && sourceOf(state).trim() !== "") return this.drawKept();

@@ -11,7 +11,7 @@ import { MOST_INPUTS } from "./session-file.mjs";
 import { playedText } from "./ticks.mjs";
 
 /** @typedef {import("../engine/saxtegun").Engine} Engine */
-/** @typedef {{ source: string, index: number, order: "rows" | "columns", inputs: import("../engine/saxtegun").Session["inputs"], isTicked: boolean }} Asked */
+/** @typedef {import("./state").Asked} Asked */
 
 export const PLAYER = "saxtegun-player"; // the name of the workers that play for the page
 
@@ -84,10 +84,10 @@ export function actedBy(engine, { source, index, order, inputs, isTicked, from, 
 }
 
 // What wins a recording from where it ends, and the frames that this shows: { solution, frames, fault }.
-/** @type {(engine: Engine, asked: Asked) => { solution: import("../engine/saxtegun").Solution | null, frames: import("../engine/saxtegun").Frame[], fault: string | null }} */
+/** @type {(engine: Engine, asked: Asked) => { solution: import("./state").Found | null, frames: import("../engine/saxtegun").Frame[], fault: string | null }} */
 export function solutionBy(engine, { source, index, order, inputs, isTicked }) {
   if (!engine.hasSolutions) return { solution: null, frames: [], fault: "no-solutions" };
-  const played = playedText(source, isTicked), found = engine.solution({ source: played, index, inputs }), presses = /** @type {{ solved?: (0 | 1 | 2 | 3 | 4)[] } | null} */ (found.solution)?.solved;
+  const played = playedText(source, isTicked), found = engine.solution({ source: played, index, inputs }), presses = /** @type {import("./state").Found | null} */ (found.solution)?.solved;
   if (presses === undefined) return { ...found, frames: [] };
   const shown = engine.frames({ source: played, index, inputs: [...inputs, ...presses] }, { order, from: inputs.length + 1 });
   return { solution: shown.fault === null ? found.solution : null, frames: shown.frames, fault: shown.fault };

@@ -9,6 +9,7 @@ import { causeOf, framesOf, gameOf, isPlayed, shownOf, sourceOf, sourceOfFrames 
 import { clocksOf, countOfOthers, rowsOf, runWithFrames, runsOfNow, sessionOf } from "./suite.mjs";
 import { noFieldTold, shortened } from "./texts.mjs";
 import { hasClock, isRefusedForClock } from "./ticks.mjs";
+/** @typedef {import("./state").State} State */
 
 const MOST_NOTES = 50; // that are told of a game
 const MOST_OF_A_NAME_SHOWN = 2000; // letters, as its field takes: a browser takes long to lay out many more
@@ -16,26 +17,31 @@ const MOST_OF_A_NAME_SHOWN = 2000; // letters, as its field takes: a browser tak
 const upper = (text) => `${text[0].toUpperCase()}${text.slice(1)}.`;
 
 // Why the text isn't played, { sentence, line }, or null.
+/** @param {State} state */
 export function faultOfText(state) {
   const { played } = state;
   if (played === null || played.source !== state.text || played.frames.length > 0 || played.cause === null || !isPlayed(state)) return null;
   return causeOf(played.cause, played);
 }
 
+/** @param {State} state */
 function stoppedTold({ played }) {
   const { sentence } = causeOf(played.cause, played);
   return played.frames.length === 0 ? { text: `Not played: ${sentence}.`, close: "refused" } : { text: `Stopped: ${sentence}.`, close: "stopped" };
 }
 
 // Where a session began to go another way than before.
+/** @param {State} state */
 function sinceTold({ since, work }) {
   return since === null ? "" : ` It passed before; since then it goes another way from frame ${since.frame} on, ${afterTold(work.inputs, since.at)}.`;
 }
 
+/** @param {State} state */
 function sessionTold(state) {
   const { opened, inputs } = state.work, run = runsOfNow(state)?.[opened] ?? null, parting = state.comparison?.partings[opened] ?? null;
   if (run === null) return null;
   if (parting !== null) return { text: `Diverges at ${partingTold(parting, runWithFrames(state.suite, opened), state.comparison.others[opened], inputs)}.`, close: "differs" };
+  /** @param {State} state */
   const clock = state.isTicked && hasClock(sourceOf(state)) ? ` Played ${WITHOUT_CLOCK}.` : "";
   if (run.isUnsolved) return { text: `Passed: the last level is the recorded one. But it must be solved, and isn't.${clock}`, close: "failed" };
   if (run.close === "passed") return { text: `Passed: the last level is the recorded one.${clock}`, close: "passed" };
@@ -45,6 +51,7 @@ function sessionTold(state) {
 const WITHOUT_CLOCK = "without `realtime_interval`, with its ticks as recorded";
 
 // What is asked, or said, of a clock: { text, isAsked }; null where no game has one.
+/** @param {State} state */
 export function clockTold(state) {
   const { played, isTicked } = state, source = sourceOf(state);
   if (isTicked) return hasClock(source) || (state.file !== null && clocksOf(state) > 0) ? { text: `Played ${WITHOUT_CLOCK}.`, isAsked: false } : null;
@@ -84,6 +91,7 @@ export function notesTold({ notes }) {
 export const readingTold = (reading) => (reading?.isSlow ? { text: `${reading.what}: ${reading.done} of ${reading.total}.`, close: null } : null);
 
 // What stands above the level: { text, close }.
+/** @param {State} state */
 export function statusOf(state) {
   if (state.told !== null) return state.told;
   if (state.isHeld) return { text: "This is not played yet. An edit, a key or Play plays it.", close: null };
@@ -94,18 +102,22 @@ export function statusOf(state) {
 }
 
 // What is said where what is played isn't the text on the left.
+/** @param {State} state */
 export const ownTold = (state) => (state.work.own === null ? "" : "This recording has a text of its own, and is played over that: not over the text on the left.");
 
 // How what is worked on ends: { text, isSolved }. What was played before says nothing of it.
+/** @param {State} state */
 export function endTold(state) {
   const isNow = isPlayed(state), isSolved = isNow && state.played.isSolved, isShown = framesOf(state).length > 0;
   return { text: isSolved ? "\u2713 solved" : !isNow ? "not played yet" : isShown ? "not solved" : "not played", isSolved };
 }
 
+/** @param {State} state */
 const asBefore = (state) => (isPlayed(state) ? "" : "as it was played before: ");
 
 const KIND_TOLD = { start: "the start", load: "the next level", over: "play is over", restart: "begins again" };
 
+/** @param {State} state */
 export function stepTold(state) {
   const frames = framesOf(state), shown = shownOf(state), frame = frames[shown];
   if (frame === undefined) return "";
@@ -116,12 +128,14 @@ export function stepTold(state) {
 }
 
 // The name of what is worked on, as far as it is shown; no half of a letter is.
+/** @param {State} state */
 export const nameShown = ({ work: { name } }) => name.slice(0, MOST_OF_A_NAME_SHOWN).replace(/\p{Surrogate}$/u, "");
 
 // ---- the sessions
 
 export const UNSOLVED = "no longer solved"; // though it passed, and must be
 
+/** @param {State} state */
 const failuresOf = (state) => rowsOf(state).filter((row) => row.close !== null && isFailure(row) && (row.close !== "passed" || row.isUnsolved));
 
 // "2 differ", "1 stopped", or "3 did not pass" where they ended in several ways.
@@ -130,14 +144,17 @@ function failuresTold(failures) {
   return closes.length === 1 ? countOf(closes[0], failures.length) : `${failures.length} did not pass`;
 }
 
+/** @param {State} state */
 export function tabTold(state) {
   if (state.file === null) return "Sessions";
   const failures = failuresOf(state);
   return failures.length > 0 ? `Sessions: ${failuresTold(failures)}` : `Sessions (${state.file.entries.length})`;
 }
 
+/** @param {State} state */
 function suiteTold(state, runs) {
   const failures = failuresOf(state), unsolved = failures.filter(({ isUnsolved }) => isUnsolved).length, broken = failures.length - unsolved, took = `${plural(runs.length, "session")} in ${(state.suite.milliseconds / 1000).toFixed(1)} s`;
+  /** @param {State} state */
   const clocks = state.isTicked ? clocksOf(state) : 0, behind = clocks > 0 ? ` ${clocks} ${clocks === 1 ? "was" : "were"} played ${WITHOUT_CLOCK}.` : "";
   if (runs.length === 0) return { text: "The file has no session.", close: null };
   const failed = [[broken, "did not pass"], [unsolved, UNSOLVED]].filter(([count]) => count > 0).map((it) => it.join(" ")).join(", ");
@@ -146,12 +163,14 @@ function suiteTold(state, runs) {
   return countOfOthers(state) > 0 ? { text: `All passed, but not all over the text on the left: ${took}.${behind}`, close: null } : { text: `All passed: ${took}.${behind}`, close: clocks > 0 ? null : "passed" };
 }
 
+/** @param {State} state */
 function comparisonTold({ comparison: { name, partings } }) {
   const parting = partings.filter((it) => it !== null).length;
   return { text: `Compared with ${name}: ${partings.length - parting} the same, ${parting} ${parting === 1 ? "diverges" : "diverge"}.`, close: parting === 0 ? "passed" : "differs" };
 }
 
 // How the sessions closed: { text, close }.
+/** @param {State} state */
 export function verdictOf(state, doing) {
   const runs = runsOfNow(state);
   if (doing !== null) return { text: `Playing: ${doing.done} of ${plural(doing.total, "session")}`, close: null };
@@ -160,6 +179,7 @@ export function verdictOf(state, doing) {
 }
 
 // What is said of sessions that are not played over the text at hand.
+/** @param {State} state */
 export function othersTold(state) {
   const count = countOfOthers(state);
   if (count === 0) return state.file.isOverAGame ? "The sessions are played over the text on the left." : "";
@@ -167,6 +187,7 @@ export function othersTold(state) {
 }
 
 // What a level differs in from the one beside it.
+/** @param {State} state */
 export function unlikenessTold(state, ending, isOfEngines) {
   const { cells } = ending, { kind, frame } = state.comparison?.partings[state.work.opened] ?? {};
   if (isOfEngines && cells?.length === 0 && kind === "level" && frame === shownOf(state)) return "The cells are the same, and the line feeds between them are not.";
@@ -182,6 +203,7 @@ function workTold({ own = null, inputs, name }) {
   return own === null ? `the name ${shortened(name)}` : `the text of ${gameOf(own).title}, as a recording's own`;
 }
 
+/** @param {import("./state").Lost} lost */
 function lostTold({ text, work, file }) {
   const parts = [
     text !== undefined && `the text of ${gameOf(text).title}`,
@@ -191,8 +213,10 @@ function lostTold({ text, work, file }) {
   return parts.filter(Boolean).join(", ");
 }
 
+/** @param {State} state */
 export const putBackTold = ({ past }) => (past.length === 0 ? "Nothing was left out or replaced yet" : `Puts back ${lostTold(past.at(-1))}`);
 
+/** @param {State} state */
 export const toldOfLevel = (state) => {
   const frames = framesOf(state), shown = shownOf(state), won = frames.slice(0, shown + 1).filter(({ kind }) => kind === "load").length;
   return `${asBefore(state)}${gameOf(sourceOfFrames(state)).title}, ${won > 0 ? `${plural(won, "level")} won` : "the level"}, frame ${shown}`;

@@ -1,5 +1,6 @@
 // @ts-check
 // What can be put back: texts, recordings, names and sessions files that something else took the place of. The newest stands last.
+/** @typedef {import("./state").State} State */
 
 export const MOST_PAST = 60;
 const MOST_BYTES_PAST = 256 * 2 ** 20; // of texts and files that can be put back: each of them is held twice, as it is read and as it is kept
@@ -57,6 +58,7 @@ export function isReplaced(text, by) {
   return 2 * [...lines].filter((line) => left.has(line)).length < lines.size;
 }
 
+/** @param {State} before @param {State} after */
 function isTextLost(before, after) {
   if (before.text === after.text || before.text.trim() === "" || before.text === before.example) return false;
   return !after.past.some((it) => it.text === before.text);
@@ -67,6 +69,7 @@ function isWithin({ work, text }, other, textOfOther) {
   return textUnder(work, text) === textUnder(other, textOfOther) && work.index === other.index && isBeginningOf(work.inputs, other.inputs);
 }
 
+/** @param {State} before @param {State} after */
 function isRecordingLost(before, after) {
   const { work, text } = before;
   if (work.inputs.length === 0 || isWithin(before, after.work, after.text) || isInFile(after.file, after.text, textUnder(work, text), work)) return false;
@@ -90,6 +93,7 @@ function isNameLost({ work: { name } }, after) {
 // What tells one session of a file from another.
 const textOfEntry = ({ name, source, inputs, level, index, rest = [] }) => JSON.stringify([name, source, inputs, level, index, ...rest]);
 
+/** @param {State} before @param {State} after */
 function isFileLost(before, after) {
   if (before.file === null || before.file === after.file || !(before.isUnsaved || after.isUnsaved)) return false;
   const there = new Set((after.file?.entries ?? []).map(textOfEntry));
@@ -97,6 +101,7 @@ function isFileLost(before, after) {
 }
 
 // What of one state isn't there any more in the next: { text, work, file, isUnsaved }, each only where it is lost; null where nothing is.
+/** @param {State} before @param {State} after */
 export function lostIn(before, after) {
   const isFile = isFileLost(before, after), isWork = isRecordingLost(before, after) || isOwnTextLost(before, after) || isNameLost(before, after);
   const lost = {
@@ -134,9 +139,11 @@ export function lastLost(past, others = []) {
 }
 
 // What can be put back in the next state, where that has another text at hand.
+/** @param {State} before @param {State} after */
 const pastBelow = (before, after) => (before.text === after.text ? after.past : leavingText(after.past, before.text));
 
 // The next state, in which can be put back what it lost of the one before.
+/** @param {State} before @param {State} after */
 export function remembering(before, after) {
   const lost = lostIn(before, after), past = pastBelow(before, after);
   if (lost === null) return past === after.past ? after : { ...after, past };
@@ -144,6 +151,7 @@ export function remembering(before, after) {
 }
 
 // The next state where what is worked on takes the place of what is put back: that stands first then, and comes last.
+/** @param {State} before @param {State} after */
 export function behindAll(before, after) {
   const lost = lostIn(before, after);
   return lost === null ? after : { ...after, past: lastLost([...lostNow(withTexts([lost], before.text), after.past), ...after.past]) };

@@ -6,8 +6,10 @@ import { messagesAt } from "./messages.mjs";
 import { isSameList, remembering } from "./past.mjs";
 import { joined } from "./recording.mjs";
 import { refusalTold } from "./session-file.mjs";
+/** @typedef {import("./state").State} State */
 
 // The text that is played.
+/** @param {State} state */
 export const sourceOf = (state) => state.work.own ?? state.text;
 
 const MOST_GAMES = 8; // whose looks are kept
@@ -25,6 +27,7 @@ export function gameOf(source) {
 export const isPlayOf = (played, { source, index, order, isTicked }) => played !== null && played.source === source && played.index === index && played.order === order && played.isTicked === isTicked;
 
 // Whether what was played is what is worked on now.
+/** @param {State} state */
 export function isPlayed(state) {
   const { work: { index, inputs }, order, isTicked, played } = state;
   return isPlayOf(played, { source: sourceOf(state), index, order, isTicked }) && isSameList(played.inputs, inputs);
@@ -33,24 +36,30 @@ export function isPlayed(state) {
 // ---- the frames of the recording
 
 // Until what is worked on is played, they are those of what was before.
+/** @param {State} state */
 export const framesOf = (state) => state.played?.frames ?? [];
 
 // The text that these frames are of.
+/** @param {State} state */
 export const sourceOfFrames = (state) => state.played?.source ?? sourceOf(state);
 
+/** @param {State} state */
 export function shownOf(state) {
   const last = framesOf(state).length - 1;
   return Math.max(0, Math.min(last, state.looked ?? last));
 }
 
+/** @param {State} state */
 export const isAtEnd = (state) => shownOf(state) >= framesOf(state).length - 1;
 
 // How many inputs stand before what is looked at.
+/** @param {State} state */
 export const takenOf = (state) => (isAtEnd(state) ? state.work.inputs.length : framesOf(state)[shownOf(state)].at);
 
 // ---- what is played
 
 // The state with the frames of a beginning of what was played, where that is what is worked on now: nothing is to be played for it.
+/** @param {State} state */
 export function cutToPlayed(state) {
   const { work: { index, inputs }, order, isTicked, played } = state, taken = inputs.length;
   if (!isPlayOf(played, { source: sourceOf(state), index, order, isTicked }) || played.cause !== null || taken >= played.inputs.length || !isSameList(played.inputs.slice(0, taken), inputs)) return state;
@@ -59,6 +68,7 @@ export function cutToPlayed(state) {
 }
 
 // What the engine is wanted to play: all of the recording, or one more input behind what is looked at. Null where nothing is.
+/** @param {State} state */
 export function wantedPlay(state) {
   if (state.isHeld) return null;
   const { work: { index, inputs }, order, isTicked, queue } = state, source = sourceOf(state);
@@ -71,6 +81,7 @@ export function wantedPlay(state) {
 const isSamePlay = (one, other) => isPlayOf(one, other) && one.from === other.from && one.isKey === other.isKey && isSameList(one.inputs, other.inputs);
 
 // Whether an answer to this is still of use.
+/** @param {State} state */
 export const isWanted = (state, asked) => {
   const wanted = wantedPlay(state);
   return wanted !== null && isSamePlay(wanted, asked);
@@ -87,8 +98,10 @@ export function causeOf(cause, { source, inputs, frames }) {
 }
 
 // The keys that wait behind one that was left out: where they were pressed.
+/** @type {(queue: import("./state").Key[]) => import("./state").Key[]} */
 const leftOut = ([{ behind }, next, ...rest]) => (next === undefined ? [] : [{ ...next, behind: next.behind ?? behind }, ...rest]);
 
+/** @param {State} state */
 function answeredKey(state, asked, { frames: more, cause, isSolved }) {
   const [key, ...waiting] = state.queue, frames = joined(state.played.frames, asked.from, more);
   if (cause !== null) {
@@ -102,11 +115,13 @@ function answeredKey(state, asked, { frames: more, cause, isSolved }) {
   const queue = messages.length > 0 ? [] : waiting;
   const told = isSolved ? "Solved: all levels are won." : isNext ? "The next level." : null;
   // who went to another frame since the key was pressed looks at that
+  /** @param {State} state */
   const looked = state.looked === key.looked ? null : state.looked;
   return remembering(state, { ...state, queue, work, looked, messages, played: { ...asked, frames, cause, isSolved }, told: told && { text: told, close: null } });
 }
 
 // Takes the answer of the engine to what was wanted.
+/** @param {State} state */
 export function answered(state, asked, answer) {
   if (!isWanted(state, asked)) return state;
   if (asked.isKey) return answeredKey(state, asked, answer);

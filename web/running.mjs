@@ -15,6 +15,7 @@ export class Runner {
   // draw(state, doing, isBusy, isKey) shows what there is, and keep(state, isPlaying, isKey) keeps it, where `isPlaying` is whether something is played that isn't over
   // in a moment, and `isKey` whether a key led to it.
   constructor(state, { engine, draw, keep, pause = TYPING_PAUSE }) {
+    /** @type {import("./state").State} */
     this.state = state;
     this.engine = engine;
     this.draw = draw;
@@ -29,6 +30,7 @@ export class Runner {
   }
 
   // Takes the state to its next, by a function; by that of a key, or of what it led to, where that is told.
+  /** @type {(act: (state: import("./state").State) => import("./state").State, isKey?: boolean) => void} */
   update(act, isKey = false) {
     this.state = seeing(act(this.state));
     this.ask();

@@ -233,6 +233,7 @@ export class SessionFile {
     }
     if (!Array.isArray(values)) throw new Refusal(`${name} is no JSON list of sessions`);
     try {
+      /** @type {Entry[]} */
       this.entries = values.map(entryOf);
     } catch (error) {
       throw error instanceof Refusal ? new Refusal(`${name}, ${error.message}`) : error;

@@ -7,42 +7,52 @@ import { framesOf, gameOf, isPlayOf, isPlayed, sourceOf, takenOf } from "./repla
 import { refusalTold } from "./session-file.mjs";
 import { hasClock } from "./ticks.mjs";
 import { withWork } from "./work.mjs";
+/** @typedef {import("./state").State} State */
 
 const PRESSES = ["up", "left", "down", "right", "action"];
 
 const pressesTold = (count) => (count === 1 ? "1 press" : `${count} presses`);
 
+/** @param {State} state */
 const withSolving = (state, solving) => ({ ...state, solving, told: null });
 
 // Whether there is a frame from which a solution can be looked for.
+/** @param {State} state */
 export const isSolvable = (state) => isPlayed(state) && framesOf(state).length > 0 && state.played.cause === null;
 
 // Asks what wins from the frame that is looked at.
+/** @param {State} state */
 export function solveAsked(state) {
   if (!isSolvable(state)) return state;
   const { work: { index, inputs }, order, isTicked } = state, source = sourceOf(state);
   return withSolving(state, { asked: { source, index, order, isTicked, inputs: inputs.slice(0, takenOf(state)) }, came: null });
 }
 
+/** @param {State} state */
 export const solveStopped = (state) => withSolving(state, { asked: null, came: null });
 
 // What was asked, as long as the recording still begins so; or null.
+/** @param {State} state */
 function askedNow({ solving: { asked }, work, order, isTicked, text }) {
   if (asked === null) return null;
   const isSame = isPlayOf(asked, { source: work.own ?? text, index: work.index, order, isTicked });
   return isSame && isSameList(work.inputs.slice(0, asked.inputs.length), asked.inputs) ? asked : null;
 }
 
+/** @param {State} state */
 export const wantedSolution = (state) => (state.solving.came === null ? askedNow(state) : null);
 
+/** @param {State} state */
 export const isSolutionWanted = (state, asked) => wantedSolution(state) === asked;
 
+/** @param {State} state */
 export const solutionCame = (state, asked, answer) => (isSolutionWanted(state, asked) ? { ...state, solving: { asked, came: answer } } : state);
 
 // The word of the game that switches off a key which some of these presses is, or undefined: the site takes no such key.
 const switchedOff = (source, presses) => presses.map((it) => gameOf(source).switches.get(it)).find((word) => word !== undefined);
 
 // The presses that win, and what they show: { asked, presses, frames }; or null.
+/** @param {State} state */
 export function solutionNow(state) {
   const asked = askedNow(state), { came } = state.solving, presses = came?.solution?.solved;
   return asked === null || presses === undefined || switchedOff(asked.source, presses) ? null : { asked, presses, frames: came.frames };
@@ -52,6 +62,7 @@ export function solutionNow(state) {
 const ticksTold = ({ source, isTicked }) => (isTicked && hasClock(source) ? " Its ticks are not tried." : "");
 
 // What is said of the search.
+/** @param {State} state */
 export function solutionTold(state) {
   const asked = askedNow(state), { came } = state.solving;
   if (asked === null) return "";
@@ -68,12 +79,14 @@ export function solutionTold(state) {
 }
 
 // Puts the presses that win behind those from which they were looked for.
+/** @param {State} state */
 export function solutionTaken(state) {
   const found = solutionNow(state);
   return found === null ? state : withWork(state, { ...state.work, inputs: [...found.asked.inputs, ...found.presses] });
 }
 
 // The state as it would be behind so many of the presses that win: what a ghost shows.
+/** @param {State} state */
 export function ghostOf(state, count) {
   const { asked, presses, frames } = solutionNow(state), before = framesOf(state).slice(0, firstFrom(framesOf(state), asked.inputs.length + 1));
   const all = [...before, ...frames], inputs = [...asked.inputs, ...presses];

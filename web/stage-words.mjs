@@ -5,6 +5,7 @@ import { inputTold } from "./faults.mjs";
 import { refusalTold } from "./session-file.mjs";
 import { chosenStage, coverageOf, inputsOfLine, isComplete, levelsAround, lineNow, linesNeverActed, stagesNow } from "./staging.mjs";
 import { shortened } from "./texts.mjs";
+/** @typedef {import("./state").State} State */
 
 const MOST_HEADINGS = 12; // that are told in words,
 const MOST_RANGES = 100; // and ranges of lines: a group may have many thousand, and stand in each stage of a list
@@ -44,6 +45,7 @@ export function headingsTold({ headings = [] }) {
 }
 
 // The stage that is chosen, as its level is shown: { text, before, headings, told }.
+/** @param {State} state */
 export function stageShown(state) {
   const number = chosenStage(state), stage = stagesNow(state).stages[number];
   return { ...levelsAround(state, number), headings: stage.headings ?? [], told: `behind ${stageTold(stage)}` };
@@ -55,6 +57,7 @@ export const inputCalled = (inputs, taken) => (taken === 0 ? "the start" : `inpu
 const faultTold = (fault) => (fault === "no-stages" ? "The engine in this page gives no stages." : `The engine gave no stages: ${refusalTold(fault)}.`);
 
 // What stands above the stages.
+/** @param {State} state */
 export function stagesTold(state) {
   const came = stagesNow(state);
   if (came === null) return "";
@@ -64,14 +67,17 @@ export function stagesTold(state) {
 }
 
 // What is said of lines that never acted: those of the text on the left are grey.
+/** @param {State} state */
 function neverTold(state) {
   const never = linesNeverActed(state);
   if (never.length === 0) return "Each line of rules acted, by itself or with its group or loop.";
+  /** @param {State} state */
   const where = state.work.own === null ? "(grey)" : `in this recording's own text: ${rangesTold(never)}`;
   return `${plural(never.length, "line")} of rules never acted ${where}.`;
 }
 
 // What is said of the inputs that are looked through.
+/** @param {State} state */
 export function coverageTold(state) {
   const { isCovered, fault, isStopped } = state.staging, line = lineNow(state), coverage = coverageOf(state);
   if (!isCovered && line === null) return "";

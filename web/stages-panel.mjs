@@ -5,6 +5,7 @@ import { windowAround } from "./recording.mjs";
 import { say } from "./saying.mjs";
 import { coverageTold, headingsTold, inputCalled, stageTold, stagesTold } from "./stage-words.mjs";
 import { chosenStage, coverageOf, inputsOfLine, lineNow, linesMarked, stagesNow } from "./staging.mjs";
+/** @typedef {import("./state").State} State */
 
 const MOST_STAGES = 240; // that are listed at once,
 const MOST_INPUTS_LISTED = 240; // and inputs of a line
@@ -15,6 +16,7 @@ export class StagesPanel {
     this.act = act;
   }
 
+  /** @param {State} state */
   draw(state) {
     at("stages-panel").open = state.staging.isOpen;
     say("stages-told", stagesTold(state));
@@ -46,6 +48,7 @@ export class StagesPanel {
     return button;
   }
 
+  /** @param {State} state */
   drawInputs(state) {
     const inputs = lineNow(state) === null ? [] : inputsOfLine(state), more = inputs.length - MOST_INPUTS_LISTED;
     const items = inputs.slice(0, MOST_INPUTS_LISTED).map((input) => {
@@ -58,6 +61,7 @@ export class StagesPanel {
   }
 
   // Draws which lines acted, in the text as well, and how far the inputs are looked through.
+  /** @param {State} state */
   drawActed(state, doing, panel) {
     const { lit, never } = linesMarked(state), { done, total } = coverageOf(state), isDone = doing === null;
     panel.light(lit, never);

@@ -6,26 +6,33 @@ import { isSameList } from "./past.mjs";
 import { firstFrom } from "./recording.mjs";
 import { framesOf, isAtEnd, isPlayOf, isPlayed, shownOf, sourceOf, wantedPlay } from "./replaying.mjs";
 import { lookedAtInput } from "./work.mjs";
+/** @typedef {import("./state").State} State */
 
+/** @param {State} state */
 const withStaging = (state, more) => ({ ...state, staging: { ...state.staging, ...more } });
 
 // What is played: its source, entry of LEVELS, and order.
+/** @param {State} state */
 const gameAsked = (state) => ({ source: sourceOf(state), index: state.work.index, order: state.order, isTicked: state.isTicked });
 
 // Whether the engine may be asked about what is played.
+/** @param {State} state */
 const isAskable = (state) => state.staging.isOpen && !state.isHeld && isPlayed(state) && wantedPlay(state) === null;
 
+/** @param {State} state */
 export const opened = (state, isOpen) => (isOpen === state.staging.isOpen ? state : withStaging(state, { isOpen, isStopped: false, fault: null }));
 
 // ---- the stages
 
 // The inputs, 0 for the start, that led to the frame that is looked at; at the end also the one at which the game stopped.
+/** @param {State} state */
 function inputsLookedAt(state) {
   const frame = framesOf(state)[shownOf(state)];
   if (frame === undefined) return [0];
   return isAtEnd(state) && state.played.cause !== null && frame.at < state.work.inputs.length ? [frame.at, frame.at + 1] : [frame.at];
 }
 
+/** @param {State} state */
 function stagesAsked(state) {
   const numbers = inputsLookedAt(state);
   return { ...gameAsked(state), numbers, inputs: state.work.inputs.slice(0, numbers.at(-1)) };
@@ -34,21 +41,26 @@ function stagesAsked(state) {
 const isSameAsked = (one, other) => isPlayOf(one, other) && isSameList(one.numbers, other.numbers) && isSameList(one.inputs, other.inputs);
 
 // The stages of what is looked at, { wanted, stages, fault }, or null where they didn't come.
+/** @param {State} state */
 export function stagesNow(state) {
   const { isOpen, came } = state.staging;
   return isOpen && came !== null && isPlayed(state) && isSameAsked(came.wanted, stagesAsked(state)) ? came : null;
 }
 
+/** @param {State} state */
 export const wantedStages = (state) => (isAskable(state) && stagesNow(state) === null ? stagesAsked(state) : null);
 
+/** @param {State} state */
 export function isStagesWanted(state, asked) {
   const wanted = wantedStages(state);
   return wanted !== null && isSameAsked(wanted, asked);
 }
 
+/** @param {State} state */
 const choice = (state, came, number) => ({ came, looked: state.looked, number });
 
 // Takes the stages that were wanted. Where a line is sought, the stage in which it acted is chosen.
+/** @param {State} state */
 export function stagesCame(state, wanted, { stages = [], fault }) {
   if (!isStagesWanted(state, wanted)) return state;
   const came = { wanted, stages, fault }, { sought } = state.staging, found = stages.findIndex(({ lines }) => lines?.includes(sought));
@@ -56,12 +68,14 @@ export function stagesCame(state, wanted, { stages = [], fault }) {
 }
 
 // The number of the stage that is chosen, or null.
+/** @param {State} state */
 export function chosenStage(state) {
   const { chosen } = state.staging;
   return chosen !== null && chosen.looked === state.looked && chosen.came === stagesNow(state) ? chosen.number : null;
 }
 
 // Chooses a stage; before the first one there is the frame that is looked at.
+/** @param {State} state */
 export function stageChosen(state, number) {
   const came = stagesNow(state);
   if (came === null) return state;
@@ -70,9 +84,11 @@ export function stageChosen(state, number) {
 }
 
 // Goes so many stages on. Where their list is not open yet, that is all that is done.
+/** @param {State} state */
 export const stageStepped = (state, count) => (state.staging.isOpen ? stageChosen(state, (chosenStage(state) ?? -1) + count) : opened(state, true));
 
 // The level texts behind a stage and before it, null where there is none.
+/** @param {State} state */
 export function levelsAround(state, number) {
   const { wanted, stages } = stagesNow(state), before = framesOf(state)[firstFrom(framesOf(state), wanted.numbers[0]) - 1]?.level ?? null;
   const levels = stages.slice(0, number + 1).flatMap(({ level }) => (level === undefined ? [] : [level]));
@@ -83,12 +99,14 @@ export function levelsAround(state, number) {
 // ---- in which inputs the rules of a line acted
 
 // How many inputs are looked through, with the start as one: those that were played, and the one at which the game stopped.
+/** @param {State} state */
 function countOfInputs({ played, work: { inputs } }) {
   const last = played.frames.at(-1)?.at ?? -1;
   return Math.min(inputs.length, last + (played.cause === null ? 0 : 1)) + 1;
 }
 
 // The lines that acted, input by input, as far as they are known.
+/** @param {State} state */
 export function actedLines(state) {
   const { acted } = state.staging, { inputs } = state.work;
   if (!isPlayOf(acted, gameAsked(state))) return [];
@@ -98,6 +116,7 @@ export function actedLines(state) {
 }
 
 // How many of how many inputs are looked through: { done, total }.
+/** @param {State} state */
 export function coverageOf(state) {
   const total = isPlayed(state) ? countOfInputs(state) : 0;
   return { done: Math.min(total, actedLines(state).length), total };
@@ -109,24 +128,28 @@ export const isComplete = ({ done, total }) => total > 0 && done === total;
 const ruleLinesOf = (source) => descriptionOf(source).rules.filter(({ words }) => words.includes("->")).map(({ line }) => line);
 
 // The line that is asked about, or null.
+/** @param {State} state */
 export function lineNow(state) {
   const { isOpen, line } = state.staging;
   const isThere = isOpen && state.work.own === null && line !== null && line.source === state.text && isPlayed(state);
   return isThere && ruleLinesOf(line.source).includes(line.number) ? line.number : null;
 }
 
+/** @param {State} state */
 export function wantedCoverage(state) {
   const { isCovered, isStopped, fault } = state.staging, { done, total } = coverageOf(state);
   if (!isAskable(state) || isStopped || fault !== null || (!isCovered && lineNow(state) === null) || done === total || wantedStages(state) !== null) return null;
   return { ...gameAsked(state), inputs: state.work.inputs, from: done, count: total };
 }
 
+/** @param {State} state */
 export function isCoverageWanted(state, asked) {
   const wanted = wantedCoverage(state);
   return wanted !== null && isPlayOf(wanted, asked) && wanted.from === asked.from && wanted.count === asked.count && isSameList(wanted.inputs, asked.inputs);
 }
 
 // Takes the lines that acted in more inputs.
+/** @param {State} state */
 export function coverageCame(state, wanted, { lines = [], fault }) {
   if (!isCoverageWanted(state, wanted)) return state;
   const { source, index, order, isTicked, inputs } = wanted;
@@ -135,11 +158,14 @@ export function coverageCame(state, wanted, { lines = [], fault }) {
 
 const ASKED = { isStopped: false, fault: null };
 
+/** @param {State} state */
 export const covered = (state) => withStaging(state, { isCovered: !state.staging.isCovered, ...ASKED });
 
+/** @param {State} state */
 export const coverageStopped = (state) => withStaging(state, { isStopped: true });
 
 // Asks where the rule on a line acted; on another line nothing is asked. While the text isn't played, it isn't looked whether there is a rule.
+/** @param {State} state */
 export function linePointedAt(state, number) {
   if (!state.staging.isOpen || state.work.own !== null || number === lineNow(state)) return state;
   const line = !isPlayed(state) || ruleLinesOf(state.text).includes(number) ? { source: state.text, number } : null;
@@ -147,15 +173,18 @@ export function linePointedAt(state, number) {
 }
 
 // The inputs in which the line acted that is asked about.
+/** @param {State} state */
 export function inputsOfLine(state) {
   const line = lineNow(state);
   return actedLines(state).flatMap((lines, input) => (lines.includes(line) ? [input] : []));
 }
 
 // Goes to an input in which the line acted.
+/** @param {State} state */
 export const lookedAtActed = (state, input) => withStaging(lookedAtInput(state, input), { came: null, sought: lineNow(state) });
 
 // The lines of rules that never acted, once it is asked for them and all inputs are looked through.
+/** @param {State} state */
 export function linesNeverActed(state) {
   const { isOpen, isCovered } = state.staging;
   if (!isOpen || !isCovered || !isComplete(coverageOf(state))) return [];
@@ -164,6 +193,7 @@ export function linesNeverActed(state) {
 }
 
 // The lines that are marked in the text on the left, where it is what is played: those of the stage that is chosen, and those that never acted.
+/** @param {State} state */
 export function linesMarked(state) {
   const number = chosenStage(state);
   if (state.work.own !== null) return { lit: [], never: [] };

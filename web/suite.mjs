@@ -9,6 +9,7 @@ import { MOST_INPUTS, Refusal, SessionFile, isSolvedWanted, refusalTold } from "
 import { isFailure } from "./session-list.mjs";
 import { Clocks, hasClock, isRefusedForClock, playedText } from "./ticks.mjs";
 import { withWork } from "./work.mjs";
+/** @typedef {import("./state").State} State */
 
 // ---- how all sessions closed
 
@@ -16,12 +17,14 @@ import { withWork } from "./work.mjs";
 const isOfNow = (suite, { file, text, order, isTicked }) => suite !== null && suite.file === file && suite.order === order && suite.isTicked === isTicked && (suite.text === text || !file.isOverAGame);
 
 // What is wanted of the engine for the sessions of the file, or null.
+/** @param {State} state */
 export function wantedSuite(state) {
   const { file, text, order, isTicked, suite, isHeld } = state;
   return file === null || isHeld || isOfNow(suite, state) ? null : { file, text, order, isTicked };
 }
 
 // How the sessions closed, or null where they aren't played as they stand.
+/** @param {State} state */
 export const runsOfNow = (state) => (state.file !== null && isOfNow(state.suite, state) ? state.suite.runs : null);
 
 let lastRun = { of: null }; // the run whose frames were asked for last: what is told of it is told at each draw
@@ -33,6 +36,7 @@ export function runWithFrames({ lines, runs }, number) {
 }
 
 // Whether a session has a text of its own that isn't the one at hand.
+/** @param {State} state */
 export const isOther = (state, number) => ![ "", state.text ].includes(state.file.entries[number].source);
 
 const CLOCKS_OF = new WeakMap(); // for each file what is known of the texts of its sessions
@@ -43,6 +47,7 @@ function clocksIn(file) {
 }
 
 // Tells of a text of a session whether it has a clock. Those that the file has are read before it is played; the one at hand changes with each letter.
+/** @param {State} state */
 const clockOf = ({ file, text }) => (source) => (file === null || source === text ? hasClock(source) : clocksIn(file).isThere(source));
 
 // Files of the sessions as the engine is to play them, or null where that was stopped. Each of their texts is read for its clock before.
@@ -66,22 +71,26 @@ export async function unsolvedIn({ name, entries }, lines, play) {
 const bodyWithOneMore = ({ source, inputs, level, index }) => [source, [...inputs, ONE_MORE], level, index];
 
 // How many sessions are refused since their games have a clock, or are played without it.
+/** @param {State} state */
 export function clocksOf(state) {
   if (state.isTicked) return rowsOf(state).filter((row) => row.isTicked).length;
   const isWithClock = clockOf(state);
   return (runsOfNow(state) ?? []).filter(({ cause }, number) => isRefusedForClock(state.file.entries[number].source || state.text, cause, isWithClock)).length;
 }
 
+/** @param {State} state */
 export const countOfOthers = (state) => (state.file?.entries ?? []).filter((_, number) => isOther(state, number)).length;
 
 const LISTED_ROWS = new WeakMap(); // what is listed in a state, which never changes
 
 // What is listed of each session.
+/** @param {State} state */
 export function rowsOf(state) {
   if (!LISTED_ROWS.has(state)) LISTED_ROWS.set(state, madeRows(state));
   return LISTED_ROWS.get(state);
 }
 
+/** @param {State} state */
 function madeRows(state) {
   const runs = runsOfNow(state), { partings = null } = state.comparison ?? {}, isWithClock = clockOf(state);
   return (state.file?.entries ?? []).map(({ name, source }, number) => ({
@@ -114,6 +123,7 @@ function partingKnown(...runs) {
 }
 
 // Whether what is worked on may make way for a session: it is nothing, or stands in the file.
+/** @param {State} state */
 function mayMakeWay(state) {
   const { work, file } = state;
   if (work.opened !== null) return isSessionOpen(state);
@@ -121,12 +131,14 @@ function mayMakeWay(state) {
 }
 
 // Whether a session was opened, and something was done with it since.
+/** @param {State} state */
 const isGoneOnWith = (state) => state.work.opened !== null && (!isSessionOpen(state) || state.queue.length > 0);
 
 const isBroken = ({ close, isUnsolved }) => close === "differs" || close === "stopped" || isUnsolved;
 
 // Opens what is to be looked at once all is played: of a file that was just opened the first failure, unless its one session was opened at once and gone on
 // with; and else the first that broke.
+/** @param {State} state */
 function showingFailure(state) {
   const { isNew, work, suite } = state, next = { ...state, isNew: false };
   if (isNew) return suite.runs.length === 0 || isGoneOnWith(next) ? next : sessionOpened(next, Math.max(0, rowsOf(next).findIndex(isFailure)));
@@ -136,6 +148,7 @@ function showingFailure(state) {
 }
 
 // Takes what the sessions came to: { fault, lines, unsolved }, in so many milliseconds, or null where it was stopped.
+/** @param {State} state */
 export function suiteCame(state, { file, text, order, isTicked }, answer, milliseconds) {
   if (wantedSuite(state) === null || !isOfNow({ file, text, order, isTicked }, state)) return state;
   const why = answer === null ? "Stopped: not all sessions were played." : answer.fault === null ? null : `${file.name} is not played: ${refusalTold(answer.fault)}.`;
@@ -149,18 +162,22 @@ export function suiteCame(state, { file, text, order, isTicked }, answer, millis
 const isNoWorse = (good, { runs }) => good === null || good.runs.every((run, number) => !isGood(run) || isGood(runs[number]));
 
 // Plays all sessions again, and shows the first that doesn't pass.
+/** @param {State} state */
 export const playedAgain = (state) => ({ ...state, suite: null, isHeld: false, isNew: state.file !== null, saved: "", told: null });
 
 // ---- the session that is open
 
 // Whether what is worked on is the session that is open, as the file has it.
+/** @param {State} state */
 export function isSessionOpen(state) {
   const { work, file, text } = state, entry = work.opened === null ? undefined : file?.entries[work.opened];
   return entry !== undefined && (entry.source || text) === sourceOf(state) && entry.index === work.index && isSameList(entry.inputs, work.inputs);
 }
 
+/** @param {State} state */
 export const sessionOf = (state) => (isSessionOpen(state) ? state.file.entries[state.work.opened] : null);
 
+/** @param {State} state */
 export function sessionOpened(state, number) {
   const { name, source, inputs, index } = state.file.entries[number], parting = state.comparison?.partings[number] ?? null;
   const work = { own: source === "" || source === state.text ? null : source, index, inputs, name, opened: number };
@@ -179,6 +196,7 @@ function obstacleOf(game, run, reached, recorded, order) {
 
 // What the session that is open reached beside what was recorded: { reached, recorded, isSolved, why }, where both are on the screen and differ; `why` says
 // what stands against accepting it. Else null.
+/** @param {State} state */
 export function differenceOf(state) {
   const entry = sessionOf(state), run = entry === null ? null : runsOfNow(state)?.[state.work.opened] ?? null;
   if (run === null || run.close !== "differs" || !isPlayed(state) || !isAtEnd(state) || (state.comparison?.partings[state.work.opened] ?? null) !== null) return null;
@@ -188,6 +206,7 @@ export function differenceOf(state) {
 }
 
 // The state where what is on the screen counts as seen.
+/** @param {State} state */
 export function seeing(state) {
   const difference = differenceOf(state), { opened } = state.work;
   if (difference === null || state.seen.get(opened)?.reached === difference.reached) return state;
@@ -195,9 +214,12 @@ export function seeing(state) {
 }
 
 // Whether a session was seen as it differs now.
+/** @param {State} state */
 export function isSeen(state, number) {
+  /** @param {State} state */
   const seen = state.seen.get(number);
   return seen !== undefined && runsOfNow(state)?.[number].close === "differs" && state.file.entries[number].level === seen.recorded;
 }
 
+/** @param {State} state */
 export const seenOf = (state) => [...state.seen.keys()].filter((number) => isSeen(state, number) && state.seen.get(number).why === null).sort((one, other) => one - other);

@@ -8,6 +8,7 @@ import { firstFrom } from "./recording.mjs";
 import { cutToPlayed, framesOf, gameOf, isAtEnd, isPlayed, sourceOf, takenOf } from "./replaying.mjs";
 import { MOST_INPUTS } from "./session-file.mjs";
 import { noFieldTold, whyNoField } from "./texts.mjs";
+/** @typedef {import("./state").State} State */
 
 export const RECORDED_ORDER = "columns"; // the one of the published level texts, in which `saxtegun test` plays
 
@@ -27,6 +28,7 @@ const UNSTAGED = {
   acted: null, // the lines that acted, input by input: { source, index, order, isTicked, inputs, lines }
 };
 
+/** @type {(example: string) => State} */
 export function beginning(example) {
   return {
     example, // the text of the example
@@ -62,22 +64,27 @@ const AFRESH = { seen: new Map(), isHeld: false, comparison: null, messages: [],
 // ---- the recording
 
 // Goes to a frame.
+/** @param {State} state */
 export function lookedAt(state, frame) {
   const last = Math.max(0, framesOf(state).length - 1), number = Math.max(0, Math.min(last, frame));
   return { ...state, looked: number === last ? null : number, messages: [], told: null };
 }
 
 // Goes to what so many inputs led to: the last frame of these.
+/** @param {State} state */
 export const lookedAtInput = (state, taken) => lookedAt(state, firstFrom(framesOf(state), taken + 1) - 1);
 
 // Ends what is being played: it is played again where that is asked for.
+/** @param {State} state */
 export const held = (state) => ({ ...state, isHeld: true, queue: [], told: null });
 
+/** @param {State} state */
 export const released = (state) => ({ ...state, isHeld: false, told: null });
 
 export const ACTION = 4;
 
 // Takes a key, which is played behind the frame that is looked at. Before a message only the action does something: it goes on behind that.
+/** @param {State} state */
 export function pressed(state, input) {
   if (state.messages.length > 0) return input === ACTION ? { ...state, messages: state.messages.slice(1) } : state;
   const { queue, looked } = state, last = queue.at(-1);
@@ -90,23 +97,28 @@ export function pressed(state, input) {
 }
 
 // The state with something else worked on.
+/** @param {State} state */
 export function withWork(state, work, more = {}) {
   return remembering(state, { ...state, work, looked: null, queue: [], messages: [], told: null, saved: "", since: null, ...more });
 }
 
 // Leaves out all inputs behind the frame that is looked at, or the last one where that is looked at; a key that isn't played yet is the last.
+/** @param {State} state */
 export function cutBack(state) {
   const { inputs } = state.work;
   if (state.queue.length > 0) return { ...state, queue: state.queue.slice(0, -1) };
   return inputs.length === 0 ? state : cutToPlayed(withWork(state, { ...state.work, inputs: inputs.slice(0, isAtEnd(state) ? -1 : takenOf(state)) }));
 }
 
+/** @param {State} state */
 export const named = (state, name) => ({ ...state, work: { ...state.work, name } });
 
+/** @param {State} state */
 export const begunAnew = (state) => withWork(state, { ...state.work, inputs: [], name: "", opened: null });
 
 const messagesAtStart = ({ own, index }, text) => messagesAt(own ?? text, index, 0);
 
+/** @param {State} state */
 export function fromLevel(state, index) {
   const work = { ...state.work, index, inputs: [], name: "", opened: null };
   return withWork(state, work, { messages: messagesAtStart(work, state.text) });
@@ -115,24 +127,28 @@ export function fromLevel(state, index) {
 // ---- the text at hand
 
 // The recording as it goes on over the text at hand: one of a text of its own is no session of the file then.
+/** @param {State} state */
 function overText(state) {
   const { work, file } = state, entry = work.opened === null ? null : file.entries[work.opened];
   return entry !== null && entry.source !== "" ? { ...work, own: null, opened: null } : { ...work, own: null };
 }
 
 // Takes what is typed. The browser's own undo leads back; where little is left of the text, as where another is pasted in its place, so does Put back.
+/** @param {State} state */
 export function edited(state, text) {
   if (text === state.text) return state;
   return remembering(isReplaced(state.text, text) ? state : { ...state, text }, { ...state, text, work: overText(state), looked: null, queue: [], ...AFRESH });
 }
 
 // Takes another game.
+/** @param {State} state */
 export function withGame(state, text) {
   const work = workOn(text);
   return withWork(state, work, { ...AFRESH, text, tab: "game", messages: messagesAtStart(work, text) });
 }
 
 // Takes the text of the session that is open to hand.
+/** @param {State} state */
 export function withOwnText(state) {
   const { own } = state.work, why = own === null ? null : whyNoField(own);
   if (why !== null) return { ...state, told: { text: `Its text ${why}, and stays where it is.`, close: null } };
@@ -140,8 +156,10 @@ export function withOwnText(state) {
 }
 
 // Plays games with a clock without it, or refuses them again.
+/** @param {State} state */
 export const ticked = (state, isTicked) => ({ ...state, ...AFRESH, isTicked, looked: null, queue: [] });
 
+/** @param {State} state */
 export const inOrder = (state, order) => ({ ...state, ...AFRESH, order, looked: null, queue: [] });
 
 // ---- what is put back
@@ -155,16 +173,20 @@ function stillOpened(work, file, text) {
 
 // What is there of a text and its recording where the text isn't put into the field: the recording has it as its own, unless it has another one as that; then
 // the text alone can be put back. Where there is no recording, it is one that has nothing in it yet.
+/** @type {(lost: import("./state").Lost) => import("./state").Lost & { past: import("./state").Lost[] }} */
 export function besideField({ text, work = workOn(text), ...more }) {
   return work.own === null ? { ...more, work: { ...work, own: text, opened: null }, past: [] } : { ...more, work, past: [{ text }] };
 }
 
 // Puts back what was lost last.
+/** @param {State} state */
 export function putBack(state) {
+  /** @param {State} state */
   const last = state.past.at(-1);
   if (last === undefined) return state;
   const why = last.text === undefined ? null : whyNoField(last.text), { past, ...lost } = why === null ? { ...last, past: [] } : besideField(last);
   const { text = state.text, work = state.work, file = state.file, isUnsaved = state.isUnsaved } = lost;
+  /** @param {State} state */
   const below = state.past.slice(0, -1), open = { ...work, opened: stillOpened(work, file, text) }, told = why && { text: noFieldTold("The text that was put back", why), close: null };
   const next = { ...state, text, work: open, file, isUnsaved, past: [...(why === null ? below : leavingText(below, last.text)), ...lostNow(past, state.past)], looked: null, queue: [], ...AFRESH, told };
   return behindAll(state, next);
