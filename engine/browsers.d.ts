@@ -18,4 +18,4 @@ declare function postMessage(message: unknown, moved: Transferable[]): void;
 
 interface DecompressionStream extends GenericTransformStream {}
 
-declare var DecompressionStream: { prototype: DecompressionStream; new (format: 'deflate' | 'deflate-raw' | 'gzip'): DecompressionStream };
+declare var DecompressionStream: { prototype: DecompressionStream; new (format: "deflate" | "deflate-raw" | "gzip"): DecompressionStream };

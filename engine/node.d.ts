@@ -21,7 +21,7 @@ interface Buffer extends Uint8Array {
   toString(coding?: string): string;
 }
 
-declare module 'node:fs' {
+declare module "node:fs" {
   type Place = string | URL;
   export function closeSync(file: number): void;
   export function existsSync(path: Place): boolean;
@@ -34,19 +34,19 @@ declare module 'node:fs' {
   export function writeSync(file: number, bytes: Uint8Array, from?: number): number;
 }
 
-declare module 'node:fs/promises' {
+declare module "node:fs/promises" {
   export function readFile(path: string | URL): Promise<Buffer>;
 }
 
-declare module 'node:readline' {
+declare module "node:readline" {
   export function createInterface(options: { input: unknown; crlfDelay?: number }): AsyncIterable<string>;
 }
 
-declare module 'node:url' {
+declare module "node:url" {
   export function pathToFileURL(path: string): URL;
 }
 
-declare module 'node:worker_threads' {
+declare module "node:worker_threads" {
   export const workerData: unknown;
   export const parentPort: { on(name: string, act: (message: any) => void): void; postMessage(message: unknown, moved?: readonly ArrayBuffer[]): void } | null;
   export class Worker {

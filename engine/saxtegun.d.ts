@@ -17,7 +17,7 @@ export interface Answer {
 
 export interface Options {
   /** The order of the cells of a level; `columns` where it is left out. */
-  order?: 'rows' | 'columns';
+  order?: "rows" | "columns";
 }
 
 export interface StageOptions extends Options {
@@ -28,7 +28,7 @@ export interface StageOptions extends Options {
 /** One session, as the elements of an entry of docs/sessions.md. */
 export interface Session {
   source: string;
-  inputs: (0 | 1 | 2 | 3 | 4 | 'undo' | 'restart' | 'tick')[];
+  inputs: (0 | 1 | 2 | 3 | 4 | "undo" | "restart" | "tick")[];
   /** The level text where the session ended when it was recorded; empty where it is left out, which no level equals. */
   level?: string;
   /** The entry of LEVELS at which play starts; 0 where it is left out. */
@@ -39,14 +39,14 @@ export interface Session {
 export interface Frame {
   at: number;
   frame: number;
-  kind: 'start' | 'move' | 'tick' | 'undo' | 'restart' | 'load' | 'over';
+  kind: "start" | "move" | "tick" | "undo" | "restart" | "load" | "over";
   level: string;
   session: 0;
 }
 
 /** How a session closed, as its line has it. */
 export interface Close {
-  close: 'passed' | 'differs' | 'stopped' | 'refused';
+  close: "passed" | "differs" | "stopped" | "refused";
   cause?: string;
   frames: number;
   name: string;
@@ -62,7 +62,7 @@ export interface Stage {
   input: number;
   /** 0 for the step of the input itself; then the ticks of `again`. */
   tick: number;
-  stage: 'input' | 'early' | 'movement' | 'late' | 'end';
+  stage: "input" | "early" | "movement" | "late" | "end";
   changed: boolean;
   commands: string[];
   /** What heads somewhere: column and row, from 0, object, direction. */
@@ -80,7 +80,7 @@ export interface Stage {
 export interface Firing {
   input: number;
   tick: number;
-  stage: 'early' | 'late';
+  stage: "early" | "late";
   block: number;
   round: number;
   group: number;
@@ -110,7 +110,7 @@ export interface Description {
   /** Each layer, by its names. */
   layers: { line: number; names: string[] }[];
   /** Each definition of LEGEND: the words on both sides of its `=`, and what the name denotes, its members by their places in `objects`. */
-  legend: { left: string[]; line: number; right: string[]; kind?: 'object' | 'property' | 'aggregate'; members?: number[] }[];
+  legend: { left: string[]; line: number; right: string[]; kind?: "object" | "property" | "aggregate"; members?: number[] }[];
   /** The entries of LEVELS, as an index counts them: a message or a level, whose first row says how wide it is. */
   levels: ({ line: number; message: string } | { line: number; rows: string[] })[];
   /** Each line that isn't left out: its number, its section by the word of its heading, whether it is that heading, and its text without comments. */
@@ -138,7 +138,7 @@ export interface LevelDescription {
 
 /** The sessions of a file: each by the place of its source in `sources`, where each text stands once, and `index`, at which entry of LEVELS it starts. */
 export interface FileDescription {
-  sessions: { index: number; inputs: Session['inputs']; level: LevelDescription; name: string; source: number }[];
+  sessions: { index: number; inputs: Session["inputs"]; level: LevelDescription; name: string; source: number }[];
   sources: string[];
 }
 
@@ -175,10 +175,10 @@ export interface Moved {
  */
 export interface OpenSession {
   /** The inputs that it was given so far. */
-  readonly inputs: Session['inputs'];
+  readonly inputs: Session["inputs"];
   readonly isOpen: boolean;
   /** Gives it inputs, one after another; with none it tells once more what came with the last. */
-  give(inputs: Session['inputs']): Moved;
+  give(inputs: Session["inputs"]): Moved;
   /** Goes back to where it had so many inputs. That plays no more inputs than lie behind a level that was kept, of which there are the more the nearer. */
   back(count: number): Moved;
   /** Another session that was given the same. */

@@ -1,22 +1,22 @@
 // @ts-check
 // The streams of the command lines of this folder, as the program reads and writes them.
-import { openSync, readSync, writeSync } from 'node:fs';
-import { pathToFileURL } from 'node:url';
-import { load } from './saxtegun.mjs';
+import { openSync, readSync, writeSync } from "node:fs";
+import { pathToFileURL } from "node:url";
+import { load } from "./saxtegun.mjs";
 
 const MODULE = process.env.SAXTEGUN_MODULE;
 const MOST_BYTES = 16_777_216;
 
-/** A refusal, which is told in a line. */
+// A refusal, which is told in a line.
 export class Refusal extends Error {}
 
-/** Calls the system again where a stream that doesn't wait had nothing ready. */
+// Calls the system again where a stream that doesn't wait had nothing ready.
 function patiently(call) {
   for (;;) {
     try {
       return call();
     } catch (error) {
-      if (error.code !== 'EAGAIN') throw error;
+      if (error.code !== "EAGAIN") throw error;
       Atomics.wait(new Int32Array(new SharedArrayBuffer(4)), 0, 0, 5);
     }
   }
@@ -25,13 +25,13 @@ function patiently(call) {
 export function open(file) {
   if (file === undefined) return 0;
   try {
-    return openSync(file, 'r');
+    return openSync(file, "r");
   } catch {
-    throw new Refusal('open-fault');
+    throw new Refusal("open-fault");
   }
 }
 
-/** The bytes of the input, as far as a byte more than there may be. */
+// The bytes of the input, as far as a byte more than there may be.
 export function readInput(from) {
   const parts = [];
   let left = MOST_BYTES + 1;
@@ -41,7 +41,7 @@ export function readInput(from) {
     try {
       count = patiently(() => readSync(from, part));
     } catch (error) {
-      if (error.code !== 'EOF') throw new Refusal('read-fault');
+      if (error.code !== "EOF") throw new Refusal("read-fault");
     }
     if (count === 0) break;
     parts.push(part.subarray(0, count));
@@ -64,17 +64,17 @@ function writeLines(lines) {
   }
 }
 
-/** The engine of the module that SAXTEGUN_MODULE names, or of the one beside this file. */
+// The engine of the module that SAXTEGUN_MODULE names, or of the one beside this file.
 export const loadNamed = () => load(MODULE ? pathToFileURL(MODULE) : undefined);
 
-/** Writes the lines of an answer, and gives its status. */
+// Writes the lines of an answer, and gives its status.
 export function told(answer) {
   if (answer.fault !== null) throw new Refusal(answer.fault);
   writeLines(answer.lines);
   return answer.status;
 }
 
-/** Ends with the status that a command gives for its words, or with the line of a refusal. */
+// Ends with the status that a command gives for its words, or with the line of a refusal.
 export async function run(command) {
   try {
     process.exitCode = await command(process.argv.slice(2));

@@ -128,7 +128,7 @@ class Page(InARoom):
         script = Elements(self.built()[0]).texts["script"]
         self.assertNotRegex(script, r"@(?:ts-check|type|typedef|param|template|returns)\b")
         self.assertIn("// Elements of a page. What came from games goes into them as text alone.\n", script)
-        self.assertIn("/** As many workers as leave the page a processor. */\n", script)
+        self.assertIn("// As many workers as leave the page a processor.\n", script)
 
     def test_only_comments_that_tell_types_are_left_out(self):
         text = '''// @ts-check

@@ -1,14 +1,14 @@
 // Hostile calls of the bare module, the same ones for a seed: `node tests/engine/bare.mjs [SEED] [CALLS] [MODULE]`. Places and lengths are wrong, orders are none, and
 // rooms are given back that were never taken. Each call returns or traps, none takes long; what was refused takes nothing from the next answer of the same instance,
 // and a fresh instance always answers rightly.
-import assert from 'node:assert/strict';
-import { readFileSync } from 'node:fs';
+import assert from "node:assert/strict";
+import { readFileSync } from "node:fs";
 
-const OUT = new URL('../../engine/out/saxtegun.wasm', import.meta.url), EXAMPLES = new URL('../../examples/', import.meta.url);
+const OUT = new URL("../../engine/out/saxtegun.wasm", import.meta.url), EXAMPLES = new URL("../../examples/", import.meta.url);
 const PLACES = [0, 1, 8, 15, 16, 65_535, 65_536, 1 << 20, 0x7fffffff, -1, -16, -8, 0x80000000 | 0, -65_536, 1 << 24, 2 ** 31 - 8];
 const LENGTHS = [0n, 1n, 23n, 24n, 100n, 1n << 16n, 1n << 24n, (1n << 24n) + 1n, 1n << 31n, (1n << 32n) - 1n, 1n << 32n, (1n << 32n) + 100n, 1n << 40n, 1n << 63n, -1n, -8n, (1n << 63n) - 1n];
 const SIZES = [0, 1, -1, 2 ** 31 - 1, 0x9fffffff | 0, 0xa0000000 | 0];
-const REFUSED = ['', '[', '[[]]', '[["a",["",[9],""]]]', '[["a",["",[],"junk"]]]', '\u0000', '['.repeat(1000)];
+const REFUSED = ["", "[", "[[]]", '[["a",["",[9],""]]]', '[["a",["",[],"junk"]]]', "\u0000", "[".repeat(1000)];
 const OUTCOME = 24, ROOM = 1 << 16, LONGEST = 10_000, EACH = 100;
 
 function numbersOf(seed) {
@@ -19,7 +19,7 @@ function numbersOf(seed) {
   };
 }
 
-/** An instance with a file, a room and an outcome of its own. */
+// An instance with a file, a room and an outcome of its own.
 class Host {
   constructor(module, file) {
     this.exports = new WebAssembly.Instance(module).exports;
@@ -28,7 +28,7 @@ class Host {
     this.length = file.length;
   }
 
-  /** What it answers for the first bytes of its file: the status and the lines. */
+  // What it answers for the first bytes of its file: the status and the lines.
   answer(length = this.length) {
     const count = Number(this.exports.saxtegun_lines(this.file, BigInt(length), 1, this.room, BigInt(ROOM), this.outcome));
     const [status] = new BigUint64Array(this.exports.memory.buffer.slice(this.outcome, this.outcome + OUTCOME));
@@ -36,7 +36,7 @@ class Host {
   }
 }
 
-/** One wrong call; whether it returned. */
+// One wrong call; whether it returned.
 function isReturned(host, next, pick) {
   const place = () => (next() < 0.4 ? pick(PLACES) : next() < 0.5 ? pick([host.file, host.room, host.outcome, host.file + 1, host.room + 3, host.outcome + 4]) : Math.floor(next() * 2 ** 32) | 0);
   const length = () => pick([...LENGTHS, BigInt(host.length)]), order = () => pick([0, 1, 2, -1, 255, 256]);
@@ -59,15 +59,15 @@ function isReturned(host, next, pick) {
   }
 }
 
-/** Makes so many calls; how many returned and how many trapped. */
+// Makes so many calls; how many returned and how many trapped.
 export function attack(seed, calls, path = OUT) {
   const module = new WebAssembly.Module(readFileSync(path)), next = numbersOf(seed), pick = (list) => list[Math.floor(next() * list.length)];
-  const [good, wanted] = ['block-pushing.json', 'block-pushing.lines'].map((name) => readFileSync(new URL(name, EXAMPLES)));
+  const [good, wanted] = ["block-pushing.json", "block-pushing.lines"].map((name) => readFileSync(new URL(name, EXAMPLES)));
   assert.deepEqual(WebAssembly.Module.imports(module), []);
   const counts = { returned: 0, trapped: 0 };
   for (let number = 0; number < calls; number += 1) {
     const host = new Host(module, good), begin = performance.now();
-    counts[isReturned(host, next, pick) ? 'returned' : 'trapped'] += 1;
+    counts[isReturned(host, next, pick) ? "returned" : "trapped"] += 1;
     assert.ok(performance.now() - begin < LONGEST, `call ${number} took too long`);
     if (number % EACH !== 0) continue;
     assert.deepEqual(new Host(module, good).answer(), { status: 1, lines: wanted }, `a fresh instance behind call ${number}`);
@@ -79,7 +79,7 @@ export function attack(seed, calls, path = OUT) {
   return counts;
 }
 
-if (process.argv[1]?.endsWith('tests/engine/bare.mjs')) {
+if (process.argv[1]?.endsWith("tests/engine/bare.mjs")) {
   const [seed = 75, calls = 10_000, path] = process.argv.slice(2);
   console.log(attack(Number(seed), Number(calls), path));
 }

@@ -1,39 +1,39 @@
 // The exports of the module: the frames from an input on beside the lines of the whole, the stages of an input, and all with what they ask of the heap
 // refused.
-import assert from 'node:assert/strict';
-import { existsSync, readFileSync, readdirSync } from 'node:fs';
-import test from 'node:test';
+import assert from "node:assert/strict";
+import { existsSync, readFileSync, readdirSync } from "node:fs";
+import test from "node:test";
 
-const CASES = new URL('../../conformance/cases/', import.meta.url);
-const OUT = new URL('../../engine/out/', import.meta.url);
+const CASES = new URL("../../conformance/cases/", import.meta.url);
+const OUT = new URL("../../engine/out/", import.meta.url);
 const ROOM = 4096, OUTCOME = 24, MARK = 7;
-const MEMORY = { status: 2, fault: 1, entry: 0, count: 0, text: '' };
+const MEMORY = { status: 2, fault: 1, entry: 0, count: 0, text: "" };
 const LAST = 2n ** 64n - 1n;
 
-const compiled = async name => WebAssembly.compile(readFileSync(new URL(name, OUT)));
-const hasStages = module => WebAssembly.Module.exports(module).some(({ name }) => name === 'saxtegun_stages');
-const linesOf = text => text.match(/.*\n/g) ?? [];
+const compiled = async (name) => WebAssembly.compile(readFileSync(new URL(name, OUT)));
+const hasStages = (module) => WebAssembly.Module.exports(module).some(({ name }) => name === "saxtegun_stages");
+const linesOf = (text) => text.match(/.*\n/g) ?? [];
 
-/** What the lines of the items from an input on are, by the objects that the lines say. */
+// What the lines of the items from an input on are, by the objects that the lines say.
 function linesFrom(text, from) {
-  return linesOf(text).filter(line => (JSON.parse(line).at ?? Infinity) >= from).join('');
+  return linesOf(text).filter((line) => (JSON.parse(line).at ?? Infinity) >= from).join("");
 }
 
-/** The cases whose command line is good and names no file. */
+// The cases whose command line is good and names no file.
 function* cases() {
   for (const name of readdirSync(CASES).sort()) {
-    const read = file => readFileSync(new URL(`${name}/${file}`, CASES));
-    const words = existsSync(new URL(`${name}/args`, CASES)) ? read('args').toString().split('\n').slice(0, -1) : [];
-    if (words.length > 0 && !(words.length === 2 && words[0] === '--order' && ['rows', 'columns'].includes(words[1]))) continue;
-    yield { name, order: words[1] === 'rows' ? 0 : 1, file: read('input.json'), text: read('stdout').toString(), status: Number(read('status')) };
+    const read = (file) => readFileSync(new URL(`${name}/${file}`, CASES));
+    const words = existsSync(new URL(`${name}/args`, CASES)) ? read("args").toString().split("\n").slice(0, -1) : [];
+    if (words.length > 0 && !(words.length === 2 && words[0] === "--order" && ["rows", "columns"].includes(words[1]))) continue;
+    yield { name, order: words[1] === "rows" ? 0 : 1, file: read("input.json"), text: read("stdout").toString(), status: Number(read("status")) };
   }
 }
 
-/** A host of the module: a file that it asks about, with a room of its own. */
+// A host of the module: a file that it asks about, with a room of its own.
 class Host {
   constructor(module, file, order, size) {
     this.exports = new WebAssembly.Instance(module).exports;
-    [this.file, this.room, this.outcome] = [file.length, size, OUTCOME].map(it => this.exports.take_room(it) >>> 0);
+    [this.file, this.room, this.outcome] = [file.length, size, OUTCOME].map((it) => this.exports.take_room(it) >>> 0);
     this.bytes(this.file, file.length).set(file);
     Object.assign(this, { length: file.length, order, size });
   }
@@ -42,7 +42,7 @@ class Host {
     return new Uint8Array(this.exports.memory.buffer, at, count);
   }
 
-  /** Plays the file, from an input on where one is named, or tells stages, [session, input], and gives all that is answered. */
+  // Plays the file, from an input on where one is named, or tells stages, [session, input], and gives all that is answered.
   ask(from) {
     this.bytes(this.room, this.size).fill(MARK);
     const { saxtegun_lines: lines, saxtegun_frames: frames, saxtegun_stages: stages } = this.exports;
@@ -51,19 +51,19 @@ class Host {
     const count = Number(from === undefined ? lines(...file, order, ...rest) : told());
     const [status, fault, entry] = new BigUint64Array(this.bytes(this.outcome, OUTCOME).slice().buffer).values();
     const held = count <= this.size ? count : 0;
-    assert.ok(this.bytes(this.room + held, this.size - held).every(byte => byte === MARK), 'the room keeps what no line takes');
+    assert.ok(this.bytes(this.room + held, this.size - held).every((byte) => byte === MARK), "the room keeps what no line takes");
     return { status: Number(status), fault: Number(fault), entry: Number(entry), count, text: new TextDecoder().decode(this.bytes(this.room, held)) };
   }
 }
 
-test('the frames from an input on are the filter of all lines', async () => {
-  const module = await compiled('saxtegun.wasm');
+test("the frames from an input on are the filter of all lines", async () => {
+  const module = await compiled("saxtegun.wasm");
   let compared = 0;
   for (const { name, order, file, text, status } of cases()) {
     const host = new Host(module, file, order, Math.max(text.length * 2, 64));
     const whole = host.ask();
     assert.deepEqual([whole.status, whole.text], [status, text], name);
-    const last = Math.max(0, ...linesOf(text).map(line => JSON.parse(line).at ?? 0));
+    const last = Math.max(0, ...linesOf(text).map((line) => JSON.parse(line).at ?? 0));
     for (const from of new Set([0, 1, 2, last >> 1, last, last + 1, 2n ** 32n, LAST])) {
       const wanted = linesFrom(text, from);
       assert.deepEqual(host.ask(from), { ...whole, count: Buffer.byteLength(wanted), text: wanted }, `${name} from ${from}`);
@@ -73,31 +73,31 @@ test('the frames from an input on are the filter of all lines', async () => {
   assert.ok(compared > 1000);
 });
 
-test('a room that is too small stays as it is', async () => {
-  const module = await compiled('saxtegun.wasm');
-  for (const { order, file, text } of [...cases()].filter(it => it.text).slice(0, 20)) {
+test("a room that is too small stays as it is", async () => {
+  const module = await compiled("saxtegun.wasm");
+  for (const { order, file, text } of [...cases()].filter((it) => it.text).slice(0, 20)) {
     const { length } = Buffer.from(linesFrom(text, 1));
-    const [small, fitting] = [length - 1, length].map(size => new Host(module, file, order, size).ask(1));
-    assert.deepEqual([small.count, small.text, fitting.count, fitting.text], [length, '', length, linesFrom(text, 1)]);
+    const [small, fitting] = [length - 1, length].map((size) => new Host(module, file, order, size).ask(1));
+    assert.deepEqual([small.count, small.text, fitting.count, fitting.text], [length, "", length, linesFrom(text, 1)]);
   }
 });
 
-/** Cases that are played in a moment: a session, one that has most kinds of frames, three of which one has a source that is refused, and a file that is refused. */
-const SMALL = ['walk-two-steps-right-against-a-wall', 'win-load-win-again-over', 'the-second-of-three-sessions-has-a-refused-source', 'a-second-entry-that-is-a-number'];
+// Cases that are played in a moment: a session, one that has most kinds of frames, three of which one has a source that is refused, and a file that is refused.
+const SMALL = ["walk-two-steps-right-against-a-wall", "win-load-win-again-over", "the-second-of-three-sessions-has-a-refused-source", "a-second-entry-that-is-a-number"];
 
-test('stages are told where there is room for them, and else the room stays as it is', async () => {
-  const module = await compiled('saxtegun.wasm');
+test("stages are told where there is room for them, and else the room stays as it is", async () => {
+  const module = await compiled("saxtegun.wasm");
   if (!hasStages(module)) return;
-  for (const { name, order, file, status } of [...cases()].filter(it => SMALL.includes(it.name))) {
-    const whole = new Host(module, file, order, ROOM * 4).ask([0, 1]), [small, fitting] = [Math.max(0, whole.count - 1), whole.count].map(size => new Host(module, file, order, size).ask([0, 1]));
-    assert.deepEqual([whole.status, fitting.text, small.text, small.count], [status === 2 ? 2 : 0, whole.text, '', whole.count], name);
-    assert.ok(linesOf(whole.text).every(line => JSON.parse(line).input === 1), name);
+  for (const { name, order, file, status } of [...cases()].filter((it) => SMALL.includes(it.name))) {
+    const whole = new Host(module, file, order, ROOM * 4).ask([0, 1]), [small, fitting] = [Math.max(0, whole.count - 1), whole.count].map((size) => new Host(module, file, order, size).ask([0, 1]));
+    assert.deepEqual([whole.status, fitting.text, small.text, small.count], [status === 2 ? 2 : 0, whole.text, "", whole.count], name);
+    assert.ok(linesOf(whole.text).every((line) => JSON.parse(line).input === 1), name);
   }
 });
 
-test('whatever is refused of the heap, an answer is that of ample memory or tells the want of it', async () => {
-  const module = await compiled('refusing.wasm');
-  for (const { name, file, order } of [...cases()].filter(it => SMALL.includes(it.name))) {
+test("whatever is refused of the heap, an answer is that of ample memory or tells the want of it", async () => {
+  const module = await compiled("refusing.wasm");
+  for (const { name, file, order } of [...cases()].filter((it) => SMALL.includes(it.name))) {
     const host = new Host(module, file, order, ROOM);
     const { refuse, requests, blocks_out: blocksOut } = host.exports;
     for (const from of [undefined, 0, 1, ...(hasStages(module) ? [[0, 1]] : [])]) {
@@ -110,8 +110,8 @@ test('whatever is refused of the heap, an answer is that of ample memory or tell
           const answer = host.ask(from);
           const isRefused = answer.fault === MEMORY.fault;
           assert.deepEqual(answer, isRefused ? MEMORY : ample, `${name} from ${from}, request ${number}`);
-          assert.ok(number <= most || !isRefused, 'a run that meets no refusal is ample');
-          assert.equal(blocksOut(), out, 'all that was taken is given back');
+          assert.ok(number <= most || !isRefused, "a run that meets no refusal is ample");
+          assert.equal(blocksOut(), out, "all that was taken is given back");
           refusals += isRefused;
         }
       }
