@@ -74,6 +74,7 @@ function isRecordingLost(before, after) {
   const { work, text } = before;
   if (work.inputs.length === 0 || isWithin(before, after.work, after.text) || isInFile(after.file, after.text, textUnder(work, text), work)) return false;
   const texts = textsBelow(after.past, after.text);
+  /** @type {(lost: import("./state").Lost, place: number) => boolean} */
   const isIn = ({ work: other, file = null }, place) => (other !== undefined && isWithin(before, other, texts[place])) || isInFile(file, texts[place], textUnder(work, text), work);
   return !after.past.some(isIn);
 }

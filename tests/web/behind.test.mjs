@@ -1,3 +1,4 @@
+// @ts-check
 // What is done behind the frame of a key: once, the last of what waits, and also where no frame is shown.
 import assert from "node:assert/strict";
 import test from "node:test";
@@ -6,7 +7,8 @@ import { Behind } from "../../web/behind.mjs";
 // A browser that shows frames, and has nothing to do, when a test says so.
 class Frames {
   constructor() {
-    Object.assign(this, { frames: [], idles: [] });
+    this.frames = [];
+    this.idles = [];
     globalThis.requestAnimationFrame = (act) => this.frames.push(act);
     globalThis.requestIdleCallback = (act) => this.idles.push(act);
   }

@@ -1,3 +1,4 @@
+// @ts-check
 // The page without a browser: its state, played by the module in Node, with what is drawn left out. For the tests of the page's logic.
 import { readFileSync } from "node:fs";
 import { comparing, withComparison } from "../../web/filing.mjs";

@@ -1,3 +1,4 @@
+// @ts-check
 // The likely difference of sessions that standard input has as a list of JSON: [source, inputs, the frames].
 import { readFileSync } from "node:fs";
 import { likelyTold } from "../../web/differences.mjs";

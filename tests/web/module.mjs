@@ -1,3 +1,4 @@
+// @ts-check
 // The module that is there, or undefined. The page reads texts by it.
 import { existsSync, readFileSync } from "node:fs";
 import { load } from "../../engine/saxtegun.mjs";

@@ -1,3 +1,4 @@
+// @ts-check
 // The names that the page gives to recordings, which standard input has as entries of JSON: [name, source, inputs, level, index].
 import { readFileSync } from "node:fs";
 import { ownName } from "../../web/findings.mjs";

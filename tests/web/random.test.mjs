@@ -1,3 +1,4 @@
+// @ts-check
 // Random acts on the state of the page, held against a small model: nothing that was made is lost, each verdict is that of the engine on the file as it
 // would be saved, and what is accepted was on the screen. ACTS and SEED can be set from outside.
 import assert from "node:assert/strict";
@@ -19,7 +20,7 @@ const EDITS = [
   ["[ > Player | Crate ] ->", "[ > Player | Crat ] ->"], ["[ > Player | Crat ] ->", "[ > Player | Crate ] ->"], ["[ > Player | Crate ] -> [ > Player | > Crate ]", "[ > Player ] -> [ Player ]"],
   ["[ > Player ] -> [ Player ]", "[ > Player | Crate ] -> [ > Player | > Crate ]"], ["All Target", "Some Target"], ["Some Target", "All Target"], ["LEVELS", "LEVELS\n"], ["RULES", "RULES "],
 ];
-const RECORDINGS = JSON.parse(read("examples/day/recordings.json"));
+const RECORDINGS = JSON.parse(read("examples/day/recordings.json").toString());
 const bytesOf = (value) => new TextEncoder().encode(typeof value === "string" ? value : JSON.stringify(value));
 const MIXED = RECORDINGS.map(([name, body], number) => [`mixed ${name}`, [number % 2 === 0 ? "" : OTHER, ...body.slice(1)]]);
 const FILES = [read("examples/day/recordings.json"), read("examples/block-pushing.json"), bytesOf(MIXED), bytesOf("[]"), bytesOf(RECORDINGS.slice(0, 2))];

@@ -1,3 +1,4 @@
+// @ts-check
 // Reads a list of [cause, source, inputs, frames] on standard input, and writes what web/ says of each.
 import { readFileSync } from "node:fs";
 import { culpritTold } from "../../web/faults.mjs";

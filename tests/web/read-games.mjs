@@ -1,3 +1,4 @@
+// @ts-check
 // Reads a list of sources on standard input, and writes what web/ reads in each.
 import { readFileSync } from "node:fs";
 import { Game, entriesOfLevels } from "../../web/game.mjs";

@@ -1,3 +1,4 @@
+// @ts-check
 // What the page shows on the way: messages, ticks and won levels one after another, names of strangers, and levels in words. What is expected is written by hand.
 import assert from "node:assert/strict";
 import test from "node:test";
