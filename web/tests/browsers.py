@@ -171,7 +171,7 @@ class Chromium(Browser):
     def picture(self, path: Union[str, Path]) -> None:
         Path(path).write_bytes(base64.b64decode(self.call("Page.captureScreenshot", format="png")["data"]))
 
-    def faults(self, room: str) -> List[Any]:
+    def faults(self, room: Union[str, Path]) -> List[Any]:
         """What was asked of any network beside the files of a folder, and what went wrong in the page."""
         self.value("0")
         asked = [it["params"]["request"]["url"] for it in self.events if it.get("method") == "Network.requestWillBeSent"]
@@ -289,7 +289,7 @@ class Firefox(Browser):
     def picture(self, path: Union[str, Path]) -> None:
         Path(path).write_bytes(base64.b64decode(self.call("WebDriver:TakeScreenshot", full=False)["value"]))
 
-    def faults(self, room: str) -> List[Any]:
+    def faults(self, room: Union[str, Path]) -> List[Any]:
         asked = self.value("performance.getEntriesByType('resource').map((it) => it.name)")
         own = (Path(room).as_uri(), "about:", "data:", "blob:")
         return [it for it in asked if not it.startswith(own)]
