@@ -11,12 +11,13 @@ import subprocess
 import tempfile
 import time
 from contextlib import suppress
-from typing import IO, Iterator, Mapping, Sequence, Tuple
+from typing import IO, Iterator, Mapping, Sequence, Tuple, TypeVar
 
 # A process counts the memory of the one that started it as its own, and this one is larger than many a program. So a small shell starts the
 # program and leaves it to us; it begins at a line of ours, when the shell has gone and the clock runs.
 START = 'exec 3<&0; { read -r go <&3 && exec "$@" >"$0" </dev/null 3<&-; } & echo $!'
 PR_SET_CHILD_SUBREAPER = 36
+Name = TypeVar("Name")
 if ctypes.CDLL(None).prctl(PR_SET_CHILD_SUBREAPER, 1, 0, 0, 0) != 0:
     raise OSError("this system doesn't leave a program to the process above the one that started it")
 
@@ -61,7 +62,7 @@ def digest_of(file: IO[bytes]) -> str:
     return digest.hexdigest()
 
 
-def in_turn(commands: Mapping[str, Sequence[str]], rounds: int) -> Iterator[Tuple[str, Run]]:
+def in_turn(commands: Mapping[Name, Sequence[str]], rounds: int) -> Iterator[Tuple[Name, Run]]:
     """Runs commands by name, so many rounds of them: they take turns, so that what else the machine does falls on all of them."""
     for _ in range(rounds):
         for name, command in commands.items():

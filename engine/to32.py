@@ -4,9 +4,12 @@
 Rattle itself places all that lies in memory by numbers of bytes, and makes no number a pointer. So a pointer may have 4 bytes and keep its slot of 8: with that,
 what is left to change are pairs with a pointer that are read or written as one, slots of a pointer on the stack, addresses that are read as numbers, and what
 names the processor. Each line must have a form that stands in this file: at any other the program ends with status 1 and the line, and writes nothing."""
+from __future__ import annotations
+
 import re
 import sys
 from pathlib import Path
+from typing import Iterable, Iterator, List, Sequence, Tuple
 
 LAYOUT = "e-m:e-p:32:32-p10:8:8-p20:8:8-i64:64-i128:128-n32:64-S128-ni:1:10:20"
 TRIPLE = "wasm32-unknown-unknown"
@@ -38,7 +41,7 @@ FUNCTION = rf"(?:(?!@llvm\.){GLOBAL}|{INTRINSICS})"
 SET = rf"  {LOCAL} = "
 
 
-def listed(item):
+def listed(item: str) -> str:
     return rf"(?:{item}(?:, {item})*)?"
 
 
@@ -94,13 +97,13 @@ class UnknownForm(ValueError):
     """A line whose form isn't known."""
 
 
-def places_of(one, other):
+def places_of(one: str, other: str) -> Tuple[int, int]:
     """Where the two of a pair lie, as Rattle has placed them on x86-64."""
     size = SIZES[other]
     return 0, -(-SIZES[one] // size) * size
 
 
-def part_of_pair(number, pointer, place):
+def part_of_pair(number: int, pointer: str, place: int) -> Tuple[str, str]:
     """The line that makes a pointer to a part of a pair, and the pointer's name."""
     name = f"%part.{number}"
     return f"  {name} = getelementptr i8, ptr {pointer}, i32 {place}", name
@@ -109,14 +112,14 @@ def part_of_pair(number, pointer, place):
 class Rewriting:
     """The rewriting of one module. It numbers the values that it makes."""
 
-    def __init__(self):
+    def __init__(self) -> None:
         self.made = 0
 
-    def number(self):
+    def number(self) -> int:
         self.made += 1
         return self.made
 
-    def load_pair(self, to, types, pointer, align):
+    def load_pair(self, to: str, types: Tuple[str, str], pointer: str, align: int) -> Iterator[str]:
         """Reads a pair part by part."""
         whole, value = f"{{ {types[0]}, {types[1]} }}", "poison"
         for at, (scalar, place) in enumerate(zip(types, places_of(*types))):
@@ -128,7 +131,7 @@ class Rewriting:
             yield f"  {result} = insertvalue {whole} {value}, {scalar} %value.{number}, {at}"
             value = result
 
-    def store_pair(self, types, value, pointer, align):
+    def store_pair(self, types: Tuple[str, str], value: str, pointer: str, align: int) -> Iterator[str]:
         """Writes a pair part by part."""
         for at, (scalar, place) in enumerate(zip(types, places_of(*types))):
             number = self.number()
@@ -137,7 +140,7 @@ class Rewriting:
             yield line
             yield f"  store {scalar} %value.{number}, ptr {part}, align {min(SIZES[scalar], align)}"
 
-    def rewrite(self, line):
+    def rewrite(self, line: str) -> Iterable[str]:
         """The lines that take the place of one."""
         if line.startswith("attributes "):
             line = OF_X86_64.sub("", line)
@@ -157,13 +160,13 @@ class Rewriting:
         raise UnknownForm(line)
 
 
-def rewritten(lines):
+def rewritten(lines: Iterable[str]) -> List[str]:
     """The lines of the module for 32 bits."""
     rewriting = Rewriting()
     return [made for line in lines for made in rewriting.rewrite(line)]
 
 
-def main(words):
+def main(words: Sequence[str]) -> int:
     if len(words) != 2:
         print("usage: engine/to32.py FROM.ll TO.ll", file=sys.stderr)
         return 2

@@ -1,10 +1,13 @@
 """A small engine for tests alone, written from docs/language.md and docs/sessions.md: it reads a sessions file and writes the lines of its recording.
 
 It is slow, and looks for nothing that isn't asked for. tests/planting.py plants single errors in it, which the cases of conformance/ must catch."""
+from __future__ import annotations
+
 import json
 import re
 import sys
 from itertools import product
+from typing import Any, Callable, Dict, FrozenSet, Iterable, List, Optional, Sequence, Set, Tuple, Union
 
 WHITE = "\t\n\x0b\x0c\r \x85\xa0\u1680\u2000\u2001\u2002\u2003\u2004\u2005\u2006\u2007\u2008\u2009\u200a\u2028\u2029\u202f\u205f\u3000"
 SECTIONS = ("objects", "legend", "sounds", "collisionlayers", "rules", "winconditions", "levels")
@@ -26,6 +29,18 @@ MOST_ROWS, MOST_ROW_CELLS, MOST_PAIRS = 8, 64, 65_536
 MOST_PASSES, MOST_PLACES, MOST_TICKS = 200, 1_048_576, 500
 
 
+# What stands in a cell of a level: by its layer the name of an object, and the direction in which it heads.
+Cell = Dict[int, Tuple[str, Optional[str]]]
+Level = List[List[Cell]]
+# The headings of a source with their lines.
+Headings = List[Tuple[str, int]]
+# A cell of a rule: GAP, or a list of its items, of which `==` tells the one from the other.
+RuleCell = Any
+RuleRows = List[List[RuleCell]]
+# Where the cells of a row stand in a level; a gap stands nowhere.
+Place = List[Optional[Tuple[int, int]]]
+
+
 class Fault(Exception):
     """What a source is refused for: a code and a line."""
 
@@ -34,11 +49,11 @@ class Stop(Exception):
     """The limit at which play stops."""
 
 
-def fold(text):
+def fold(text: str) -> str:
     return "".join(it.lower() if "A" <= it <= "Z" else it for it in text)
 
 
-def words_of(text):
+def words_of(text: str) -> List[str]:
     return [it for it in re.split(f"[{WHITE}]", text) if it]
 
 
@@ -46,11 +61,11 @@ def words_of(text):
 
 
 class Line:
-    def __init__(self, number, section, text):
+    def __init__(self, number: int, section: str, text: str) -> None:
         self.number, self.section, self.text = number, section, text
 
 
-def ends_plain(section, is_first, word, letter):
+def ends_plain(section: str, is_first: bool, word: str, letter: str) -> bool:
     """Whether from this letter on, behind a word, a line is plain text."""
     if section == "prelude":
         return letter not in WHITE
@@ -61,7 +76,7 @@ def ends_plain(section, is_first, word, letter):
     return False
 
 
-def without_comments(section, depth, text):
+def without_comments(section: str, depth: int, text: str) -> Tuple[str, int]:
     """A line without its comments, and how deep in comments it ends."""
     left, word, is_first = "", "", True
     for at, letter in enumerate(text):
@@ -80,13 +95,13 @@ def without_comments(section, depth, text):
     return left, depth
 
 
-def heading_of(section, text):
+def heading_of(section: str, text: str) -> Optional[str]:
     if section == "prelude" and words_of(fold(text))[:1] == ["objects"]:
         return "objects"
     return fold(text) if fold(text) in SECTIONS else None
 
 
-def lines_of(source):
+def lines_of(source: str) -> Tuple[List[Line], Headings]:
     """The lines that are not skipped, and the headings with their lines."""
     lines, headings = [], []
     section, depth = "prelude", 0
@@ -103,7 +118,7 @@ def lines_of(source):
     return lines, headings
 
 
-def check_headings(headings):
+def check_headings(headings: Headings) -> None:
     places = [SECTIONS.index(it) for it, _ in headings]
     for at in range(1, len(places)):
         if places[at] <= max(places[:at]):
@@ -112,7 +127,7 @@ def check_headings(headings):
         raise Fault("Section", 0)
 
 
-def tokens_of(text):
+def tokens_of(text: str) -> List[str]:
     """The words of a rule line, folded; behind `message` there are none."""
     found = []
     rest = text
@@ -131,7 +146,13 @@ def tokens_of(text):
 class Game:
     """What a source says, once it is read without a fault."""
 
-    def __init__(self, source):
+    objects: List[Tuple[str, int]]
+    names: Dict[str, str]
+    definitions: Dict[str, Tuple[str, List[str], int]]
+    layers: Dict[str, int]
+    entries: List[Optional[List[str]]]
+
+    def __init__(self, source: str) -> None:
         if len(source.encode()) > MOST_BYTES:
             raise Fault("TooLong", 0)
         self.lines, headings = lines_of(source)
@@ -151,11 +172,11 @@ class Game:
         self.read_levels()
         self.early, self.late = Rules(self).read()
 
-    def of(self, section):
+    def of(self, section: str) -> List[Line]:
         """The lines of a section that have a text."""
         return [it for it in self.lines if it.section == section and it.text]
 
-    def check_profile(self):
+    def check_profile(self) -> None:
         for line in self.lines:
             words = words_of(fold(line.text))
             if line.section == "prelude" and words[:1] == ["realtime_interval"]:
@@ -163,7 +184,7 @@ class Game:
             if line.section == "rules" and {"random", "randomdir", "rigid"} & set(tokens_of(line.text)):
                 raise Fault("OutsideProfile", line.number)
 
-    def read_objects(self):
+    def read_objects(self) -> None:
         lines = [it for it in self.lines if it.section == "objects"]
         at = 0
         while at < len(lines):
@@ -172,13 +193,13 @@ class Game:
                 continue
             at = self.read_object(lines, at)
 
-    def read_object(self, lines, at):
+    def read_object(self, lines: Sequence[Line], at: int) -> int:
         """Reads the object that begins here; where the next one may."""
         line, at = lines[at], at + 1
         if at >= len(lines) or not lines[at].text:
             raise Fault("BadObject", line.number)
         at += 1
-        sprite = []
+        sprite: List[str] = []
         while at < len(lines) and len(sprite) < 5 and re.fullmatch("[0-9.]+", lines[at].text):
             sprite.append(lines[at].text)
             at += 1
@@ -194,7 +215,7 @@ class Game:
             raise Fault("TooLarge", line.number)
         return at
 
-    def read_legend(self):
+    def read_legend(self) -> None:
         for line in self.of("legend"):
             at = line.text.find("=", 1)
             left, right = words_of(fold(line.text[:at])), words_of(fold(line.text[at + 1 :]))
@@ -207,10 +228,10 @@ class Game:
             if len(self.names) + len(self.definitions) > MOST_NAMES:
                 raise Fault("TooLarge", line.number)
 
-    def is_known(self, name):
+    def is_known(self, name: str) -> bool:
         return name in self.names or name in self.definitions
 
-    def check_legend(self):
+    def check_legend(self) -> None:
         for _, parts, number in self.definitions.values():
             if not all(map(self.is_known, parts)):
                 raise Fault("Unknown", number)
@@ -222,7 +243,7 @@ class Game:
             if other and any(self.kind_of(it) == other for it in parts):
                 raise Fault("Mixed", number)
 
-    def reached_from(self, names):
+    def reached_from(self, names: Iterable[str]) -> Set[str]:
         found, left = set(), list(names)
         while left:
             name = left.pop()
@@ -231,28 +252,28 @@ class Game:
                 left += self.definitions[name][1] if name in self.definitions else []
         return found
 
-    def resolved(self, name):
+    def resolved(self, name: str) -> str:
         """The name that a synonym stands for in the end: an object's first name, or that of a property or an aggregate."""
         while name in self.definitions and self.definitions[name][0] == "same":
             name = self.definitions[name][1][0]
         return self.names.get(name, name)
 
-    def kind_of(self, name):
+    def kind_of(self, name: str) -> str:
         name = self.resolved(name)
         return self.definitions[name][0] if name in self.definitions else "object"
 
-    def members(self, name):
+    def members(self, name: str) -> List[str]:
         name = self.resolved(name)
         if name not in self.definitions:
             return [name]
         return list(dict.fromkeys(it for part in self.definitions[name][1] for it in self.members(part)))
 
-    def check_missing(self):
+    def check_missing(self) -> None:
         for name in ("background", "player"):
             if not self.is_known(name) or self.kind_of(name) == "and":
                 raise Fault("Missing", 0)
 
-    def read_layers(self):
+    def read_layers(self) -> None:
         number = 0
         for line in self.of("collisionlayers"):
             names = words_of(fold(line.text).replace(",", " "))
@@ -271,7 +292,7 @@ class Game:
             if name not in self.layers:
                 raise Fault("NoLayer", at)
 
-    def win_of(self, line):
+    def win_of(self, line: Line) -> Tuple[str, str, Optional[str]]:
         """A win line: its kind, X, and Y or None."""
         words = words_of(fold(line.text))
         if len(words) not in (2, 4) or words[0] not in ("all", "some", "any", "no") or (len(words) == 4 and words[2] != "on"):
@@ -280,8 +301,8 @@ class Game:
             raise Fault("Unknown", line.number)
         return words[0], words[1], words[3] if len(words) == 4 else None
 
-    def read_levels(self):
-        rows = []
+    def read_levels(self) -> None:
+        rows: List[Line] = []
         for line in [*(it for it in self.lines if it.section == "levels"), Line(0, "levels", "")]:
             is_message = words_of(fold(line.text))[:1] == ["message"]
             if rows and (is_message or not line.text):
@@ -294,12 +315,12 @@ class Game:
         if not any(self.entries):
             raise Fault("NoLevel", 0)
 
-    def add_entry(self, entry, number):
+    def add_entry(self, entry: Optional[List[str]], number: int) -> None:
         self.entries.append(entry)
         if len(self.entries) > MOST_ENTRIES:
             raise Fault("TooLarge", number)
 
-    def add_level(self, rows):
+    def add_level(self, rows: Sequence[Line]) -> None:
         width, height = len(rows[0].text), len(rows)
         if width > MOST_SIDE or height > MOST_SIDE or width * height > MOST_CELLS:
             raise Fault("TooLarge", rows[0].number)
@@ -311,7 +332,7 @@ class Game:
 
     # Levels: cells by column and row, each a mapping of a layer to an object and its heading.
 
-    def load(self, rows):
+    def load(self, rows: Sequence[str]) -> Level:
         level = [[self.cell_of(row[x]) for row in rows] for x in range(len(rows[0]))]
         ground = self.members("background")[0]
         layer = self.layers[ground]
@@ -320,19 +341,19 @@ class Game:
             cell.setdefault(layer, ((there or [ground])[0], None))
         return level
 
-    def cell_of(self, glyph):
-        cell = {}
+    def cell_of(self, glyph: str) -> Cell:
+        cell: Cell = {}
         for name in self.members(fold(glyph)):
             cell[self.layers[name]] = (name, None)
         return cell
 
-    def fits(self, cell, name):
+    def fits(self, cell: Cell, name: str) -> bool:
         """Whether a cell fits a name of a win line."""
         held = {it for it, _ in cell.values()}
         members = self.members(name)
         return all(it in held for it in members) if self.kind_of(name) == "and" else any(it in held for it in members)
 
-    def has_won(self, level):
+    def has_won(self, level: Level) -> bool:
         cells = [it for column in level for it in column]
         for kind, one, other in self.wins:
             both = [it for it in cells if self.fits(it, one) and (other is None or self.fits(it, other))]
@@ -348,35 +369,42 @@ class Game:
 class Item:
     """A name in a cell of a rule, with its word or None."""
 
-    def __init__(self, word, name):
+    def __init__(self, word: Optional[str], name: str) -> None:
         self.word, self.name = word, name
 
 
 class Rule:
-    def __init__(self, line, directions, left, right, commands):
+    def __init__(self, line: int, directions: List[str], left: RuleRows, right: RuleRows, commands: Set[str]) -> None:
         self.line, self.directions, self.left, self.right, self.commands = line, directions, left, right, commands
 
 
 class Loop:
     """Groups that are run to rest together."""
 
-    def __init__(self, groups):
+    def __init__(self, groups: List[Group]) -> None:
         self.groups = groups
 
 
+Group = List["Instance"]
+Parts = List[Union[Loop, Group]]
 GAP = "..."
 
 
 class Rules:
     """Reads RULES: groups and loops, the early ones and the late ones."""
 
-    def __init__(self, game):
+    early: Parts
+    late: Parts
+    inner: Optional[Tuple[List[Group], List[Group]]]
+    group: Group
+
+    def __init__(self, game: Game) -> None:
         self.game, self.pairs = game, 0
         self.early, self.late = [], []
         self.inner = None
-        self.group, self.is_late, self.is_joinable = None, False, False
+        self.group, self.is_late, self.is_joinable = None, False, False  # type: ignore[assignment]  # a rule begins it
 
-    def read(self):
+    def read(self) -> Tuple[Parts, Parts]:
         lines = self.game.of("rules")
         marks = [(it.number, fold(it.text)) for it in lines if fold(it.text) in ("startloop", "endloop")]
         for line in lines:
@@ -387,7 +415,7 @@ class Rules:
                 self.read_rule(line)
         return self.early, self.late
 
-    def read_loop_line(self, line, word, marks):
+    def read_loop_line(self, line: Line, word: str, marks: List[Tuple[int, str]]) -> None:
         place = marks.index((line.number, word))
         beside = marks[place + 1 : place + 2] if word == "startloop" else marks[max(0, place - 1) : place]
         if [it for _, it in beside] != ["endloop" if word == "startloop" else "startloop"]:
@@ -395,13 +423,14 @@ class Rules:
         if word == "startloop":
             self.inner = ([], [])
         else:
+            assert self.inner
             early, late = self.inner
             self.early += [Loop(early)] if early else []
             self.late += [Loop(late)] if late else []
             self.inner = None
         self.is_joinable = False
 
-    def read_rule(self, line):
+    def read_rule(self, line: Line) -> None:
         tokens = tokens_of(line.text)
         joins = tokens[:1] == ["+first"]
         tokens = tokens[joins:]
@@ -418,7 +447,7 @@ class Rules:
         self.check(rule, self.is_late)
         self.group += Expansion(self.game, rule, self).instances()
 
-    def parsed(self, number, words, tokens):
+    def parsed(self, number: int, words: List[str], tokens: List[str]) -> Rule:
         """The rule of tokens behind the prefixes; refused where they have another form."""
         directions = list(dict.fromkeys(it for word in words or ["orthogonal"] for it in PREFIXES[word]))
         left, tokens = rows_of(number, tokens)
@@ -429,7 +458,7 @@ class Rules:
             raise Fault("BadRule", number)
         return Rule(number, directions, left, right, set(commands) & {"again", "cancel", "checkpoint", "restart", "win"})
 
-    def check(self, rule, is_late):
+    def check(self, rule: Rule, is_late: bool) -> None:
         """The checks of a rule behind its form, but for those of its expansion."""
         rows = [*rule.left, *rule.right]
         items = [it for row in rows for cell in row if cell != GAP for it in cell]
@@ -448,7 +477,7 @@ class Rules:
             raise Fault("LateMovement", rule.line)
 
 
-def rows_of(number, tokens):
+def rows_of(number: int, tokens: List[str]) -> Tuple[RuleRows, List[str]]:
     """The rows with which tokens begin, and the tokens behind them."""
     rows = []
     while tokens[:1] == ["["]:
@@ -461,8 +490,8 @@ def rows_of(number, tokens):
     return rows, tokens
 
 
-def cells_in(tokens):
-    cells = [[]]
+def cells_in(tokens: Iterable[str]) -> List[List[str]]:
+    cells: List[List[str]] = [[]]
     for token in tokens:
         if token == "|":
             cells.append([])
@@ -471,7 +500,7 @@ def cells_in(tokens):
     return cells
 
 
-def cell_of(number, tokens):
+def cell_of(number: int, tokens: List[str]) -> RuleCell:
     """A cell of a rule: a gap, or items."""
     if tokens == [GAP]:
         return GAP
@@ -492,24 +521,24 @@ def cell_of(number, tokens):
 class Choice:
     """What is picked for an instance: a member of a property, or a direction of a class word, of an item of the left."""
 
-    def __init__(self, kind, item, place):
+    def __init__(self, kind: str, item: Item, place: Tuple[int, int]) -> None:
         self.kind, self.item, self.place = kind, item, place
 
 
 class Instance:
-    def __init__(self, scan, left, right, commands):
+    def __init__(self, scan: str, left: RuleRows, right: RuleRows, commands: Set[str]) -> None:
         self.scan, self.left, self.right, self.commands = scan, left, right, commands
 
 
 class Expansion:
     """A rule in its directions, with its picks."""
 
-    def __init__(self, game, rule, rules):
+    def __init__(self, game: Game, rule: Rule, rules: Rules) -> None:
         self.game, self.rule, self.rules = game, rule, rules
         self.left, self.right = ([[self.spelled(cell) for cell in row] for row in side] for side in (rule.left, rule.right))
         self.choices = [it for y, row in enumerate(self.left) for x, cell in enumerate(row) for it in self.choices_in(cell, (y, x))]
 
-    def spelled(self, cell):
+    def spelled(self, cell: RuleCell) -> RuleCell:
         """A cell whose aggregates are items for their members, and whose names are resolved. A property of one member is that member."""
         if cell == GAP:
             return GAP
@@ -523,10 +552,10 @@ class Expansion:
                 items.append(Item(it.word, self.game.resolved(it.name)))
         return items
 
-    def is_property(self, item):
+    def is_property(self, item: Item) -> bool:
         return self.game.kind_of(item.name) == "or"
 
-    def choices_in(self, cell, place):
+    def choices_in(self, cell: RuleCell, place: Tuple[int, int]) -> List[Choice]:
         found = []
         for item in cell if cell != GAP else []:
             if item.word in CLASSES or item.word in TURNING:
@@ -535,7 +564,7 @@ class Expansion:
                 found.append(Choice("member", item, place))
         return found
 
-    def picks(self, choice, direction):
+    def picks(self, choice: Choice, direction: str) -> Sequence[str]:
         if choice.kind == "member":
             return self.game.members(choice.item.name)
         word = choice.item.word
@@ -544,7 +573,7 @@ class Expansion:
         is_level = direction in HORIZONTAL
         return HORIZONTAL if is_level == (word == "parallel") else VERTICAL
 
-    def choice_for(self, kind, item, place):
+    def choice_for(self, kind: str, item: Item, place: Tuple[int, int]) -> Choice:
         """The choice that an item of the right takes."""
         same = [it for it in self.choices if it.kind == kind and (it.item.name == item.name if kind == "member" else it.item.word == item.word)]
         inside = [it for it in same if it.place == place]
@@ -553,7 +582,7 @@ class Expansion:
                 return found[0]
         raise Fault("AmbiguousRight", self.rule.line)
 
-    def takers(self):
+    def takers(self) -> Dict[Tuple[Item, str], Choice]:
         """For each item of the right that has a choice, which ones it takes."""
         taken = {}
         for y, row in enumerate(self.right):
@@ -565,7 +594,7 @@ class Expansion:
                         taken[item, "member"] = self.choice_for("member", item, (y, x))
         return taken
 
-    def instances(self):
+    def instances(self) -> List[Instance]:
         taken = self.takers()
         options = {direction: [self.picks(it, direction) for it in self.choices] for direction in self.rule.directions}
         for lists in options.values():
@@ -578,7 +607,7 @@ class Expansion:
         found, seen = [], set()
         for direction in self.rule.directions:
             for picks in product(*options[direction]):
-                of = dict(zip(self.choices, picks))
+                of: Dict[Choice, str] = dict(zip(self.choices, picks))
                 left = [[self.cell(cell, direction, lambda item, kind: of[next(it for it in self.choices if it.item is item and it.kind == kind)]) for cell in row] for row in self.left]
                 right = [[self.cell(cell, direction, lambda item, kind: of[taken[item, kind]]) for cell in row] for row in self.right]
                 if not all(self.is_possible(cell) for row in left for cell in row if cell != GAP):
@@ -591,7 +620,7 @@ class Expansion:
                     found.append(Instance(scan, left, right, self.rule.commands))
         return found
 
-    def cell(self, cell, direction, picked):
+    def cell(self, cell: RuleCell, direction: str, picked: Callable[[Item, str], str]) -> RuleCell:
         """A cell of an instance: pairs of a word that means one thing and an object."""
         if cell == GAP:
             return GAP
@@ -605,7 +634,7 @@ class Expansion:
             items.append((turned.get(word, word), name))
         return items
 
-    def is_possible(self, cell):
+    def is_possible(self, cell: RuleCell) -> bool:
         present = [it for it in cell if it[0] != "no"]
         for word, name in present:
             if ("no", name) in cell:
@@ -617,7 +646,7 @@ class Expansion:
                     return False
         return True
 
-    def check_clash(self, right):
+    def check_clash(self, right: RuleRows) -> None:
         for cell in (it for row in right for it in row if it != GAP):
             placed = [it for it in cell if it[0] != "no"]
             for word, name in placed:
@@ -626,7 +655,7 @@ class Expansion:
                         raise Fault("RightClash", self.rule.line)
 
 
-def keys_of(rows):
+def keys_of(rows: RuleRows) -> Tuple[Any, ...]:
     return tuple(tuple(cell if cell == GAP else frozenset(cell) for cell in row) for row in rows)
 
 
@@ -636,7 +665,9 @@ def keys_of(rows):
 class Step:
     """What a press or a tick does to a level, which it changes."""
 
-    def __init__(self, game, level, press):
+    given: Set[str]
+
+    def __init__(self, game: Game, level: Level, press: Optional[str]) -> None:
         self.game, self.level, self.given = game, level, set()
         self.width, self.height = len(level), len(level[0])
         before = self.players()
@@ -648,27 +679,28 @@ class Step:
         if press is not None and "require_player_movement" in game.options and before and set(before) <= set(self.players()):
             self.given.add("cancel")
 
-    def players(self):
+    def players(self) -> List[Tuple[int, int]]:
         players = self.game.members("player")
         return [(x, y) for x in range(self.width) for y in range(self.height) if any(it in players for it, _ in self.level[x][y].values())]
 
-    def push(self, press):
+    def push(self, press: str) -> None:
         players = self.game.members("player")
         for x, y in self.players():
             for layer, (name, heading) in self.level[x][y].items():
                 self.level[x][y][layer] = (name, press if name in players else heading)
 
-    def run_all(self, parts):
+    def run_all(self, parts: Parts) -> None:
         for part in parts:
             if isinstance(part, Loop):
-                to_rest(lambda: any([self.rest(group) for group in part.groups]))
+                groups = part.groups
+                to_rest(lambda: any([self.rest(group) for group in groups]))
             else:
                 self.rest(part)
 
-    def rest(self, group):
+    def rest(self, group: Group) -> bool:
         return to_rest(lambda: any([self.apply(it) for it in group]))
 
-    def apply(self, instance):
+    def apply(self, instance: Instance) -> bool:
         """Applies an instance; whether it changes something."""
         places = []
         for row in instance.left:
@@ -688,7 +720,7 @@ class Step:
                 changed = any([self.rewrite(left, right, place) for left, right, place in zip(instance.left, instance.right, combination)]) or changed
         return changed
 
-    def places(self, row, scan):
+    def places(self, row: List[RuleCell], scan: str) -> List[Place]:
         """The places of a row: for each the cells of the level, none for its gap."""
         found = []
         starts = [(x, y) for y in range(self.height) for x in range(self.width)] if scan in HORIZONTAL else [(x, y) for x in range(self.width) for y in range(self.height)]
@@ -701,9 +733,9 @@ class Step:
             raise Stop("match-limit")
         return found
 
-    def place_at(self, row, scan, start, gap):
+    def place_at(self, row: List[RuleCell], scan: str, start: Tuple[int, int], gap: int) -> Optional[Place]:
         (x, y), (dx, dy) = start, STEPS[scan]
-        cells = []
+        cells: Place = []
         for cell in row:
             if cell == GAP:
                 cells.append(None)
@@ -714,10 +746,10 @@ class Step:
         is_inside = all(it is None or (0 <= it[0] < self.width and 0 <= it[1] < self.height) for it in cells)
         return cells if is_inside else None
 
-    def row_fits(self, row, place):
+    def row_fits(self, row: List[RuleCell], place: Place) -> bool:
         return all(at is None or self.cell_fits(cell, self.level[at[0]][at[1]]) for cell, at in zip(row, place))
 
-    def cell_fits(self, items, cell):
+    def cell_fits(self, items: RuleCell, cell: Cell) -> bool:
         held = dict(cell.values())
         for word, name in items:
             if word == "no":
@@ -729,10 +761,10 @@ class Step:
                 return False
         return True
 
-    def rewrite(self, left, right, place):
+    def rewrite(self, left: List[RuleCell], right: List[RuleCell], place: Place) -> bool:
         return any([self.rewrite_cell(one, other, at) for one, other, at in zip(left, right, place) if at is not None])
 
-    def rewrite_cell(self, left, right, at):
+    def rewrite_cell(self, left: RuleCell, right: RuleCell, at: Tuple[int, int]) -> bool:
         """Rewrites a cell; whether that changes it."""
         cell = self.level[at[0]][at[1]]
         layers = self.game.layers
@@ -749,14 +781,14 @@ class Step:
             cell[layer] = (name, kept if word is None else None if word == "stationary" else word)
         return cell != before
 
-    def move(self):
+    def move(self) -> None:
         while any([self.move_from(x, y) for x in range(self.width) for y in range(self.height)]):
             pass
         for cell in (it for column in self.level for it in column):
             for layer, (name, _) in list(cell.items()):
                 cell[layer] = (name, None)
 
-    def move_from(self, x, y):
+    def move_from(self, x: int, y: int) -> bool:
         """Moves what can move from a cell; whether something did."""
         moved = False
         for layer in sorted(self.level[x][y]):
@@ -771,7 +803,7 @@ class Step:
         return moved
 
 
-def to_rest(run):
+def to_rest(run: Callable[[], bool]) -> bool:
     """Runs passes until one changes nothing; whether any did."""
     for number in range(MOST_PASSES):
         if not run():
@@ -779,7 +811,7 @@ def to_rest(run):
     raise Stop("loop-limit")
 
 
-def copy_of(level):
+def copy_of(level: Level) -> Level:
     return [[dict(cell) for cell in column] for column in level]
 
 
@@ -789,7 +821,11 @@ def copy_of(level):
 class Session:
     """A session while it is played: its frames so far."""
 
-    def __init__(self, game, inputs, index):
+    frames: List[Tuple[int, str, Level]]
+    past: List[Level]
+    cause: Optional[str]
+
+    def __init__(self, game: Game, inputs: Sequence[Any], index: int) -> None:
         self.game, self.frames, self.at = game, [], 0
         self.past, self.is_over, self.has_loaded, self.ticks = [], False, False, 0
         self.entry = index
@@ -804,20 +840,20 @@ class Session:
         except Stop as why:
             self.cause = str(why)
 
-    def starts(self):
+    def starts(self) -> bool:
         return "run_rules_on_level_start" in self.game.options
 
-    def show(self, kind, level=None):
+    def show(self, kind: str, level: Optional[Level] = None) -> None:
         self.frames.append((self.at, kind, copy_of(level or self.level)))
 
-    def load(self, kind):
+    def load(self, kind: str) -> None:
         while self.game.entries[self.entry] is None:
             self.entry += 1
-        self.level = self.game.load(self.game.entries[self.entry])
+        self.level = self.game.load(self.game.entries[self.entry])  # type: ignore[arg-type]  # the loop ends at a level
         self.target, self.past = copy_of(self.level), []
         self.show(kind)
 
-    def take(self, given):
+    def take(self, given: Any) -> None:
         self.at += 1
         self.ticks, self.has_loaded = 0, False
         before = copy_of(self.level)
@@ -833,17 +869,17 @@ class Session:
             if not self.has_loaded and self.level != before:
                 self.past.append(before)
 
-    def restart(self):
+    def restart(self) -> bool:
         self.level = copy_of(self.target)
         self.show("restart")
         return self.starts()
 
-    def press(self, direction):
+    def press(self, direction: str) -> bool:
         level = copy_of(self.level)
         step = Step(self.game, level, direction)
         return self.effect("move", level, step.given)
 
-    def chain(self, goes_on):
+    def chain(self, goes_on: bool) -> None:
         """Runs ticks as long as one is to follow."""
         while goes_on:
             if self.ticks == MOST_TICKS:
@@ -851,14 +887,14 @@ class Session:
             self.ticks += 1
             goes_on = self.tick()
 
-    def tick(self):
+    def tick(self) -> bool:
         level = copy_of(self.level)
         given = Step(self.game, level, None).given
         if "cancel" in given or (level == self.level and not given & {"restart", "win"}):
             return False
         return self.effect("tick", level, given)
 
-    def effect(self, kind, level, given):
+    def effect(self, kind: str, level: Level, given: Set[str]) -> bool:
         """Shows a step and lets its commands take effect; whether a tick follows."""
         if "cancel" in given:
             self.show(kind)
@@ -874,7 +910,7 @@ class Session:
             self.target = copy_of(level)
         return "again" in given and has_changed
 
-    def win(self):
+    def win(self) -> bool:
         self.entry += 1
         if not any(self.game.entries[self.entry :]):
             self.is_over = True
@@ -887,14 +923,15 @@ class Session:
 # Lines
 
 
-def cells_in_order(level, order):
+def cells_in_order(level: Level, order: str) -> List[FrozenSet[str]]:
     """The sets of names of a level's cells."""
     columns = level if order == "columns" else zip(*level)
     return [frozenset(name for name, _ in cell.values()) for column in columns for cell in column]
 
 
-def text_of(level, order):
-    known, text = {}, ""
+def text_of(level: Level, order: str) -> str:
+    known: Dict[str, int] = {}
+    text = ""
     for number, cell in enumerate(cells_in_order(level, order), 1):
         names = " ".join(sorted(cell, key=str.encode))
         text += f"{known[names]}," if names in known else f"{names}:{len(known)},"
@@ -904,7 +941,7 @@ def text_of(level, order):
     return text
 
 
-def cells_of_text(text):
+def cells_of_text(text: str) -> List[FrozenSet[str]]:
     """The sets of names that a level text lists, which is good."""
     known, cells = [], []
     for piece in text.replace("\n", "").replace("\r", "").split(",")[:-1]:
@@ -915,12 +952,12 @@ def cells_of_text(text):
     return cells
 
 
-def quoted(text):
+def quoted(text: str) -> str:
     short = {'"': '\\"', "\\": "\\\\", "\b": "\\b", "\f": "\\f", "\n": "\\n", "\r": "\\r", "\t": "\\t"}
     return '"' + "".join(short.get(it) or (f"\\u{ord(it):04x}" if it < " " else it) for it in text) + '"'
 
 
-def lines_of_entry(number, entry, order):
+def lines_of_entry(number: int, entry: Any, order: str) -> Tuple[List[str], bool]:
     """The lines of a session, and whether it passed."""
     name, (source, inputs, recorded, *rest) = entry[0], entry[1]
     index = rest[0] if rest and rest[0] is not None else 0
@@ -939,7 +976,7 @@ def lines_of_entry(number, entry, order):
     return [*lines, f'{{{cause}"close":"{close}","frames":{len(lines)},"name":{quoted(name)},"session":{number}}}'], close == "passed"
 
 
-def recording(entries, order="columns"):
+def recording(entries: Sequence[Any], order: str = "columns") -> Tuple[str, int]:
     """The lines of a sessions file, and the status."""
     answers = [lines_of_entry(number, entry, order) for number, entry in enumerate(entries)]
     return "".join(f"{line}\n" for lines, _ in answers for line in lines), 0 if all(passed for _, passed in answers) else 1

@@ -1,9 +1,12 @@
 """Archives that hold more than one of their readers sees: what is genuine, and a member that only some tools unpack. And those whose names act on who reads them."""
+from __future__ import annotations
+
 import gzip
 import io
 import json
 import tarfile
 import zlib
+from typing import Callable, Dict, List, Optional, Sequence, Tuple
 
 EVIL = b"#!/bin/sh\necho another program\n"
 HEADER = 512
@@ -11,7 +14,7 @@ HEADER = 512
 SIZE, SUM, KIND, DEVICE = slice(124, 136), slice(148, 156), slice(156, 157), slice(329, 337)
 
 
-def member(name, content=EVIL, device=None):
+def member(name: str, content: bytes = EVIL, device: Optional[bytes] = None) -> bytes:
     """A regular file as a member, whose number of a device is no number where one is given."""
     written = io.BytesIO()
     with tarfile.open(fileobj=written, mode="w|", format=tarfile.GNU_FORMAT) as tar:
@@ -22,7 +25,7 @@ def member(name, content=EVIL, device=None):
     return made if device is None else changed(made, [(DEVICE, device)])
 
 
-def changed(made, changes):
+def changed(made: bytes, changes: Sequence[Tuple[slice, bytes]]) -> bytes:
     """A member with other bytes in places of its header, whose sum is right."""
     made = bytearray(made)
     for place, it in [*changes, (SUM, b" " * 8)]:
@@ -31,49 +34,49 @@ def changed(made, changes):
     return bytes(made)
 
 
-def long_named(count):
+def long_named(count: int) -> bytes:
     """So many headers of which each says that the name of the next is long."""
     info = tarfile.TarInfo("././@LongLink")
     info.type, info.size = tarfile.GNUTYPE_LONGNAME, 1
     return (info.tobuf(tarfile.GNU_FORMAT) + bytes(HEADER)) * count
 
 
-def number(it):
+def number(it: int) -> bytes:
     """A number as a header has it: in octal, or where that doesn't hold it in base 256."""
     if 0 <= it < 8**11:
         return b"%011o\0" % it
     return it.to_bytes(12, "big", signed=True) if it < 0 else b"\x80" + it.to_bytes(11, "big")
 
 
-def of_size(size, kind=tarfile.REGTYPE, name="x/y"):
+def of_size(size: int, kind: bytes = tarfile.REGTYPE, name: str = "x/y") -> bytes:
     """A header that says that its member has so many bytes, which aren't there; a number below 0 leads back."""
     return changed(member(name, b""), [(SIZE, number(size)), (KIND, kind)])
 
 
-def told_before(name, told, content=b""):
+def told_before(name: str, told: Dict[str, str], content: bytes = b"") -> bytes:
     """A member with what a header before it tells, as POSIX has it."""
     info = tarfile.TarInfo(name)
     info.pax_headers, info.size = told, len(content)
     return info.tobuf(tarfile.PAX_FORMAT) + content + bytes(-len(content) % HEADER)
 
 
-def hole(name, size):
+def hole(name: str, size: object) -> bytes:
     """A member that has so many bytes, of which none is written."""
     return told_before(name, {"GNU.sparse.size": str(size), "GNU.sparse.map": f"{size},0"})
 
 
-def pairs_of_holes(*numbers):
+def pairs_of_holes(*numbers: int) -> Tuple[slice, bytes]:
     """Where a header has the pieces of a file with holes: offsets and lengths, each of 12 bytes."""
     pairs = b"".join(map(number, numbers))
     return slice(386, 386 + len(pairs)), pairs
 
 
-def old_sparse(name, pairs, real):
+def old_sparse(name: str, pairs: Sequence[int], real: int) -> bytes:
     """A file with holes in the old form of GNU tar: its pieces, and the length that it then has."""
     return changed(member(name), [(KIND, b"S"), pairs_of_holes(*pairs), (slice(483, 495), number(real))])
 
 
-def sparse(name):
+def sparse(name: str) -> Dict[str, bytes]:
     """Files with holes in each form that there is, whose holes lead back, overlap, or are far longer than the file."""
     return {
         "holes, in the old form": old_sparse(name, (0, 10, 20, 8), 30),
@@ -88,7 +91,7 @@ def sparse(name):
     }
 
 
-def digits(name):
+def digits(name: str) -> Dict[str, bytes]:
     """Headers before a member that hold a length of a million digits, which is none, or records without an end."""
     header = of_size(2**20, b"x", name)
     return {
@@ -99,7 +102,7 @@ def digits(name):
     }
 
 
-def lengths(name):
+def lengths(name: str) -> Dict[str, bytes]:
     """Headers whose lengths are none that a file has."""
     return {
         "a length of base 256 below 0": of_size(-HEADER, name=name),
@@ -113,30 +116,30 @@ def lengths(name):
     }
 
 
-def kinds(name):
+def kinds(name: str) -> Dict[str, bytes]:
     """A member of each kind that is neither a file nor a folder."""
     return {f"a member of the kind {chr(it)!r}": changed(member(name, b""), [(KIND, bytes([it]))]) for it in range(256) if it not in b"05"}
 
 
-def stranger(name):
+def stranger(name: str) -> Dict[str, bytes]:
     """For each way what a release has nowhere: blocks of a tar, to be put behind its last member or before its first."""
     return {**sparse(name), **digits(name), **lengths(name), **kinds(name), "a member in the form of POSIX": told_before(name, {})}
 
 
-def folder(name):
+def folder(name: str) -> bytes:
     info = tarfile.TarInfo(name)
     info.type, info.mode = tarfile.DIRTYPE, 0o777
     return info.tobuf(tarfile.GNU_FORMAT)
 
 
-def end_of(raw):
+def end_of(raw: bytes) -> int:
     """Where the last member of an archive ends."""
     with tarfile.open(fileobj=io.BytesIO(raw)) as tar:
         last = tar.getmembers()[-1]
     return last.offset_data + -(-last.size // HEADER) * HEADER
 
 
-def forged(packed, name):
+def forged(packed: bytes, name: str) -> Dict[str, bytes]:
     """For each way of forging a compressed archive what it makes: a file of this name is there twice, or other bytes are."""
     raw = gzip.decompress(packed)
     body, end = raw[: end_of(raw)], bytes(2 * HEADER)
@@ -154,7 +157,7 @@ def forged(packed, name):
     }
 
 
-def parts_of_ar(content):
+def parts_of_ar(content: bytes) -> List[Tuple[bytes, bytes]]:
     """The parts of a Debian package: each with its head of 60 bytes."""
     at, found = 8, []
     while at < len(content):
@@ -164,31 +167,31 @@ def parts_of_ar(content):
     return found
 
 
-def ar_of(parts):
+def ar_of(parts: Sequence[Tuple[bytes, bytes]]) -> bytes:
     """A Debian package of parts, whose heads get their sizes."""
     pieces = [head[:48] + b"%-10d" % len(data) + head[58:] + data + b"\n" * (len(data) % 2) for head, data in parts]
     return b"!<arch>\n" + b"".join(pieces)
 
 
-def part_named(name, content=EVIL):
+def part_named(name: bytes, content: bytes = EVIL) -> Tuple[bytes, bytes]:
     """A part of a Debian package, whose name may be any 16 bytes."""
     return name.ljust(16) + b"0           0     0     100644  0         `\n", content
 
 
-def with_data(content, change):
+def with_data(content: bytes, change: Callable[[bytes], bytes]) -> bytes:
     """A Debian package with what `change` makes of its data."""
     return ar_of([(head, change(data) if head.startswith(b"data.tar") else data) for head, data in parts_of_ar(content)])
 
 
-def forged_packages(content, name):
+def forged_packages(content: bytes, name: str) -> Dict[str, bytes]:
     """For each way of forging a Debian package what it makes."""
     parts = parts_of_ar(content)
     data = next(data for head, data in parts if head.startswith(b"data.tar"))
-    made = {way: with_data(content, lambda _, it=it: it) for way, it in forged(data, name).items()}
+    made = {way: with_data(content, lambda _: it) for way, it in forged(data, name).items()}
     return {**made, "one more part": ar_of([*parts, part_named(b"_data.tar.gz")]), "bytes behind the last part": content + b"\n"}
 
 
-def zeros(count):
+def zeros(count: int) -> bytes:
     """A compressed archive of one member of so many MiB of zeros."""
     info = tarfile.TarInfo("x/y")
     info.size = count * 2**20
@@ -197,7 +200,7 @@ def zeros(count):
     return b"".join(pieces)
 
 
-def bombs(package):
+def bombs(package: bytes) -> Dict[str, bytes]:
     """Files of some kilobytes that unpack to far more than a release, or that never end."""
     packed = {
         "a member of zeros": zeros(160),
@@ -206,41 +209,41 @@ def bombs(package):
         "a name that says that it is long": gzip.compress(of_size(2**60, tarfile.GNUTYPE_LONGNAME) + bytes(2 * HEADER)),
         "members of holes": gzip.compress(b"".join(hole(f"x/{it}", 100 * 2**20) for it in range(40)) + bytes(2 * HEADER)),
     }
-    return {**packed, **{f"in a package, {way}": with_data(package, lambda _, it=it: it) for way, it in packed.items()}}
+    return {**packed, **{f"in a package, {way}": with_data(package, lambda _: it) for way, it in packed.items()}}
 
 
 # What a terminal does, and what a CI takes for commands, where a stranger's text is shown as it is.
 SPOKEN = "\n::error::spoken\r::error::again\x1b[2J\x1b]0;x\x07\u202e ##vso[task.complete]x ##[error]x"
 
 
-def with_blocks(packed, blocks):
+def with_blocks(packed: bytes, blocks: bytes) -> bytes:
     """A compressed archive with more behind its last member."""
     raw = gzip.decompress(packed)
     return gzip.compress(raw[: end_of(raw)] + blocks + bytes(2 * HEADER), 1)
 
 
-def with_member(packed, name):
+def with_member(packed: bytes, name: str) -> bytes:
     """A compressed archive with one more member, whose name may be any text."""
     return with_blocks(packed, member(name))
 
 
-def with_a_name_before(packed, name):
+def with_a_name_before(packed: bytes, name: str) -> bytes:
     """The same, but the name stands in a header of its own, which no release has."""
     return with_blocks(packed, told_before(name, {"path": name}, EVIL))
 
 
-def badly_packed(raw):
+def badly_packed(raw: bytes) -> bytes:
     """Compressed bytes, and behind them a block of a kind that there is not."""
     packer = zlib.compressobj(9, zlib.DEFLATED, 16 + zlib.MAX_WBITS)
     return packer.compress(raw) + packer.flush(zlib.Z_FULL_FLUSH) + b"\x07"
 
 
-def node_package(said):
+def node_package(said: bytes) -> bytes:
     """A package for Node in which this stands of it."""
     return gzip.compress(member("package/package.json", said) + bytes(2 * HEADER))
 
 
-def speaking(node, package, commit):
+def speaking(node: bytes, package: bytes, commit: str) -> Dict[str, Tuple[bytes, int]]:
     """Files whose names or commits are such a text: what each is, and the status that it wants."""
     parts = parts_of_ar(package)
     return {

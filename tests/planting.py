@@ -6,6 +6,8 @@ Of the errors that can be planted COUNT are drawn by a seed (300), or --all are 
 are played on 400 sessions of a generator too, by the same seed, and on the first presses of those of bench/sessions: one that changes an answer there is
 one that the suite should have caught. The last line says how many were.
 """
+from __future__ import annotations
+
 import argparse
 import ast
 import copy
@@ -16,6 +18,7 @@ import subprocess
 import sys
 from pathlib import Path
 from types import ModuleType
+from typing import Any, Callable, Iterator, List, Optional, Sequence, Tuple, Union
 
 TOP = Path(__file__).resolve().parent.parent
 ENGINE = TOP / "tests" / "engine_by_the_book.py"
@@ -28,6 +31,8 @@ OTHERS = {
     ast.Eq: ast.NotEq, ast.NotEq: ast.Eq, ast.Lt: ast.LtE, ast.LtE: ast.Lt, ast.Gt: ast.GtE, ast.GtE: ast.Gt, ast.In: ast.NotIn, ast.NotIn: ast.In,
     ast.Is: ast.IsNot, ast.IsNot: ast.Is, ast.And: ast.Or, ast.Or: ast.And, ast.Add: ast.Sub, ast.Sub: ast.Add,
 }  # fmt: skip
+# What an engine writes, with its status; or how it fails.
+Written = Union[str, Tuple[str, int]]
 FUNCTIONS = {"any": "all", "all": "any", "min": "max", "max": "min"}
 
 
@@ -38,11 +43,11 @@ class TooLong(Exception):
 # Errors
 
 
-def swapped(items):
+def swapped(items: List[Any]) -> List[Any]:
     return [items[1], items[0], *items[2:]]
 
 
-def errors_of(node):
+def errors_of(node: ast.AST) -> Iterator[Tuple[str, Callable[..., Any]]]:
     """The errors that can be planted at a node: each a name, and what changes the node."""
     if isinstance(node, ast.Compare):
         yield from ((type(it).__name__, lambda n, at=at: n.ops.__setitem__(at, OTHERS[type(n.ops[at])]())) for at, it in enumerate(node.ops))
@@ -73,7 +78,7 @@ def errors_of(node):
                 yield "left out", lambda n, field=field, at=at: getattr(n, field).__setitem__(at, ast.copy_location(ast.Pass(), getattr(n, field)[at]))
 
 
-def functions_of(tree):
+def functions_of(tree: ast.Module) -> List[ast.stmt]:
     """What of the engine is mutated: all but how it is called."""
     return [it for it in tree.body if not (isinstance(it, ast.If) or isinstance(it, (ast.Import, ast.ImportFrom)))]
 
@@ -81,13 +86,13 @@ def functions_of(tree):
 class Mutant:
     """The engine with one error: at a node, by its place in the tree."""
 
-    def __init__(self, place, number, name, line):
+    def __init__(self, place: int, number: int, name: str, line: int) -> None:
         self.place, self.number, self.name, self.line = place, number, name, line
 
-    def __str__(self):
+    def __str__(self) -> str:
         return f"line {self.line}: {self.name}"
 
-    def engine(self, tree):
+    def engine(self, tree: ast.Module) -> Optional[ModuleType]:
         """The module of the engine with the error; None where it can't even be loaded."""
         changed = copy.deepcopy(tree)
         node = nodes_of(changed)[self.place]
@@ -98,11 +103,11 @@ class Mutant:
             return None
 
 
-def nodes_of(tree):
+def nodes_of(tree: ast.Module) -> List[ast.AST]:
     return [node for part in functions_of(tree) for node in ast.walk(part)]
 
 
-def mutants_of(tree):
+def mutants_of(tree: ast.Module) -> List[Mutant]:
     found = []
     for place, node in enumerate(nodes_of(tree)):
         for number, (name, _) in enumerate(errors_of(node)):
@@ -110,7 +115,7 @@ def mutants_of(tree):
     return found
 
 
-def module_of(tree):
+def module_of(tree: ast.Module) -> ModuleType:
     module = ModuleType("engine")
     exec(compile(ast.fix_missing_locations(tree), str(ENGINE), "exec"), module.__dict__)
     return module
@@ -119,16 +124,17 @@ def module_of(tree):
 # Playing
 
 
-def out_of_time(number, frame):
+def out_of_time(number: int, frame: Any) -> None:
     raise TooLong
 
 
-def played(engine, entries, order, seconds=LIMIT):
+def played(engine: ModuleType, entries: Sequence[Any], order: str, seconds: float = LIMIT) -> Written:
     """What an engine writes, or how it fails."""
     signal.signal(signal.SIGVTALRM, out_of_time)
     signal.setitimer(signal.ITIMER_VIRTUAL, seconds)
     try:
-        return engine.recording(entries, order)
+        written: Written = engine.recording(entries, order)
+        return written
     except (Exception, RecursionError) as why:
         return type(why).__name__
     finally:
@@ -138,14 +144,14 @@ def played(engine, entries, order, seconds=LIMIT):
 class Case:
     """A session file with the answer that is wanted."""
 
-    def __init__(self, name, entries, order, wanted):
+    def __init__(self, name: str, entries: List[Any], order: str, wanted: Written) -> None:
         self.name, self.entries, self.order, self.wanted, self.caught = name, entries, order, wanted, 0
 
-    def catches(self, engine):
+    def catches(self, engine: ModuleType) -> bool:
         return played(engine, self.entries, self.order) != self.wanted
 
 
-def case_in(folder):
+def case_in(folder: Path) -> Optional[Case]:
     """A case of the suite, or None where it is about files and command lines."""
     args = (folder / "args").read_text().split() if (folder / "args").exists() else []
     status = int((folder / "status").read_text())
@@ -155,7 +161,7 @@ def case_in(folder):
     return Case(folder.name, entries, args[1] if args else "columns", ((folder / "stdout").read_text(encoding="utf-8"), status))
 
 
-def cases(engine):
+def cases(engine: ModuleType) -> Tuple[List[Case], List[str]]:
     """The cases of the suite that an engine answers as is wanted, but for those of large limits, which this one takes long for; and those that it doesn't."""
     found, wrong = [], []
     for case in filter(None, map(case_in, sorted(CASES.iterdir()))):
@@ -167,7 +173,7 @@ def cases(engine):
     return found, wrong
 
 
-def catcher(engine, suite):
+def catcher(engine: ModuleType, suite: List[Case]) -> Optional[Case]:
     """The first case that catches an error; those that caught most come first."""
     suite.sort(key=lambda it: -it.caught)
     for case in suite:
@@ -184,18 +190,18 @@ WORDS = (">", "<", "^", "v", "up", "down", "left", "right", "action", "stationar
 HEAD = "OBJECTS\nBackground .\na\nTarget o\na\nPlayer p\na\nWall #\na\nCrate c\na\nSpike s\na\nMark m\na\nLEGEND\n@ = Crate and Target\nBoth = Crate and Mark\nThing = Crate or Wall\nHeads = Player or Crate or Spike\nOne = Spike or Spike\nCOLLISIONLAYERS\nBackground\nTarget\nPlayer, Wall, Crate, Spike\nMark\n"
 
 
-def item_of(chance, is_late):
+def item_of(chance: random.Random, is_late: bool) -> str:
     word = chance.choice(WORDS) if chance.random() < 0.5 else ""
     return f"{word if not is_late or word == 'no' else ''} {chance.choice(NAMES)}".strip()
 
 
-def side_of(chance, shape, is_late):
-    return " ".join("[ " + " | ".join("..." if it == "..." else " ".join(item_of(chance, is_late) for _ in range(it)) for it in row) + " ]" for row in shape)
+def side_of(chance: random.Random, shape: Sequence[Sequence[Union[int, str]]], is_late: bool) -> str:
+    return " ".join("[ " + " | ".join(it if isinstance(it, str) else " ".join(item_of(chance, is_late) for _ in range(it)) for it in row) + " ]" for row in shape)
 
 
-def rule_of(chance):
+def rule_of(chance: random.Random) -> str:
     is_late = chance.random() < 0.2
-    shape = [[chance.choice((0, 1, 1, 1, 2)) for _ in range(chance.choice((1, 1, 2, 2, 3)))] for _ in range(chance.choice((1, 1, 1, 2)))]
+    shape: List[List[Union[int, str]]] = [[chance.choice((0, 1, 1, 1, 2)) for _ in range(chance.choice((1, 1, 2, 2, 3)))] for _ in range(chance.choice((1, 1, 1, 2)))]
     if chance.random() < 0.15 and len(shape[0]) > 1:
         shape[0].insert(1, "...")
     right = side_of(chance, shape, is_late) if chance.random() < 0.85 else ""
@@ -204,7 +210,7 @@ def rule_of(chance):
     return " ".join([*before, side_of(chance, shape, is_late), "->", right, command])
 
 
-def rules_of(chance):
+def rules_of(chance: random.Random) -> str:
     rules = [rule_of(chance) for _ in range(chance.randint(1, 4))]
     if chance.random() < 0.2:
         at = chance.randrange(len(rules))
@@ -212,17 +218,17 @@ def rules_of(chance):
     return "\n".join(rules)
 
 
-def wins_of(chance):
+def wins_of(chance: random.Random) -> str:
     kinds = ("all", "some", "any", "no")
     return "\n".join(f"{chance.choice(kinds)} {chance.choice(NAMES)}" + (f" on {chance.choice(NAMES)}" if chance.random() < 0.5 else "") for _ in range(chance.choice((0, 1, 1, 2))))
 
 
-def level_of(chance):
+def level_of(chance: random.Random) -> str:
     width, height = chance.randint(1, 5), chance.randint(1, 4)
     return "\n".join("".join(chance.choice("....p#csmo@") for _ in range(width)) for _ in range(height))
 
 
-def session_of(chance):
+def session_of(chance: random.Random) -> List[Any]:
     options = "".join(f"{it}\n" for it in ("run_rules_on_level_start", "require_player_movement") if chance.random() < 0.2)
     levels = "\n\n".join(chance.choice((level_of(chance), level_of(chance), "message x")) for _ in range(chance.randint(1, 3)))
     source = f"{options}{HEAD}RULES\n{rules_of(chance)}\nWINCONDITIONS\n{wins_of(chance)}\nLEVELS\n{levels}\n"
@@ -230,9 +236,10 @@ def session_of(chance):
     return ["a", [source, inputs, "", 0]]
 
 
-def generated(seed, count, engine):
+def generated(seed: int, count: int, engine: ModuleType) -> List[Case]:
     """Sessions of a seed that are played, with what the engine answers: most random rules are refused."""
-    chance, found = random.Random(seed), []
+    chance = random.Random(seed)
+    found: List[Case] = []
     while len(found) < count:
         entry = session_of(chance)
         wanted = played(engine, [entry], "rows", 1)
@@ -241,7 +248,7 @@ def generated(seed, count, engine):
     return found
 
 
-def benched(engine):
+def benched(engine: ModuleType) -> List[Case]:
     """The sessions of bench/sessions by their first presses, with what the engine answers."""
     found = []
     for kind in ("small", "push", "again"):
@@ -251,12 +258,12 @@ def benched(engine):
     return found
 
 
-def drawn(tree, seed, count):
+def drawn(tree: ast.Module, seed: int, count: int) -> List[Mutant]:
     """So many of the errors that can be planted."""
     return random.Random(seed).sample(mutants_of(tree), count)
 
 
-def main(words):
+def main(words: Sequence[str]) -> int:
     reader = argparse.ArgumentParser(description=__doc__, formatter_class=argparse.RawDescriptionHelpFormatter)
     reader.add_argument("--seed", type=int, default=83)
     reader.add_argument("--count", type=int, default=300)

@@ -2,23 +2,32 @@
 
 It knows the objects background, player, crate and wall by the one-letter names behind them, one rule, and levels. A source without a layer for
 each of its objects, or with a letter that draws nothing, is refused. With a bug an undo gives back the player and leaves the crates."""
+from __future__ import annotations
+
 import json
 import sys
+from typing import Any, Dict, Iterator, List, Optional, Sequence, Set, Tuple
 
-from day import STEPS, text_of
+from day import STEPS, Level, text_of
 
 PUSH = "[ > player | crate ] -> [ > player | > crate ]"
 FIRST_HEADING = "objects"
 HEADINGS = ("legend", "sounds", "collisionlayers", "rules", "winconditions", "levels")
 
 
+# The lines of each section, with their numbers.
+Sections = Dict[str, List[Tuple[int, str]]]
+Glyphs = Dict[str, Set[str]]
+
+
 class Refusal(Exception):
     """The fault of a source."""
 
 
-def sections_of(source):
+def sections_of(source: str) -> Sections:
     """The lines of each section, with their numbers."""
-    sections, section = {}, "prelude"
+    sections: Sections = {}
+    section = "prelude"
     for number, line in enumerate(source.lower().split("\n"), 1):
         line = line.strip()
         if line == FIRST_HEADING or line in HEADINGS:
@@ -28,7 +37,7 @@ def sections_of(source):
     return sections
 
 
-def glyphs_of(sections):
+def glyphs_of(sections: Sections) -> Glyphs:
     """What each letter draws."""
     glyphs, objects = {}, [it for it in sections.get("objects", []) if it[1].strip("0123456789.")]
     layers = " ".join(line for _, line in sections.get("collisionlayers", [])).replace(",", " ").split()
@@ -42,7 +51,7 @@ def glyphs_of(sections):
     return glyphs
 
 
-def blocks_of(sections):
+def blocks_of(sections: Sections) -> List[List[Tuple[int, str]]]:
     """The levels, each with the number of its first row."""
     blocks, rows = [], []
     for number, line in [*sections.get("levels", []), (0, "")]:
@@ -54,7 +63,7 @@ def blocks_of(sections):
     return blocks
 
 
-def level_of(block, glyphs):
+def level_of(block: Sequence[Tuple[int, str]], glyphs: Glyphs) -> Level:
     """A level as a list of columns of cells."""
     for number, line in block:
         if set(line) - set(glyphs):
@@ -64,7 +73,7 @@ def level_of(block, glyphs):
     return [[set(glyphs[letter]) for letter in column] for column in zip(*rows)]
 
 
-def moved(level, name, at, step):
+def moved(level: Level, name: str, at: Tuple[int, int], step: Tuple[int, int]) -> Optional[Level]:
     """The level after something at a place has moved, or None where it can't."""
     aim = at[0] + step[0], at[1] + step[1]
     if not (0 <= aim[0] < len(level) and 0 <= aim[1] < len(level[0])) or level[aim[0]][aim[1]] & {"wall", "crate", "player"}:
@@ -75,7 +84,7 @@ def moved(level, name, at, step):
     return level
 
 
-def after(level, step, pushes):
+def after(level: Level, step: Tuple[int, int], pushes: bool) -> Level:
     places = [(x, y) for x, column in enumerate(level) for y, cell in enumerate(column) if "player" in cell]
     for at in places:
         aim = at[0] + step[0], at[1] + step[1]
@@ -86,7 +95,7 @@ def after(level, step, pushes):
     return level
 
 
-def given_back(before, level, has_bug):
+def given_back(before: Level, level: Level, has_bug: bool) -> Level:
     """The level that an undo gives back."""
     if not has_bug:
         return before
@@ -94,14 +103,15 @@ def given_back(before, level, has_bug):
     return [[(cell - {"crate"}) | crates[x][y] for y, cell in enumerate(column)] for x, column in enumerate(before)]
 
 
-def frames_of(entry, has_bug):
+def frames_of(entry: Any, has_bug: bool) -> Iterator[Tuple[int, str, Level]]:
     """What a session shows: the inputs taken, the kind and the level of each frame."""
     source, inputs, _, index = (*entry[1], 0)[:4]
     sections = sections_of(source)
     glyphs, blocks = glyphs_of(sections), blocks_of(sections)
     if not blocks or index >= len(blocks):
         raise Refusal("NoLevel:0" if not blocks else "no-level")
-    level, past = level_of(blocks[index], glyphs), []
+    level = level_of(blocks[index], glyphs)
+    past: List[Level] = []
     pushes = any(line == PUSH for _, line in sections.get("rules", []))
     yield 0, "start", level
     for at, it in enumerate(inputs, 1):
@@ -114,23 +124,24 @@ def frames_of(entry, has_bug):
         yield at, "move", level
 
 
-def play(number, entry, has_bug):
+def play(number: int, entry: Any, has_bug: bool) -> bool:
     """The lines of a session; answers whether it passed."""
-    frames, cause, text = [], None, ""
+    frames: List[Dict[str, Any]] = []
+    cause, text = None, ""
     try:
         for at, kind, level in frames_of(entry, has_bug):
             text = text_of(level)
             frames.append({"at": at, "frame": len(frames), "kind": kind, "level": text, "session": number})
     except Refusal as why:
         cause = str(why)
-    close = {"cause": cause} if cause else {}
+    close: Dict[str, Any] = {"cause": cause} if cause else {}
     close.update({"close": "refused" if cause else "passed" if text == entry[1][2] else "differs", "frames": len(frames), "name": entry[0], "session": number})
     for line in [*frames, close]:
         print(json.dumps(line, separators=(",", ":"), ensure_ascii=False))
-    return close["close"] == "passed"
+    return bool(close["close"] == "passed")
 
 
-def main(has_bug):
+def main(has_bug: bool) -> None:
     """Plays the sessions file that the last word names."""
     with open(sys.argv[-1], encoding="utf-8") as file:
         entries = json.load(file)

@@ -1,5 +1,8 @@
 """Names and sources by somebody who wants to run a script in the report."""
+from __future__ import annotations
+
 import json
+from typing import Optional, Sequence, Tuple
 
 # What could end a script, begin one, or close a text of the page or of XML.
 NAMES = (
@@ -32,7 +35,7 @@ p.
 """
 
 
-def sessions_and_lines(names, last=None):
+def sessions_and_lines(names: Sequence[str], last: Optional[str] = None) -> Tuple[str, str]:
     """For each name a session that differs and one that is refused, and one more for the last, with the lines that a program would write."""
     entries, lines = [], []
     level = f"{EVIL} background:0,background:1,\n"

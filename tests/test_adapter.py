@@ -1,16 +1,19 @@
 """adapters/javascript: an engine in JavaScript that is plugged in writes our lines, and takes our command line. Left out where node is not there."""
+from __future__ import annotations
+
 import json
 import re
 import shutil
 import subprocess
 import sys
 import unittest
+from typing import Tuple
 
 from day import EXAMPLE, OnSessions
 from tool import CASES, PROGRAM, TOP, plays, run
 from saxtegun.stages import told_in
 
-NODE = shutil.which("node")
+NODE = shutil.which("node") or ""
 ADAPTER = TOP / "adapters/javascript"
 ENGINE = ADAPTER / "example.js"
 ANOTHER = TOP / "tests/another_engine"
@@ -91,18 +94,18 @@ TOLD = """\
 """
 
 
-def node(*words, stdin=b""):
+def node(*words: object, stdin: bytes = b"") -> subprocess.CompletedProcess[bytes]:
     return subprocess.run([NODE, *map(str, words)], input=stdin, stdout=subprocess.PIPE, stderr=subprocess.PIPE)
 
 
 @unittest.skipUnless(NODE, "node is not there")
 class Adapter(OnSessions):
-    def test_the_example_is_played_as_by_hand(self):
+    def test_the_example_is_played_as_by_hand(self) -> None:
         for words, stdin in (((EXAMPLE,), b""), (("--workers", "2", "--order=columns", "--", EXAMPLE), b""), ((), EXAMPLE.read_bytes())):
             ran = node(ENGINE, *words, stdin=stdin)
             self.assertEqual((ran.stdout, ran.stderr, ran.returncode), (self.lines.read_bytes(), b"", 1))
 
-    def test_lines_are_spelt_as_the_program_spells_them(self):
+    def test_lines_are_spelt_as_the_program_spells_them(self) -> None:
         ran = node("-e", SCRIPT, ADAPTER / "lines.js")
         self.assertEqual(ran.stderr, b"")
         lines = iter(ran.stdout.decode().split("\n"))
@@ -114,12 +117,12 @@ class Adapter(OnSessions):
             self.assertEqual(next(lines), '{"cause":"BadRule:3","close":"refused","frames":0,"name":"c","session":2}')
             self.assertEqual(next(lines), '{"close":"differs","frames":0,"name":"d","session":3}')
 
-    def test_a_wrong_use_is_reported(self):
+    def test_a_wrong_use_is_reported(self) -> None:
         for words, wanted in WRONG.items():
             script = 'const { Lines } = require(process.argv[1]); const level = { width: 1, height: 1, at: () => [] }; const lines = new Lines(() => {});\n'
             self.assertIn(wanted, node("-e", script + words, ADAPTER / "lines.js").stderr.decode())
 
-    def test_a_file_is_refused_as_by_the_program(self):
+    def test_a_file_is_refused_as_by_the_program(self) -> None:
         for case in sorted((*CASES.iterdir(), *(TOP / "conformance/files").iterdir())):
             if (case / "status").read_text().strip() != "2" or case.name in OTHERWISE:
                 continue
@@ -129,7 +132,7 @@ class Adapter(OnSessions):
                 ran = subprocess.run([NODE, ENGINE, *words], stdin=file, cwd=room, stdout=subprocess.PIPE, stderr=subprocess.PIPE)
                 self.assertEqual((ran.stdout, ran.stderr, ran.returncode), (b"", (case / "stderr").read_bytes(), 2))
 
-    def test_an_engine_that_fails_in_any_way_has_no_answer(self):
+    def test_an_engine_that_fails_in_any_way_has_no_answer(self) -> None:
         """Also one that ends in the midst of it: what it has shown by then is not all, and no status says that it is."""
         sessions = self.write("sessions.json", json.dumps([[name, ["", [], "background:0,"]] for name in "ab"]))
         for does, told in FAILING.items():
@@ -139,13 +142,13 @@ class Adapter(OnSessions):
                 self.assertTrue(ran.stderr.decode().endswith(f"{told}\n"), ran.stderr)
         self.assertEqual(node("-e", PLAYS % "return null", ADAPTER / "program.js", sessions).returncode, 0)
 
-    def test_no_more_is_read_than_a_file_may_have(self):
+    def test_no_more_is_read_than_a_file_may_have(self) -> None:
         for file in (self.write("long.json", "[]".ljust(2**24 + 1)), "/dev/zero"):
             ran = node(ENGINE, file)
             self.assertEqual((ran.stdout, ran.stderr, ran.returncode), (b"", b"too-many\n", 2))
         self.assertEqual(node(ENGINE, stdin=b"[]".ljust(2**24)).returncode, 0)
 
-    def test_an_engine_that_throws_has_no_answer(self):
+    def test_an_engine_that_throws_has_no_answer(self) -> None:
         sessions = self.write("sessions.json", json.dumps([["another source", ["", [], ""]]]))
         answer = run("test", sessions, "--program", ENGINE)
         self.assertEqual((answer.status, answer.out), (2, ""))
@@ -156,21 +159,21 @@ class Adapter(OnSessions):
 class AnotherEngine(OnSessions):
     """An engine that isn't ours in shape: rows of numbers, promises, exceptions."""
 
-    def test_the_page_shows_how_it_is_plugged_in(self):
-        quoted = re.search(r"```js\n(serve\(.*?)```", (TOP / "docs/engine.md").read_text(encoding="utf-8"), re.S)[1]
+    def test_the_page_shows_how_it_is_plugged_in(self) -> None:
+        quoted = re.findall(r"```js\n(serve\(.*?)```", (TOP / "docs/engine.md").read_text(encoding="utf-8"), re.S)[0]
         self.assertTrue((ANOTHER / "play.js").read_text(encoding="utf-8").endswith(quoted))
 
-    def test_it_passes_the_cases_of_what_it_knows(self):
+    def test_it_passes_the_cases_of_what_it_knows(self) -> None:
         ran = subprocess.run([sys.executable, TOP / "conformance/run", *(it for name in KNOWN for it in ("--only", name)), ANOTHER / "play.js"], stdout=subprocess.PIPE)
         self.assertEqual((ran.returncode, ran.stdout.decode()), (0, f"{len(KNOWN)} passed, 0 failed\n"))
 
-    def test_a_source_that_it_refuses_by_an_exception_is_closed(self):
+    def test_a_source_that_it_refuses_by_an_exception_is_closed(self) -> None:
         file = self.write("sessions.json", json.dumps([["a", ["OBJECTS\n", [3], ""]], ["b", ["", [], ""]]]))
         ran = node(ANOTHER / "play.js", file)
         self.assertEqual([json.loads(it)["cause"] for it in ran.stdout.decode().splitlines()], ["Section:0", "Section:0"])
         self.assertEqual((ran.returncode, ran.stderr), (1, b""))
 
-    def test_an_error_of_it_is_told_with_the_input(self):
+    def test_an_error_of_it_is_told_with_the_input(self) -> None:
         source = "OBJECTS\nBackground .\na\nPlayer p\na\nLEGEND\nCOLLISIONLAYERS\nBackground\nPlayer\nLEVELS\np.\n"
         file = self.write("sessions.json", json.dumps([["a", [source, [3], ""]], ["b", [source, [3, 1, "tick", 3], ""]], ["c", [source, [3], ""]]]))
         other = self.write("other", f"#!/bin/sh\nexec {sys.executable} -B {TOP}/tests/engine_by_the_book.py \"$@\"\n")
@@ -185,28 +188,28 @@ class AnotherEngine(OnSessions):
 @plays
 @unittest.skipUnless(NODE, "node is not there")
 class DayOfTheAdapter(OnSessions):
-    def test_the_example_is_played_as_by_the_program(self):
+    def test_the_example_is_played_as_by_the_program(self) -> None:
         answer = run("compare", "--engines", PROGRAM, ENGINE, EXAMPLE)
         self.assertEqual((answer.status, answer.out, answer.errors), (0, "5 sessions: 5 the same, 0 diverge\n", ""))
 
 
 @unittest.skipUnless(NODE, "node is not on the path")
 class Stages(unittest.TestCase):
-    def told(self, *words, source="a game"):
+    def told(self, *words: object, source: str = "a game") -> Tuple[int, str, str]:
         file = json.dumps([["a", [source, [3, 3], ""]]]).encode()
         ran = node("-e", STAGES, ADAPTER / "program.js", *words, stdin=file)
         return ran.returncode, ran.stdout.decode(), ran.stderr.decode()
 
-    def test_stages_are_written_as_their_lines_are_read(self):
+    def test_stages_are_written_as_their_lines_are_read(self) -> None:
         status, out, errors = self.told("0", "2", "columns")
         self.assertEqual((status, out, errors), (0, TOLD, ""))
         read = [told_in(it, 2) for it in out.splitlines()]
-        self.assertEqual([(type(it).__name__, it.tick) for it in read], [("Stage", 0), ("Stage", 0), ("Stop", 1)])
+        self.assertEqual([(type(it).__name__, it and it.tick) for it in read], [("Stage", 0), ("Stage", 0), ("Stop", 1)])
 
-    def test_a_session_that_is_not_there_has_none(self):
+    def test_a_session_that_is_not_there_has_none(self) -> None:
         self.assertEqual(self.told("1", "2"), (0, "", ""))
 
-    def test_a_wrong_call_is_refused_and_an_engine_that_throws_fails(self):
+    def test_a_wrong_call_is_refused_and_an_engine_that_throws_fails(self) -> None:
         for words in ((), ("0",), ("0", "x"), ("0", "1", "rows"), ("0", "1", "columns", "x"), ("-1", "0")):
             with self.subTest(words):
                 self.assertEqual(self.told(*words), (2, "", "bad command line\n"))

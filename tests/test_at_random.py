@@ -5,6 +5,8 @@ The verbs run in this process, which is what lets so many be called. By hand, wi
 
     SAXTEGUN_PROGRAM=.. python3 tests/test_at_random.py SEED COUNT
 """
+from __future__ import annotations
+
 import io
 import json
 import os
@@ -15,6 +17,7 @@ import sys
 import tempfile
 import unittest
 from pathlib import Path
+from typing import Any, Callable, List, Optional, Sequence
 
 from tool import PROGRAM, TOP, plays
 from saxtegun.command_line import main as call_verb
@@ -36,11 +39,11 @@ MOST_ENTRIES = 10
 
 
 class Answer:
-    def __init__(self, status, out, errors):
+    def __init__(self, status: Any, out: str, errors: str) -> None:
         self.status, self.out, self.errors = status, out, errors
 
 
-def called(words, stdin=b""):
+def called(words: Sequence[object], stdin: bytes = b"") -> Answer:
     """A verb called in this process, as the command calls it."""
     streams = sys.stdout, sys.stderr, sys.argv
     handlers = {it: signal.getsignal(it) for it in (signal.SIGINT, signal.SIGTERM, signal.SIGHUP)}
@@ -52,29 +55,30 @@ def called(words, stdin=b""):
         keys.seek(0)
         os.dup2(keys.fileno(), 0)
         try:
-            serve(words[0], call_verb)
+            serve(str(words[0]), call_verb)
         except SystemExit as end:
             status = end.code
         finally:
             os.dup2(keep, 0)
             os.close(keep)
             answers = sys.stdout.buffer, sys.stderr.buffer
-            sys.stdout.flush(), sys.stderr.flush()
-            out, errors = (it.getvalue().decode() for it in answers)
+            sys.stdout.flush()
+            sys.stderr.flush()
+            out, errors = (it.getvalue().decode() for it in answers)  # type: ignore[attr-defined]  # both keep what is written
             sys.stdout, sys.stderr, sys.argv = streams
             for number, handler in handlers.items():
                 signal.signal(number, handler)
     return Answer(status, out, errors)
 
 
-def closes_of(entries):
+def closes_of(entries: List[Any]) -> Any:
     """How the program alone closes sessions."""
     ran = subprocess.run([str(PROGRAM)], input=json.dumps(entries).encode(), stdout=subprocess.PIPE, stderr=subprocess.PIPE)
     lines = [json.loads(it) for it in ran.stdout.decode().splitlines()]
     return [it["close"] for it in lines if "close" in it] if ran.returncode in (0, 1) else None
 
 
-def reached(source, inputs, index):
+def reached(source: str, inputs: List[Any], index: int) -> Optional[str]:
     """The level that a session reaches, by the program alone, or None where it is not played."""
     ran = subprocess.run([str(PROGRAM)], input=json.dumps([["a", [source, inputs, "", index]]]).encode(), stdout=subprocess.PIPE)
     lines = [json.loads(it) for it in ran.stdout.decode().splitlines()]
@@ -84,17 +88,17 @@ def reached(source, inputs, index):
 class Folder:
     """A folder with a game and two files of recordings, and what a hand or a verb does in it."""
 
-    def __init__(self, room, seed):
+    def __init__(self, room: Path, seed: int) -> None:
         self.random = random.Random(seed)
         self.room, self.game = room, room / "game.txt"
         self.suites = [room / "one.json", room / "other.json"]
-        self.called = []
+        self.called: List[Any] = []
         self.game.write_text(GAME, encoding="utf-8")
         for suite in self.suites:
             suite.write_text("[]\n", encoding="utf-8")
         self.verbs = [self.edit, self.play, self.add, self.add, self.test, self.test, self.test, self.accept, self.follow, self.look, self.spoil, self.tidy]
 
-    def run(self, *words, stdin=b""):
+    def run(self, *words: object, stdin: bytes = b"") -> Answer:
         answer = called(words, stdin)
         self.called.append((words, answer.status))
         assert answer.status in (0, 1, 2), words
@@ -102,30 +106,30 @@ class Folder:
         assert answer.status != 2 or answer.errors, f"{words}: no word on status 2"
         return answer
 
-    def entries(self, suite):
+    def entries(self, suite: Path) -> Any:
         """The entries of a file, or None where it is none."""
         try:
             return json.loads(suite.read_text(encoding="utf-8"))
         except ValueError:
             return None
 
-    def text(self):
+    def text(self) -> str:
         return self.game.read_bytes().decode()
 
-    def over(self, entries, is_all=False):
+    def over(self, entries: List[Any], is_all: bool = False) -> List[Any]:
         """The entries over the text at hand: those of the empty source, or all."""
         return [[it[0], [self.text() if is_all or not it[1][0] else it[1][0], *it[1][1:4]]] for it in entries]
 
-    def suite(self):
+    def suite(self) -> Path:
         return self.random.choice(self.suites)
 
-    def edit(self):
+    def edit(self) -> None:
         self.game.write_bytes(self.random.choice(TEXTS).encode())
 
-    def inputs(self):
+    def inputs(self) -> List[Any]:
         return [self.random.choice(INPUTS) for _ in range(self.random.randrange(9))]
 
-    def keeps(self, suite, before, answer):
+    def keeps(self, suite: Path, before: List[Any], answer: Answer) -> None:
         """What was in a file stands in it still, and the status tells whether there is more."""
         after = self.entries(suite)
         if before is None or answer.status:
@@ -133,7 +137,7 @@ class Folder:
         else:
             assert after[: len(before)] == before, f"{self.called[-1]} lost an entry"
 
-    def play(self):
+    def play(self) -> None:
         suite = self.suite()
         before = self.entries(suite)
         keys = "".join(self.random.choice(KEYS) for _ in range(self.random.randrange(4)))
@@ -143,7 +147,7 @@ class Folder:
             entry = self.entries(suite)[-1]
             assert closes_of(self.over([entry])) == ["passed"], f"what was played doesn't pass: {entry}"
 
-    def add(self):
+    def add(self) -> None:
         """A recording over the text at hand or another, which may hold or not."""
         suite, text, inputs = self.suite(), self.random.choice((self.text(), self.random.choice(TEXTS))), self.inputs()
         level = reached(text, inputs, 0) or "background:0,"
@@ -156,11 +160,11 @@ class Folder:
         words = self.random.choice(((), ("--game", self.game), ("--game", self.game), ("--anyway",)))
         self.keeps(suite, before, self.run("add", suite, console, *words))
 
-    def test(self):
+    def test(self) -> None:
         """The one promise: green only where all pass by the program alone."""
-        game = self.random.choice(([], [self.game], [self.game]))
+        game = [self.game] * self.random.choice((0, 1, 1))
         suites = self.random.choice(([self.suites[0]], [self.suites[1]], self.suites))
-        words = self.random.choice(((), (), ("--quiet",), ("--filter", "walk*"), ("--solved", "recording*"), ("--solved", "lvel*"), ("--filter", "recording 1*", "--filter", "walk*")))
+        words: Sequence[str] = self.random.choice(((), (), ("--quiet",), ("--filter", "walk*"), ("--solved", "recording*"), ("--solved", "lvel*"), ("--filter", "recording 1*", "--filter", "walk*")))
         answer = self.run("test", *game, *suites, *words)
         entries = [self.entries(it) for it in suites]
         if answer.status == 2:
@@ -176,7 +180,7 @@ class Folder:
         else:
             assert not is_green or "--solved" in words, f"a false red: {self.called[-1]}: {answer.out}"
 
-    def accept(self):
+    def accept(self) -> None:
         suite = self.suite()
         before = self.entries(suite)
         answer = self.run("accept", suite, "--in-place", *self.random.choice(((), ("--game", self.game), ("--only", "walk*", "--game", self.game))))
@@ -186,7 +190,7 @@ class Folder:
         elif "--only" not in self.called[-1][0] and "--game" in self.called[-1][0]:
             assert "differs" not in closes_of(self.over(after)), "what was accepted differs"
 
-    def follow(self):
+    def follow(self) -> None:
         suite = self.suite()
         before = self.entries(suite)
         words = self.random.choice((("--follow",), ("--follow",), (), ("--only", "walk*"), ("--all",)))
@@ -197,7 +201,7 @@ class Folder:
         else:
             assert [[it[0], it[1][1:]] for it in after] == [[it[0], it[1][1:]] for it in before], "other things than the source were changed"
 
-    def look(self):
+    def look(self) -> None:
         """What changes nothing."""
         suite = self.suite()
         before = suite.read_bytes()
@@ -213,7 +217,7 @@ class Folder:
         if words[0] == "coverage" and answer.status in (0, 1):
             assert {*closes_of(self.over(self.entries(suite)))} != {"refused"}, "coverage of nothing"
 
-    def spoil(self):
+    def spoil(self) -> None:
         """A hand changes a level, takes an entry, writes a wrong demand or no JSON."""
         suite = self.suite()
         entries = self.entries(suite)
@@ -221,13 +225,14 @@ class Folder:
             suite.write_text(self.random.choice(("[]", "[\n", "", "[[1]]")), encoding="utf-8")
             return
         entry = self.random.choice(entries)
-        self.random.choice((
+        acts: List[Callable[[], object]] = [
             lambda: entry[1].__setitem__(2, "background:0,"), lambda: entries.remove(entry), lambda: entry.append("slved"), lambda: entry[1].__setitem__(1, self.inputs()),
             lambda: entry[1].__setitem__(0, self.random.choice(TEXTS)),
-        ))()
+        ]
+        self.random.choice(acts)()
         suite.write_text(json.dumps(entries), encoding="utf-8")
 
-    def tidy(self):
+    def tidy(self) -> None:
         """A hand brings a file that is too long, or none, to where verbs go on."""
         for suite in self.suites:
             entries = self.entries(suite)
@@ -237,12 +242,12 @@ class Folder:
         if self.random.random() < 0.5:
             self.game.write_text(GAME, encoding="utf-8")
 
-    def go(self, count):
+    def go(self, count: int) -> None:
         for _ in range(count):
             self.random.choice(self.verbs)()
 
 
-def go(seed, count):
+def go(seed: int, count: int) -> List[Any]:
     """So many verbs of a seed; how many of each status the command had."""
     with tempfile.TemporaryDirectory() as room:
         folder = Folder(Path(room), seed)
@@ -255,12 +260,12 @@ def go(seed, count):
 
 @plays
 class DayAtRandom(unittest.TestCase):
-    def setUp(self):
+    def setUp(self) -> None:
         before = os.environ.get("SAXTEGUN_PROGRAM")
         os.environ["SAXTEGUN_PROGRAM"] = str(PROGRAM)
         self.addCleanup(lambda: os.environ.pop("SAXTEGUN_PROGRAM") if before is None else os.environ.__setitem__("SAXTEGUN_PROGRAM", before))
 
-    def test_no_false_green_and_nothing_lost(self):
+    def test_no_false_green_and_nothing_lost(self) -> None:
         statuses = [status for words, status in go(1, COUNT) if words[0] == "test"]
         # each answer was met often
         self.assertGreater(min(statuses.count(it) for it in (0, 1, 2)), COUNT / 200)

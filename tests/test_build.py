@@ -1,7 +1,10 @@
 """dev/build: on a repository of a program and the library that it stands on; and what is taken as `rt ci` has proved it."""
+from __future__ import annotations
+
 import os
 import subprocess
 import unittest
+from typing import List, Tuple
 
 from tool import CRATE, OnSmallCrates, run
 
@@ -18,26 +21,26 @@ fn main() {
 
 
 class Build(OnSmallCrates):
-    def setUp(self):
+    def setUp(self) -> None:
         super().setUp()
         self.found("build", "low:\nother:\nhigh: low\n")
         (self.room / "crates/high/src/lib.rt").unlink()
         self.write("crates/high/src/main.rt", PROGRAM)
 
-    def test_a_program_is_built_and_told_what_it_waits_for(self):
+    def test_a_program_is_built_and_told_what_it_waits_for(self) -> None:
         answer = run(self.tool, "high")
         self.assertEqual((answer.status, answer.out), (0, ""), answer.errors)
         self.assertEqual(answer.errors.splitlines(), ["proving low; 2 left", "proving high; 1 left"])
         self.assertEqual(subprocess.run([self.room / "crates/high/out/high"]).returncode, 0)
 
-    def test_what_is_not_proved_is_reported(self):
+    def test_what_is_not_proved_is_reported(self) -> None:
         self.write("crates/low/src/lib.rt", CRATE.replace("    number\n", "    0\n"))
         answer = run(self.tool, "high")
         self.assertEqual((answer.status, answer.out), (1, ""))
         self.assertIn("low is not proved; the log is", answer.errors)
         self.assertIn("logic=not-proved", (self.room / "crates/low/out/build.log").read_text(encoding="utf-8"))
 
-    def test_a_crate_that_is_no_program_is_reported(self):
+    def test_a_crate_that_is_no_program_is_reported(self) -> None:
         for name in ("low", "none"):
             answer = run(self.tool, name)
             self.assertEqual((answer.status, answer.out), (2, ""))
@@ -46,7 +49,7 @@ class Build(OnSmallCrates):
 class Taken(OnSmallCrates):
     """`take_proved` of dev/proving.py, by which engine/build --after-ci takes what `rt ci` has proved."""
 
-    def setUp(self):
+    def setUp(self) -> None:
         super().setUp()
         self.found("build", "low:\nhigh: low\n")
         self.libraries = [self.room / f"crates/{name}/out/rlib/{name}.rlib" for name in ("low", "high")]
@@ -55,22 +58,22 @@ class Taken(OnSmallCrates):
         self.taken = self.room / "taken"
         self.taken.mkdir()
 
-    def take(self):
+    def take(self) -> Tuple[str, List[str]]:
         """What `take_proved` answers of both crates, and the names of what it put into the folder."""
         file = self.write("dev/taking.py", "import sys, pathlib, proving\nprint(proving.take_proved(['low', 'high'], pathlib.Path(sys.argv[1])))\n")
         answer = run(file, self.taken)
         self.assertEqual(answer.status, 0, answer.errors)
         return answer.out.strip(), sorted(it.name for it in self.taken.iterdir())
 
-    def test_libraries_that_are_newer_than_their_sources_are_taken(self):
+    def test_libraries_that_are_newer_than_their_sources_are_taken(self) -> None:
         self.assertEqual(self.take(), ("True", ["high.rlib", "low.rlib"]))
         self.assertEqual((self.taken / "low.rlib").resolve(), self.libraries[0].resolve())
 
-    def test_none_is_taken_where_one_is_missing(self):
+    def test_none_is_taken_where_one_is_missing(self) -> None:
         self.libraries[1].rmdir()
         self.assertEqual(self.take(), ("False", []))
 
-    def test_none_is_taken_where_a_source_is_newer(self):
+    def test_none_is_taken_where_a_source_is_newer(self) -> None:
         for folder in ("src", "specs", "proofs"):
             file = self.room / "crates/low" / folder / "Newer.antt"
             self.write(f"crates/low/{folder}/Newer.antt", "")

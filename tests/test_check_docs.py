@@ -1,6 +1,10 @@
 """What `dev/check-docs` finds in the pages of a small repository, and what `dev/rule-book` writes of its rules."""
+from __future__ import annotations
+
 import shutil
+import re
 import unittest
+from typing import List, Tuple
 
 from tool import TOP, OnSmallCrates, run
 
@@ -36,7 +40,7 @@ AT = dict(zip(("sentence", "definition", "function", "case", "body"), RULE))
 
 
 class OnOneRule(OnSmallCrates):
-    def setUp(self):
+    def setUp(self) -> None:
         super().setUp()
         self.found("check-docs", "# A tower\n\n# a crate of one function\npz_one:\n")
         self.write("README.md", "# Front\n")
@@ -44,7 +48,7 @@ class OnOneRule(OnSmallCrates):
         for path, text in RULE.items():
             self.write(path, text)
 
-    def told(self):
+    def told(self) -> List[str]:
         """What is told of the rules."""
         answer = run(self.tool)
         self.assertEqual(answer.errors, "")
@@ -54,10 +58,10 @@ class OnOneRule(OnSmallCrates):
 
 
 class OfRules(OnOneRule):
-    def test_a_rule_with_all_its_places(self):
+    def test_a_rule_with_all_its_places(self) -> None:
         self.assertEqual(self.told(), [])
 
-    def test_each_place_that_a_rule_lacks_is_told(self):
+    def test_each_place_that_a_rule_lacks_is_told(self) -> None:
         for kind in ("definition", "function", "case", "body"):
             with self.subTest(kind):
                 self.write(AT[kind], RULE[AT[kind]].replace("number.same", "").lstrip("\n"))
@@ -67,23 +71,23 @@ class OfRules(OnOneRule):
                 self.write("dev/without.txt", "")
                 self.write(AT[kind], RULE[AT[kind]])
 
-    def test_a_case_of_one_file_has_ids_too(self):
+    def test_a_case_of_one_file_has_ids_too(self) -> None:
         self.write(AT["case"], "")
         self.write("conformance/stages/a-number-has-a-stage.json", '{"rules": ["number.same"], "input": 1}\n')
         self.write("conformance/descriptions/a-number-has-none.json", "{}\n")
         self.assertEqual(self.told(), [])
 
-    def test_an_id_that_no_page_has_is_told_wherever_it_stands(self):
+    def test_an_id_that_no_page_has_is_told_wherever_it_stands(self) -> None:
         for kind, line in (("definition", 6), ("function", 3), ("case", 2), ("body", 1)):
             with self.subTest(kind):
                 text = RULE[AT[kind]]
                 joint = {"definition": ", ", "function": "`, `", "case": "\n", "body": ", "}[kind]
                 self.write(AT[kind], text.replace("number.same", f"number.same{joint}number.other"))
-                file = AT[kind].removesuffix("/rules")
+                file = re.sub("/rules$", "", AT[kind])
                 self.assertEqual(self.told(), [f"{file}:{line}: no sentence of docs/language.md or docs/sessions.md has the rule number.other"])
                 self.write(AT[kind], text)
 
-    def test_an_id_that_stands_twice_in_the_pages_is_told(self):
+    def test_an_id_that_stands_twice_in_the_pages_is_told(self) -> None:
         for page, line in (("docs/language.md", 8), ("docs/sessions.md", 3)):
             with self.subTest(page):
                 before = RULE.get(page, "# Sessions\n")
@@ -91,7 +95,7 @@ class OfRules(OnOneRule):
                 self.assertEqual(self.told(), [f"{page}:{line}: the rule number.same stands there a second time"])
                 self.write(page, before)
 
-    def test_a_reason_for_what_is_there_or_is_no_place_is_told(self):
+    def test_a_reason_for_what_is_there_or_is_no_place_is_told(self) -> None:
         for line, told in (
             ("number.same body: it has none", "number.same has a body"),
             ("number.other body: it has none", "number.other body is no rule and place with a reason"),
@@ -103,7 +107,7 @@ class OfRules(OnOneRule):
                 self.write("dev/without.txt", line + "\n")
                 self.assertEqual(self.told(), [f"dev/without.txt: {told}"])
 
-    def test_an_entry_of_the_map_leads_to_an_id_but_where_no_answer_shows_it(self):
+    def test_an_entry_of_the_map_leads_to_an_id_but_where_no_answer_shows_it(self) -> None:
         for heading, name, lines in (
             ("Rules", "same", []),
             ("Rules", "other", ["docs/architecture.md:5: nothing that is named there has the id of a rule"]),
@@ -115,7 +119,7 @@ class OfRules(OnOneRule):
                 self.write("docs/architecture.md", f"# A map\n\n### {heading}\n\n- *a rule*: `pz_one/src/lib.rt`\n  `{name}`\n")
                 self.assertEqual(self.told(), lines)
 
-    def test_ids_are_no_words_of_the_pages(self):
+    def test_ids_are_no_words_of_the_pages(self) -> None:
         self.write("docs/other.md", "many words\n" * 9_985)
         self.assertEqual(self.told(), [])
         self.write("docs/other.md", "many words\n" * 9_995)
@@ -123,12 +127,12 @@ class OfRules(OnOneRule):
 
 
 class OfTheBook(OnOneRule):
-    def setUp(self):
+    def setUp(self) -> None:
         super().setUp()
         shutil.copy(TOP / "dev/rule-book", self.tool.parent)
         self.book = self.tool.parent / "rule-book"
 
-    def test_the_book_has_sentence_definition_function_case_and_body(self):
+    def test_the_book_has_sentence_definition_function_case_and_body(self) -> None:
         self.assertEqual(
             run(self.book, "Itself").out.split("\n\n"),
             [
@@ -144,7 +148,7 @@ class OfTheBook(OnOneRule):
             ],
         )
 
-    def test_the_table_has_a_line_for_each_rule_and_says_why_a_place_is_not_there(self):
+    def test_the_table_has_a_line_for_each_rule_and_says_why_a_place_is_not_there(self) -> None:
         self.write(AT["body"], "Answers 0.\n")
         self.write("dev/without.txt", "number.same body: nobody wrote one\n")
         self.assertEqual(
@@ -152,28 +156,28 @@ class OfTheBook(OnOneRule):
             ["| number.same | `crates/pz_one/specs/Lib.antt` `same` | `crates/pz_one/src/same.rt` `same` | `conformance/cases/a-number-isn-t-another` | none: nobody wrote one |"],
         )
 
-    def test_words_choose_by_what_they_begin_and_by_the_id_first(self):
+    def test_words_choose_by_what_they_begin_and_by_the_id_first(self) -> None:
         self.write("docs/sessions.md", "# Files\n\nThe same numbers. <sub>file.numbers</sub>\n\nAny number stays. <sub>file.same</sub>\n")
         for words, wanted in ((("same",), ["number.same", "file.same", "file.numbers"]), (("FILE", "number"), ["file.numbers", "file.same"]), (("umbers",), [])):
             with self.subTest(words):
                 self.assertEqual([it[4:] for it in run(self.book, *words).out.splitlines() if it.startswith("### ")], wanted)
 
-    def test_words_that_no_rule_has(self):
+    def test_words_that_no_rule_has(self) -> None:
         answer = run(self.book, "number", "nobody")
         self.assertEqual((answer.status, answer.out, answer.errors), (1, "", "rule-book: no rule has number nobody\n"))
 
-    def test_an_option_that_is_none(self):
+    def test_an_option_that_is_none(self) -> None:
         self.assertEqual(run(self.book, "--all").status, 2)
 
 
 class OfDocuments(OnSmallCrates):
-    def setUp(self):
+    def setUp(self) -> None:
         super().setUp()
         self.found("check-docs", "# A tower\n\n# a crate of one function\npz_one:\n")
         self.write("README.md", "# Front\n\n| a | b |\n|---|---|\n| c | d |\n")
         self.write("conformance/README.md", "# Cases\n")
 
-    def told(self, page):
+    def told(self, page: str) -> Tuple[int, List[str]]:
         """What is told of a page, and the status."""
         self.write("docs/architecture.md", page)
         answer = run(self.tool)
@@ -182,10 +186,10 @@ class OfDocuments(OnSmallCrates):
         self.assertEqual(last, f"check-docs: {len(lines)} missing")
         return answer.status, lines
 
-    def test_a_page_without_a_fault(self):
+    def test_a_page_without_a_fault(self) -> None:
         self.assertEqual(self.told(PAGE), (0, []))
 
-    def test_each_fault_is_reported_with_its_line(self):
+    def test_each_fault_is_reported_with_its_line(self) -> None:
         for old, new, told in (
             ("`pz_one/src/lib.rt`\n  `same`", "`pz_one/src/lib.rt`\n  `other`", "11: other does not stand in the file named before it"),
             ("`pz_one/src/lib.rt` `same` |", "`pz_one/src/lib.rt` `other` |", "16: other does not stand in the file named before it"),
@@ -200,25 +204,25 @@ class OfDocuments(OnSmallCrates):
                 self.assertIn(old, PAGE)
                 self.assertEqual(self.told(PAGE.replace(old, new)), (1, [f"docs/architecture.md:{told}"]))
 
-    def test_what_is_quoted_or_a_row_of_a_table_may_be_long(self):
+    def test_what_is_quoted_or_a_row_of_a_table_may_be_long(self) -> None:
         self.assertEqual(self.told(f"{PAGE}\n    {'x' * 120}\n\n| {'y' * 120} | z |\n\n```\n{'z' * 120}\n```\n"), (0, []))
 
-    def test_a_cell_of_the_front_page_is_no_paragraph(self):
+    def test_a_cell_of_the_front_page_is_no_paragraph(self) -> None:
         self.write("README.md", f"# Front\n\n| a | {'word ' * 31}|\n")
         self.assertEqual(self.told(PAGE), (1, ["README.md:3: a cell of more than 30 words"]))
 
-    def test_all_pages_together_have_not_too_many_words(self):
+    def test_all_pages_together_have_not_too_many_words(self) -> None:
         many = "many words\n" * 9_980
         for page, lines in (("docs/command.md", []), ("docs/other.md", ["the pages have 20,013 words, more than 20,000"])):
             with self.subTest(page):
                 self.write(page, many)
                 self.assertEqual(self.told(PAGE), (bool(lines), lines))
 
-    def test_a_crate_without_a_line_above_it(self):
+    def test_a_crate_without_a_line_above_it(self) -> None:
         self.write("crates.txt", "# A tower\n\npz_one:\n")
         self.assertEqual(self.told(PAGE), (1, ["crates.txt: no line above pz_one says what it is"]))
 
-    def test_a_comment_before_an_empty_line_is_of_no_crate(self):
+    def test_a_comment_before_an_empty_line_is_of_no_crate(self) -> None:
         self.write("crates.txt", "# A tower\n\n# a crate of one function\npz_one:\n\n# Another\n\npz_two: pz_one\n")
         self.assertEqual(self.told(PAGE), (1, ["crates.txt: no line above pz_two says what it is"]))
 

@@ -1,4 +1,6 @@
 """action.yml, docs/ci.md and examples/ci: each shell step runs, in its order, against a release that is served from the disk."""
+from __future__ import annotations
+
 import functools
 import json
 import os
@@ -12,6 +14,7 @@ import threading
 import unittest
 from http.server import SimpleHTTPRequestHandler, ThreadingHTTPServer
 from pathlib import Path
+from typing import Any, Dict, List, Mapping, Optional, Tuple
 
 from day import lines_of_example
 from test_release import DESCRIBER, MODULE, PROGRAM, SOLVER, STAND_IN, clone, git, make, put, sum_of
@@ -31,7 +34,7 @@ sys.exit(any(json.loads(it).get("close", "passed") != "passed" for it in lines.s
 WORD = re.compile(r"\$\{\{ ([\w.]+) \}\}")
 
 
-def describer():
+def describer() -> bytes:
     """What tells sources as here."""
     words = describer_words()
     module = (environment_of(words) or {}).get("SAXTEGUN_MODULE", "")
@@ -41,20 +44,20 @@ def describer():
 class Yaml:
     """The YAML of these files: mappings, lists, texts in blocks, and words. It knows nothing else, and refuses it."""
 
-    def __init__(self, text):
+    def __init__(self, text: str) -> None:
         self.lines = [it for it in text.split("\n")]
         self.at = 0
 
-    def indent(self):
+    def indent(self) -> int:
         while self.at < len(self.lines) and not self.lines[self.at].strip():
             self.at += 1
         return len(self.lines[self.at]) - len(self.lines[self.at].lstrip()) if self.at < len(self.lines) else -1
 
-    def value(self):
+    def value(self) -> Any:
         depth = self.indent()
         return self.items(depth) if self.lines[self.at].lstrip().startswith("- ") else self.mapping(depth)
 
-    def items(self, depth):
+    def items(self, depth: int) -> List[Any]:
         found = []
         while self.indent() == depth and self.lines[self.at].lstrip().startswith("- "):
             rest = self.lines[self.at][depth + 2 :]
@@ -66,7 +69,7 @@ class Yaml:
                 found.append(self.mapping(depth + 2))
         return found
 
-    def mapping(self, depth):
+    def mapping(self, depth: int) -> Dict[str, Any]:
         found = {}
         while self.indent() == depth and not self.lines[self.at].lstrip().startswith("- "):
             key, mark, rest = self.lines[self.at].strip().partition(":")
@@ -75,7 +78,7 @@ class Yaml:
             found[key] = self.block(depth) if rest == " |" else self.word(rest.strip()) if rest.strip() else self.value()
         return found
 
-    def block(self, depth):
+    def block(self, depth: int) -> str:
         inner, taken = self.indent(), []
         assert inner > depth
         while self.at < len(self.lines) and (not self.lines[self.at].strip() or self.lines[self.at].startswith(" " * inner)):
@@ -83,27 +86,27 @@ class Yaml:
             self.at += 1
         return "\n".join(taken).rstrip("\n") + "\n"
 
-    def word(self, text):
+    def word(self, text: str) -> Any:
         if text.startswith("["):
             return [it.strip() for it in text[1:-1].split(",")]
         text = re.sub(r" # \S+$", "", text)
         return json.loads(text) if text.startswith('"') else {} if text == "{}" else text
 
 
-def read_yaml(text):
+def read_yaml(text: str) -> Any:
     reader = Yaml(re.sub(r"^#.*\n", "", text, flags=re.M))
     found = reader.value()
     assert reader.indent() == -1, reader.lines[reader.at]
     return found
 
 
-def files_of_page():
+def files_of_page() -> List[Any]:
     """The files of examples/ci that docs/ci.md names."""
     named = re.findall(r"`(examples/ci/[\w.]+)`", (TOP / "docs/ci.md").read_text(encoding="utf-8"))
     return [read_yaml((TOP / it).read_text(encoding="utf-8")) for it in named]
 
 
-def commands_of_page():
+def commands_of_page() -> List[str]:
     """The commands that stand in docs/ci.md outside of its files: to compare closes, to play parts, and to play them on several hosts."""
     text = (TOP / "docs/ci.md").read_text(encoding="utf-8")
     return [re.sub("^    ", "", it, flags=re.M) for it in re.findall(r"(?:^    .*\n)+", text, re.M)]
@@ -112,7 +115,7 @@ def commands_of_page():
 class Runner:
     """A runner of GitHub's, as far as steps can tell: folders, the files that they write to, and what a word of an expression stands for."""
 
-    def __init__(self, room, values, env=()):
+    def __init__(self, room: Path, values: Mapping[str, str], env: Mapping[str, str] = {}) -> None:
         self.room, self.values, self.temp = room, dict(values), room / "temp"
         self.work = room / "work"
         self.work.mkdir(parents=True)
@@ -124,10 +127,10 @@ class Runner:
             (room / name).touch()
         shutil.copy(EXAMPLE, self.work / "sessions.json")
 
-    def filled(self, text):
+    def filled(self, text: str) -> str:
         return WORD.sub(lambda it: self.values[it[1]], text)
 
-    def run(self, step):
+    def run(self, step: Dict[str, Any]) -> Tuple[int, str, str]:
         """Runs a step's shell as GitHub does; its status and what it wrote."""
         env = {**self.env, **{name: self.filled(value) for name, value in step.get("env", {}).items()}}
         added = (self.room / "GITHUB_PATH").read_text().splitlines()
@@ -143,14 +146,21 @@ class Runner:
 
 
 class Quiet(SimpleHTTPRequestHandler):
-    def log_message(self, *words):
+    def log_message(self, *words: Any) -> None:
         pass
 
 
 @unittest.skipUnless((TOP / ".git").exists() and shutil.which("dpkg-deb") and shutil.which("curl"), "a release is made of a clone, with dpkg-deb, and fetched by curl")
 class InACi(unittest.TestCase):
+    kept: Path
+    clone: Path
+    version: str
+    sum: str
+    address: str
+    action: Any
+
     @classmethod
-    def setUpClass(cls):
+    def setUpClass(cls) -> None:
         room = tempfile.TemporaryDirectory()
         cls.addClassCleanup(room.cleanup)
         cls.kept = Path(room.name)
@@ -168,15 +178,15 @@ class InACi(unittest.TestCase):
         cls.address = f"http://127.0.0.1:{server.server_port}"
         cls.action = read_yaml((TOP / "action.yml").read_text(encoding="utf-8"))
 
-    def runner(self, values=(), env=()):
+    def runner(self, values: Mapping[str, str] = {}, env: Mapping[str, str] = {}) -> Runner:
         return Runner(Path(tempfile.mkdtemp(dir=self.kept)), values, env)
 
-    def act(self, runner, **given):
+    def act(self, runner: Runner, **given: str) -> List[Tuple[int, str, str]]:
         """Runs the shell steps of the action that its conditions let run; the status of each."""
         inputs = {name: it.get("default") for name, it in self.action["inputs"].items()}
         inputs = {**inputs, "version": self.version, "from": self.address, **given}
         runner.values = {**runner.values, **{f"inputs.{name}": value for name, value in inputs.items()}}
-        ended = []
+        ended: List[Tuple[int, str, str]] = []
         for step in self.action["runs"]["steps"]:
             is_wanted = inputs["sessions"] or "inputs.sessions != ''" not in step.get("if", "")
             if "run" in step and is_wanted and (not any(it[0] for it in ended) or "always()" in step.get("if", "")):
@@ -184,10 +194,10 @@ class InACi(unittest.TestCase):
                 ended.append(runner.run(step))
         return ended
 
-    def uploaded(self, runner):
+    def uploaded(self, runner: Runner) -> List[str]:
         return sorted(it.name for it in (runner.temp / "saxtegun/upload").iterdir())
 
-    def test_the_action_plays_and_is_red_where_a_session_differs(self):
+    def test_the_action_plays_and_is_red_where_a_session_differs(self) -> None:
         runner = self.runner()
         (fetched, _, _), (played, out, errors), (gathered, _, _) = self.act(runner, sha256=self.sum)
         self.assertEqual((fetched, played, gathered), (0, 1, 0), errors)
@@ -197,7 +207,7 @@ class InACi(unittest.TestCase):
         self.assertIn("a recording that has gone stale", (runner.room / "GITHUB_STEP_SUMMARY").read_text(encoding="utf-8"))
 
     @unittest.skipUnless(shutil.which("node", path="/usr/bin:/bin"), "there is no Node on the path of a runner")
-    def test_the_action_without_a_version_plays_by_its_own_module(self):
+    def test_the_action_without_a_version_plays_by_its_own_module(self) -> None:
         runner = self.runner(env={"GITHUB_ACTION_PATH": str(self.clone)})
         (taken, _, _), (played, out, errors), (gathered, _, _) = self.act(runner, version="")
         self.assertEqual((taken, played, gathered), (0, 1, 0), errors)
@@ -208,7 +218,7 @@ class InACi(unittest.TestCase):
         self.assertEqual(self.act(self.runner(env={"GITHUB_ACTION_PATH": str(self.clone)}), version="", sha256=self.sum)[0][0], 2)
         self.assertEqual(self.act(self.runner(env={"GITHUB_ACTION_PATH": str(self.kept)}), version="")[0][0], 2)
 
-    def test_the_action_plays_a_game_with_its_recordings_and_uploads_what_is_wanted(self):
+    def test_the_action_plays_a_game_with_its_recordings_and_uploads_what_is_wanted(self) -> None:
         runner = self.runner()
         for name in ("game.txt", "recordings.json"):
             shutil.copy(TOP / "examples/day" / name, runner.work)
@@ -225,7 +235,7 @@ class InACi(unittest.TestCase):
             self.assertEqual((ended[1][0], ended[1][1].count("usage:")), (0, 0), ended)
             self.assertIn("4 sessions: 4 passed", ended[1][1])
 
-    def test_the_action_used_twice_in_a_job_shows_nothing_of_the_first_again(self):
+    def test_the_action_used_twice_in_a_job_shows_nothing_of_the_first_again(self) -> None:
         runner = self.runner()
         self.assertEqual(self.act(runner)[1][0], 1)
         (runner.room / "GITHUB_STEP_SUMMARY").write_text("")
@@ -233,10 +243,10 @@ class InACi(unittest.TestCase):
         self.assertEqual([it[0] for it in self.act(runner, sessions="bad.json", artifact="bad")], [0, 2, 0])
         self.assertEqual((self.uploaded(runner), (runner.room / "GITHUB_STEP_SUMMARY").read_text()), ([], ""))
 
-    def test_each_file_to_copy_is_named(self):
+    def test_each_file_to_copy_is_named(self) -> None:
         self.assertEqual(len(files_of_page()), len(list((TOP / "examples/ci").iterdir())))
 
-    def test_what_is_fetched_is_pinned_and_keeps_no_credentials(self):
+    def test_what_is_fetched_is_pinned_and_keeps_no_credentials(self) -> None:
         steps = [step for file in files_of_page() for job in file.get("jobs", {}).values() for step in job["steps"]] + self.action["runs"]["steps"]
         for step in (it for it in steps if "uses" in it):
             self.assertRegex(step["uses"], "@[0-9a-f]{40}$")
@@ -248,14 +258,14 @@ class InACi(unittest.TestCase):
         jobs = [job for file in files_of_page() for job in file.get("jobs", {}).values()]
         self.assertTrue(all("timeout-minutes" in it for it in jobs))
 
-    def test_an_archive_with_another_sum_is_not_unpacked(self):
+    def test_an_archive_with_another_sum_is_not_unpacked(self) -> None:
         for given in ({"sha256": "0" * 64}, {"version": "9.9.9"}, {"sha256": "x; echo run"}):
             runner = self.runner()
             with self.subTest(given):
                 self.assertNotEqual(self.act(runner, **given)[0][0], 0)
                 self.assertEqual(list((runner.temp / "saxtegun").glob("saxtegun-*")), [])
 
-    def test_the_workflow_gives_the_action_inputs_that_it_has(self):
+    def test_the_workflow_gives_the_action_inputs_that_it_has(self) -> None:
         steps = [step for file in files_of_page() for job in file.get("jobs", {}).values() for step in job["steps"]]
         given = [step["with"] for step in steps if step.get("uses", "").startswith("OWNER/saxtegun@")]
         self.assertEqual(len(given), 3)
@@ -264,7 +274,7 @@ class InACi(unittest.TestCase):
             self.assertEqual((it["version"], len(it["sha256"])), (self.version, 64))
 
     @unittest.skipUnless(shutil.which("jq"), "jq reads the closes")
-    def test_the_commands_that_compare_closes_are_red_where_one_changes(self):
+    def test_the_commands_that_compare_closes_are_red_where_one_changes(self) -> None:
         commands = next(it for it in commands_of_page() if "closes.expected" in it)
         runner = self.runner()
         self.act(runner, sessions="", sha256=self.sum)
@@ -296,14 +306,14 @@ class InACi(unittest.TestCase):
                 self.assertNotEqual(runner.run({"run": commands})[0], 0)
                 self.assertEqual((runner.work / "sessions.json").read_bytes(), EXAMPLE.read_bytes())
 
-    def taken(self, folder, name):
+    def taken(self, folder: Path, name: str) -> bytes:
         """The bytes of the one file of this name in a folder of a folder, which is taken away."""
         [file] = folder.glob(f"*/{name}")
         content = file.read_bytes()
         shutil.rmtree(file.parent)
         return content
 
-    def test_the_commands_that_play_parts_give_the_bytes_of_one_run(self):
+    def test_the_commands_that_play_parts_give_the_bytes_of_one_run(self) -> None:
         runner = self.runner()
         self.act(runner, sessions="", sha256=self.sum)
         commands = next(it for it in commands_of_page() if "xargs" in it)
@@ -311,7 +321,7 @@ class InACi(unittest.TestCase):
         self.assertEqual(runner.run({"run": f"set +e +o pipefail\n{commands}"}), (0, "1\n", ""))
         self.assertEqual((runner.work / "lines").read_text(encoding="utf-8"), lines_of_example(EXAMPLE.read_text(encoding="utf-8")))
 
-    def test_the_commands_that_play_parts_write_through_no_link_of_a_checkout(self):
+    def test_the_commands_that_play_parts_write_through_no_link_of_a_checkout(self) -> None:
         for commands in (it for it in commands_of_page() if "join" in it and "parallel" not in it):
             runner = self.runner()
             self.act(runner, sessions="", sha256=self.sum)
@@ -326,7 +336,7 @@ class InACi(unittest.TestCase):
                 self.assertEqual([(it.name, it.read_text()) for it in (runner.room / "kept").iterdir()], [("file", "kept")])
                 self.assertTrue((runner.work / "lines").stat().st_size)
 
-    def test_the_commands_for_a_suite_over_one_game_give_its_lines_and_report(self):
+    def test_the_commands_for_a_suite_over_one_game_give_its_lines_and_report(self) -> None:
         runner = self.runner()
         self.act(runner, sessions="", sha256=self.sum)
         for name in ("game.txt", "recordings.json"):
@@ -345,10 +355,10 @@ class InACi(unittest.TestCase):
         self.assertNotEqual(runner.run({"run": commands})[0], 0)
         self.assertEqual([it for it in (runner.work / "parts").glob("*.lines") if it.stat().st_size], [])
 
-    def gitlab_job(self):
+    def gitlab_job(self) -> Any:
         return next(it["replay"] for it in files_of_page() if "script" in it.get("replay", {}))
 
-    def test_nothing_that_a_repository_has_takes_a_part_of_the_release(self):
+    def test_nothing_that_a_repository_has_takes_a_part_of_the_release(self) -> None:
         """A checkout has modules of Python's names, a package in the place of a module, a command, and a link by the name of what is fetched."""
         job, kept = self.gitlab_job(), self.kept / "kept"
         kept.write_text("kept")
@@ -366,7 +376,7 @@ class InACi(unittest.TestCase):
             self.assertIn("5 sessions: 4 passed, 1 differs", out)
         self.assertEqual(kept.read_text(), "kept")
 
-    def test_the_job_for_gitlab_runs(self):
+    def test_the_job_for_gitlab_runs(self) -> None:
         job = self.gitlab_job()
         runner = self.runner(env={**job["variables"], "FROM": self.address, "SHA256": self.sum})
         status, out, errors = runner.run({"run": "\n".join(job["script"])})
@@ -375,7 +385,8 @@ class InACi(unittest.TestCase):
         for path in job["artifacts"]["paths"]:
             self.assertTrue((runner.work / path).is_file(), path)
         # where it ends early nothing is kept that a repository has by these names, as if it were the result
-        for variables in ({}, {"SHA256": self.sum}):
+        beside: List[Dict[str, str]] = [{}, {"SHA256": self.sum}]
+        for variables in beside:
             runner = self.runner(env={**job["variables"], "FROM": self.address, **variables})
             for path in job["artifacts"]["paths"]:
                 (runner.work / path).write_text("committed")
@@ -383,7 +394,7 @@ class InACi(unittest.TestCase):
             self.assertNotEqual(runner.run({"run": "\n".join(job["script"])})[0], 0)
             self.assertEqual([it for it in job["artifacts"]["paths"] if (runner.work / it).exists()], [])
 
-    def test_a_matrix_of_jobs_gives_the_bytes_of_one_run(self):
+    def test_a_matrix_of_jobs_gives_the_bytes_of_one_run(self) -> None:
         jobs = next(it["jobs"] for it in files_of_page() if "part" in it.get("jobs", {}))
         kept = self.kept / "lines of parts"
         kept.mkdir()
@@ -398,24 +409,25 @@ class InACi(unittest.TestCase):
         self.assertEqual([it[0] for it in ended if it][-1], 1)
         self.assertEqual((runner.temp / "lines").read_text(encoding="utf-8"), lines_of_example(EXAMPLE.read_text(encoding="utf-8")))
         runner.values["runner.temp"] = str(runner.temp)
-        for path in next(it["with"]["path"] for it in jobs["replay"]["steps"] if "upload" in it.get("uses", "")).splitlines():
-            self.assertTrue(Path(runner.filled(path)).is_file(), path)
+        for name in next(it["with"]["path"] for it in jobs["replay"]["steps"] if "upload" in it.get("uses", "")).splitlines():
+            self.assertTrue(Path(runner.filled(name)).is_file(), name)
         # all passed, of which one must be solved and isn't
         for kind, status in (("unsolved", 1), ("none", 0)):
             runner.values["steps.join.outputs.status"] = "0"
             (runner.temp / "junit.xml").write_text(f'<failure message="" type="{kind}" />\n', encoding="utf-8")
             self.assertEqual(runner.run(jobs["replay"]["steps"][-1])[0], status)
 
-    def do(self, runner, step, kept=None):
+    def do(self, runner: Runner, step: Dict[str, Any], kept: Optional[Path] = None) -> Optional[Tuple[int, str, str]]:
         """Does a step of the matrix: the action, its shell, or what a download puts there."""
         if "download-artifact" in step.get("uses", ""):
+            assert kept is not None
             for path in kept.iterdir():
                 shutil.copy(path, runner.work / step["with"]["path"])
         if step.get("uses", "").startswith("OWNER/"):
             self.assertEqual(self.act(runner, sessions=step["with"]["sessions"], sha256=self.sum)[-1][0], 0)
         return runner.run(step) if "run" in step else None
 
-    def test_the_builder_makes_and_publishes_a_release(self):
+    def test_the_builder_makes_and_publishes_a_release(self) -> None:
         file = next(it for it in files_of_page() if it.get("name") == "release")
         runner = self.runner({"secrets.TARGET_TOKEN": "token"}, file["env"])
         top = clone(runner.work / "saxtegun", self.clone)

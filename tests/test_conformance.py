@@ -1,4 +1,6 @@
 """conformance/run: how it tells a case that differs, that hangs or that fails, with programs that answer wrong; and what the suite says of itself."""
+from __future__ import annotations
+
 import os
 import re
 import signal
@@ -10,6 +12,7 @@ from fnmatch import fnmatchcase
 from pathlib import Path
 from time import monotonic, sleep
 from types import ModuleType
+from typing import Any, Callable, List, Tuple
 from unittest import mock
 from xml.etree import ElementTree
 
@@ -21,7 +24,7 @@ RUN, HOSTILE = TOP / "conformance/run", TOP / "conformance/hostile"
 UNDO = "undo-with-nothing-past-then-undo-of-a-move"
 
 
-def loaded(path):
+def loaded(path: Path) -> ModuleType:
     """A tool as a module."""
     module = ModuleType(path.name)
     module.__file__ = str(path)
@@ -31,28 +34,28 @@ def loaded(path):
 
 
 class Runner(InARoom):
-    def program(self, script):
+    def program(self, script: str) -> Path:
         return self.program_at("program", script)
 
-    def program_at(self, name, script):
+    def program_at(self, name: str, script: str) -> Path:
         path = self.room / name
         path.write_text(f"#!/bin/sh\n{script}\n", encoding="utf-8")
         path.chmod(0o755)
         return path
 
-    def answers(self, name, change):
+    def answers(self, name: str, change: Callable[[str], str]) -> Path:
         """A program that writes what a case wants, changed."""
         self.room.joinpath("shown").write_text(change((CASES / name / "stdout").read_text(encoding="utf-8")), encoding="utf-8")
         return self.program(f"cat '{self.room}/shown'")
 
-    def ran(self, *words):
+    def ran(self, *words: object) -> Tuple[int, str, str]:
         ran = subprocess.run([sys.executable, RUN, *map(str, words)], stdout=subprocess.PIPE, stderr=subprocess.PIPE)
         return ran.returncode, ran.stdout.decode(), ran.stderr.decode()
 
-    def test_a_case_that_passes_is_counted(self):
+    def test_a_case_that_passes_is_counted(self) -> None:
         self.assertEqual(self.ran("--only", UNDO, self.answers(UNDO, str)), (0, "1 passed, 0 failed\n", ""))
 
-    def test_a_case_that_differs_is_told_by_its_first_line_and_by_boards(self):
+    def test_a_case_that_differs_is_told_by_its_first_line_and_by_boards(self) -> None:
         program = self.answers(UNDO, lambda it: it.replace('"undo","level":"background player:0,background:1,1', '"undo","level":"background:0,background player:1,0', 1))
         status, out, errors = self.ran("--only", UNDO, program)
         self.assertEqual((status, errors), (1, ""))
@@ -67,11 +70,11 @@ class Runner(InARoom):
         ])
         self.assertEqual(out.splitlines()[7:], ["playing: 1 of 1 fail", "0 passed, 1 failed"])
 
-    def test_a_line_that_is_none_is_told(self):
+    def test_a_line_that_is_none_is_told(self) -> None:
         for change, wanted in ((lambda it: "no line\n" + it, "answered: no line"), (lambda it: "", "answered: nothing"), (lambda it: it + "\x1b[2J\n", "answered: \\u{1b}[2J")):
             self.assertIn(wanted, self.ran("--only", UNDO, self.answers(UNDO, change))[1])
 
-    def test_no_word_of_a_program_or_of_a_call_is_a_command_of_a_ci(self):
+    def test_no_word_of_a_program_or_of_a_call_is_a_command_of_a_ci(self) -> None:
         program = self.program("echo '##[error]x'; echo '::error::y' >&2")
         for words in (("--only", UNDO, program), ("--both", program, self.program_at("other", "echo '##vso[task]'"), CASES / UNDO / "input.json"), ("##[group]none",)):
             status, out, errors = self.ran(*words)
@@ -79,19 +82,19 @@ class Runner(InARoom):
                 self.assertEqual((status, [it for it in (out + errors).splitlines() if is_command(it)]), (2 if len(words) == 1 else 1, []))
                 self.assertIn("#\\u{23}[", out + errors)
 
-    def test_a_status_and_a_word_of_failure_are_told(self):
+    def test_a_status_and_a_word_of_failure_are_told(self) -> None:
         status, out, _ = self.ran("--only", "file-with-a-fraction", self.program("echo memory >&2; exit 3"))
         self.assertEqual(status, 1)
         self.assertIn("    stderr, wanted: bad-entry 0; answered: memory\n    status, wanted: 2; answered: 3\nfiles: 1 of 1 fail\n", out)
 
-    def test_a_program_that_hangs_is_stopped_and_the_others_are_played(self):
+    def test_a_program_that_hangs_is_stopped_and_the_others_are_played(self) -> None:
         program = self.answers(UNDO, str)
         program.write_text(f"{program.read_text()}\ngrep -q undo || sleep 100\n")
         status, out, _ = self.ran("--limit", "1", "--jobs", "8", "--only", "undo-*", "--only", "walk-two*", "--only", "movement-*", program)
         self.assertEqual((status, out.count("not answered in 1 s")), (1, 2))
         self.assertIn("1 passed, 3 failed\n", out)
 
-    def test_no_line_of_an_engine_ends_the_suite(self):
+    def test_no_line_of_an_engine_ends_the_suite(self) -> None:
         """Lists in lists, a session below 0, a number of too many digits, half a letter: the case fails, and the others are told."""
         [movement] = CASES.glob("movement-goes-column-by-column")
         (self.room / "good").write_bytes((movement / "stdout").read_bytes())
@@ -106,7 +109,7 @@ class Runner(InARoom):
                     self.assertEqual((status, errors, out.splitlines()[-1]), (1, "", "1 passed, 1 failed"))
                     self.assertEqual(len(ElementTree.parse(self.room / "x.xml").getroot()), 2)
 
-    def test_what_writes_without_an_end_is_stopped(self):
+    def test_what_writes_without_an_end_is_stopped(self) -> None:
         """Soon, and no more of it is read than tells that: of one that writes on, and of one that wrote too much and ended."""
         for script in ("exec yes", "exec yes >&2", "head -c 5000000 /dev/zero"):
             begin = monotonic()
@@ -115,13 +118,13 @@ class Runner(InARoom):
             self.assertRegex(out, f"^case {UNDO} \\.\\.\\. stopped: it wrote more than 10[0-9]{{5}} bytes\n")
             self.assertLess(monotonic() - begin, 30)
 
-    def test_what_an_engine_leaves_behind_ends_with_it(self):
+    def test_what_an_engine_leaves_behind_ends_with_it(self) -> None:
         program = self.answers(UNDO, str)
         program.write_text(f"{program.read_text()}\nsleep 1000 >&- 2>&- & echo $! >'{self.room}/left'\n")
         self.assertEqual(self.ran("--only", UNDO, program)[0], 0)
         self.wait_for_the_end_of(int((self.room / "left").read_text()))
 
-    def test_who_ends_it_ends_what_plays(self):
+    def test_who_ends_it_ends_what_plays(self) -> None:
         """Engines that would never end: several cases at once, of which more would follow, and two programs on a file."""
         program = self.program(f"echo $$ >>'{self.room}/numbers'; exec sleep 1000")
         numbers, folder = self.room / "numbers", self.room / "tmp"
@@ -144,30 +147,30 @@ class Runner(InARoom):
                         with self.assertRaises(ProcessLookupError):
                             os.kill(left, 0)
 
-    def test_who_ends_it_while_it_begins_ends_what_plays(self):
+    def test_who_ends_it_while_it_begins_ends_what_plays(self) -> None:
         """Cases are played already while others are still handed out."""
         run = loaded(RUN)
         left = iter(range(3))
 
         class Hurried(ThreadPoolExecutor):
-            def submit(self, *words):
+            def submit(self, *words: Any, **named: Any) -> Any:
                 if next(left, None) is None:
                     raise KeyboardInterrupt
-                return super().submit(*words)
+                return super().submit(*words, **named)
 
         begin = monotonic()
         with mock.patch.object(run, "ThreadPoolExecutor", Hurried), self.assertRaises(KeyboardInterrupt):
             run.run(run.Words([], 2, 30, None, [str(self.program("exec sleep 1000"))]))
         self.assertLess(monotonic() - begin, 25)
 
-    def test_what_plays_hostile_files_stops_what_writes_without_an_end(self):
+    def test_what_plays_hostile_files_stops_what_writes_without_an_end(self) -> None:
         for script in ("exec yes", "exec yes >&2", "trap '' XFSZ; exec yes"):
             with self.subTest(script):
                 ran = subprocess.run([sys.executable, HOSTILE, "--quick", self.program(script), "nothing-as-file"], stdout=subprocess.PIPE, stderr=subprocess.PIPE, timeout=120)
                 self.assertEqual((ran.returncode, ran.stderr), (1, b""))
                 self.assertRegex(ran.stdout.decode(), "^nothing-as-file .* differs: .*\n0 passed, 1 failed\n$")
 
-    def test_who_ends_what_plays_hostile_files_ends_what_plays(self):
+    def test_who_ends_what_plays_hostile_files_ends_what_plays(self) -> None:
         program = self.program(f"sleep 1000 & echo $! $$ >'{self.room}/numbers'; exec sleep 1000")
         numbers, folder = self.room / "numbers", self.room / "tmp"
         folder.mkdir()
@@ -185,29 +188,29 @@ class Runner(InARoom):
                 for left in map(int, numbers.read_text().split()):
                     self.wait_for_the_end_of(left)
 
-    def wait_for_the_end_of(self, number):
+    def wait_for_the_end_of(self, number: int) -> None:
         """Of a process that is nobody's child here, so that it may stand in the list for long."""
         state = Path(f"/proc/{number}/stat")
         self.wait_for(lambda: not state.exists() or ") Z " in state.read_text())
 
-    def wait_for(self, is_so):
+    def wait_for(self, is_so: Callable[[], object]) -> None:
         until = monotonic() + 60
         while not is_so():
             self.assertLess(monotonic(), until, "it did not come")
             sleep(0.05)
 
-    def test_a_junit_file_has_each_case(self):
+    def test_a_junit_file_has_each_case(self) -> None:
         self.ran("--junit", self.room / "x.xml", "--only", UNDO, "--only", "movement-*", self.answers(UNDO, str))
         suite = ElementTree.parse(self.room / "x.xml").getroot()
         self.assertEqual([(it.get("classname"), it.get("name"), len(it)) for it in suite], [("movement", "movement-goes-column-by-column", 1), ("playing", UNDO, 0)])
 
-    def test_words_that_are_wrong_are_refused(self):
+    def test_words_that_are_wrong_are_refused(self) -> None:
         for words, what in ((("--only", "none-*", RUN), "no case fits none-*"), (("--jobs", "0", RUN), "--jobs wants a number from 1 to 64"), (("--limit", "x", RUN), "--limit wants"), (("--only",), "wants a word behind it")):
             status, out, errors = self.ran(*words)
             self.assertEqual((status, out), (2, ""))
             self.assertIn(what, errors)
 
-    def test_both_programs_are_compared(self):
+    def test_both_programs_are_compared(self) -> None:
         one, file = self.answers(UNDO, str), CASES / UNDO / "input.json"
         other = self.room / "other"
         other.write_text(f"#!/bin/sh\nsed 's/move/tick/' '{self.room}/shown'\n")
@@ -218,14 +221,14 @@ class Runner(InARoom):
 
 
 class Suite(unittest.TestCase):
-    def names(self):
+    def names(self) -> List[str]:
         return [it.name for kind in ("cases", "files") for it in (TOP / "conformance" / kind).iterdir()] + ["file-of-16777216-bytes", "file-of-16777217-bytes"]
 
-    def test_the_version_says_how_many_cases_there_are(self):
-        said = re.fullmatch(r"suite \d+, (\d+) cases\n", (TOP / "conformance/VERSION").read_text())
-        self.assertEqual(int(said[1]), len(self.names()))
+    def test_the_version_says_how_many_cases_there_are(self) -> None:
+        said = re.findall(r"\Asuite \d+, (\d+) cases\n\Z", (TOP / "conformance/VERSION").read_text())
+        self.assertEqual(int(said[0]), len(self.names()))
 
-    def test_each_rule_has_cases_and_each_pattern_fits_one(self):
+    def test_each_rule_has_cases_and_each_pattern_fits_one(self) -> None:
         left = self.names()
         for line in (TOP / "conformance/rules.txt").read_text(encoding="utf-8").splitlines():
             rule, _, patterns = line.partition(":")

@@ -1,4 +1,6 @@
 """What explaining costs: not much more than twice as much for an input of twice the size, and with one budget of time for all of it."""
+from __future__ import annotations
+
 import gc
 import io
 import json
@@ -11,6 +13,7 @@ from contextlib import redirect_stderr
 from pathlib import Path
 from resource import RUSAGE_SELF, getrusage
 from time import monotonic, sleep
+from typing import Any, Callable, Iterable, List, Sequence, Tuple
 
 from day import OnSessions
 from tool import TOP  # which puts the package on the path
@@ -28,7 +31,7 @@ from saxtegun.pages import source_lines
 from saxtegun.playing import Engine
 from saxtegun.recording_search import find
 from saxtegun.reductions import of_columns
-from saxtegun.sessions import sessions_in
+from saxtegun.sessions import Entry, Sessions, sessions_in
 from saxtegun.stage_descriptions import Text, block_told, drawn
 from saxtegun.stage_divergence import Parted, Side, Telling
 from saxtegun.stages import Stage
@@ -47,25 +50,25 @@ LEAST_SECONDS = 0.05
 LARGE = 1_000_000
 
 
-def legend_chain(count):
+def legend_chain(count: int) -> str:
     return f"{HEAD}LEGEND\n" + "\n".join(f"a{it} = a{it + 1}" for it in range(count)) + "\nCOLLISIONLAYERS\n" + " ".join(f"a{it}" for it in range(count)) + "\n" + TAIL
 
 
-def legend_of_letters(count):
+def legend_of_letters(count: int) -> str:
     lines = "\n".join(f"{one} = {other}" for one, other in zip(LETTERS[:count], LETTERS[1:]))
     return f"{HEAD}LEGEND\n{lines}\nCOLLISIONLAYERS\nBackground\nPlayer\nWINCONDITIONS\nLEVELS\n{''.join(LETTERS[:count])}\n"
 
 
-def rules(count):
+def rules(count: int) -> str:
     return f"{HEAD}RULES\n" + "[ Player ] -> [ Player ]\n" * count + "startloop\n[ > Player ] -> [ Player ]\nendloop\n" * count + TAIL
 
 
-def line_told(code, text, before="RULES\n"):
+def line_told(code: str, text: str, before: str = "RULES\n") -> str:
     source = f"{HEAD}{before}{text}\n"
     return fault_told(code, source, source.count("\n"))
 
 
-def added(size):
+def added(size: int) -> None:
     """Adds recordings to a file: as many of one name as this, and as many that are there already under other names."""
     name = "one name"
     there = [[f"{name} {it}", ["", [it % 5], "b:0,", it]] for it in range(size // 4)]
@@ -78,18 +81,18 @@ def added(size):
         raise AssertionError("other recordings are there")
 
 
-def held_against(size):
+def held_against(size: int) -> None:
     """Looks which of many texts is the one at hand."""
     entries = sessions_in("x", json.dumps([["a", [f"title {it}", [], ""]] for it in range(size // 100)])).entries
     if len(of_another_text(entries, GameText("game.txt", "title x\r\n" * (size // 10)))) != size // 100:
         raise AssertionError("a text is the one at hand")
 
 
-def acts(*lines):
+def acts(*lines: int) -> Stage:
     return Stage(0, "early", 0, lines, True, (), (), "background:0,\n")
 
 
-def led(size):
+def led(size: int) -> None:
     """Tells where two texts part of which each has two groups, of as many rules as this: one acts in the one, one in the other, and behind it each rule alone."""
     first, behind = range(7, 7 + size), range(7 + size, 7 + 2 * size)
     source = f"{HEAD}RULES\n" + ("[ Player ] -> [ Player ]\n" + "+ [ Player ] -> [ Player ]\n" * (size - 1)) * 2 + TAIL
@@ -101,7 +104,7 @@ def led(size):
         raise AssertionError(sentence)
 
 
-def loops_told(size):
+def loops_told(size: int) -> None:
     """Tells that each loop of a game acts: its three lines are told by the two words around them."""
     source = f"{HEAD}RULES\n" + "startloop\n[ Player ] -> [ Player ]\nendloop\n" * size + TAIL
     told_of = [block_told(acts(it), source) for it in range(source.count("\n", 0, source.index("startloop")) + 2, 3 * size + 7, 3)]
@@ -109,7 +112,7 @@ def loops_told(size):
         raise AssertionError(told_of[-1])
 
 
-def started_in(size):
+def started_in(size: int) -> None:
     """Draws where as many sessions begin as a game has messages, each at another one before its only level."""
     source = f"{HEAD}{TAIL[:-3]}" + "message x\n" * size + "p" * 100 + "\n"
     entry = sessions_in("x", json.dumps([["a", [source, [], ""]]])).entries[0]
@@ -117,34 +120,34 @@ def started_in(size):
         raise AssertionError("it begins elsewhere")
 
 
-def entry_of(source, level="", index=0):
+def entry_of(source: str, level: str = "", index: int = 0) -> Entry:
     return sessions_in("x", json.dumps([["a", [source, [], level, index]]])).entries[0]
 
 
-def level_of(names, cells):
+def level_of(names: int, cells: int) -> str:
     """A level text of so many cells of so many names each."""
     return " ".join(f"a{it}" for it in range(names)) + ":0," + "0," * (cells - 1)
 
 
-def objects_in_layers(count):
+def objects_in_layers(count: int) -> Tuple[str, str]:
     """OBJECTS with so many objects more, and the layers of all, each in one of its own."""
     names = [f"a{it}" for it in range(count)]
     return "OBJECTS\nBackground .\nblack\n\nPlayer p\nwhite\n\n" + "".join(f"{it}\nred\n\n" for it in names), "COLLISIONLAYERS\nBackground\nPlayer\n" + "\n".join(names) + "\n"
 
 
-def rows_of_cells(size):
+def rows_of_cells(size: int) -> List[List[Tuple[str, ...]]]:
     """A level of as many cells as each has names, as it is drawn."""
     return [[tuple(sorted(f"a{it}" for it in range(size)))] * size]
 
 
-def started(size):
+def started(size: int) -> None:
     """Looks whether the first frame of a run, of as many cells as names in each, is the level that its source draws."""
     run = Run(0, "a", "differs", None, [Frame(0, "start", level_of(size, size))])
     if start_fault(entry_of(HEAD + TAIL), run, Tests(order="columns", is_drawn=True)) is None:
         raise AssertionError("it is that level")
 
 
-def begun_in_levels(size):
+def begun_in_levels(size: int) -> None:
     """Draws where so many sessions begin, each in another level, whose letter draws as many objects as are told of a source."""
     objects, layers = objects_in_layers(MOST_OBJECTS)
     source = f"{objects}LEGEND\nq = {' and '.join(f'a{it}' for it in range(MOST_OBJECTS))}\n{layers}WINCONDITIONS\nLEVELS\n" + "q\n\n" * size
@@ -153,13 +156,13 @@ def begun_in_levels(size):
         raise AssertionError("other cells are drawn")
 
 
-def likened(size):
+def likened(size: int) -> None:
     """Looks which level a recorded one is of, where as many have its size as it has names in a cell."""
     source = HEAD + TAIL + "\npp\n" * size + "\n..\n" * size
     level_of_recorded(entry_of(source, level_of(size, 2).replace("a0 ", "player ")), "columns")
 
 
-def property_in_rules(size):
+def property_in_rules(size: int) -> None:
     """Looks at so many rules, with a property in them of as many objects as are told of a source."""
     objects, layers = objects_in_layers(MOST_OBJECTS)
     source = f"{objects}LEGEND\nall = {' or '.join(f'a{it}' for it in range(MOST_OBJECTS))}\n{layers}RULES\n" + "[ > Player | all ] -> [ > Player | > all ]\n" * size + TAIL
@@ -167,40 +170,42 @@ def property_in_rules(size):
         raise AssertionError("a rule places what moves")
 
 
-def inputs_heeded(size):
+def inputs_heeded(size: int) -> None:
     """Looks whether a game has `noundo`, for as many sessions as it has lines."""
     entry = entry_of(rules(size))._replace(inputs=["undo"])
     if any(differences.input_told(entry) for _ in range(size)):
         raise AssertionError("it has")
 
 
-def acted(size):
+def acted(size: int) -> None:
     """Tells what a stage did to a level of as many cells as each has names."""
     level = level_of(size, size)
     drawn(acts(7)._replace(level=level), acts(8)._replace(level=level), Text(HEAD + TAIL, "", "columns"), True)
 
 
-def hung_from(size):
+def hung_from(size: int) -> None:
     """Draws a level of as many cells as each has names as the source of what is played."""
     run = Run(0, "a", "stopped", "loop-limit", [Frame(0, "start", level_of(size, size).replace("a0 ", "background "))])
     source = HEAD + "COLLISIONLAYERS\nBackground\nPlayer\n" + TAIL
-    source_from(source, hangs.rows_before(run, source, "columns"), frozenset())
+    rows = hangs.rows_before(run, source, "columns")
+    assert rows is not None
+    source_from(source, rows, frozenset())
 
 
-def shown_in_a_page(cause, size):
+def shown_in_a_page(cause: str, size: int) -> None:
     """Shows of as many sessions of one game as it has rules the lines that their cause is about."""
     source = rules(size)
     for _ in range(size):
         source_lines(source, cause)
 
 
-def read_behind(size):
+def read_behind(size: int) -> None:
     """Reads a session with as many texts behind it, each with the letters of the word that demands, in another order."""
     if len(sessions_in("x", f"""[["a",["",[],""]{',"devlos","lo"' * size}]]""").entries) != 1:
         raise AssertionError("it was not read")
 
 
-def narrowed(size):
+def narrowed(size: int) -> None:
     """Takes the first column of each of many levels."""
     entry = sessions_in("x", json.dumps([["a", [HEAD + "LEVELS\n" + "p.\n\n" * size, [], ""]]])).entries[0]
     count, without = of_columns(entry)
@@ -284,13 +289,13 @@ find(text) if read == "find" else entries_in(text, {LONG})
 """
 
 
-def remembering():
+def remembering() -> Iterable[Any]:
     """The functions of the package that remember what they told. An equal text of an earlier call would be compared with, letter by letter."""
     modules = [module for name, module in sys.modules.items() if name.startswith("saxtegun.")]
     return {id(it): it for module in modules for it in vars(module).values() if hasattr(it, "cache_clear") and not isinstance(it, type)}.values()
 
 
-def seconds_of(act, size):
+def seconds_of(act: Callable[[int], object], size: int) -> float:
     """What an act takes of a processor where nothing is remembered, and garbage isn't collected: that takes more from some size on, whatever the act."""
     for cached in remembering():
         cached.cache_clear()
@@ -304,7 +309,7 @@ def seconds_of(act, size):
         gc.enable()
 
 
-def growth_of(act, size):
+def growth_of(act: Callable[[int], object], size: int) -> float:
     """How many times the time of a size the double takes, once a size takes long enough to be timed."""
     while seconds_of(act, size) < LEAST_SECONDS:
         if size > LARGE:
@@ -313,7 +318,7 @@ def growth_of(act, size):
     return min(min(seconds_of(act, 2 * size) for _ in range(3)) / max(min(seconds_of(act, size) for _ in range(3)), 1e-9) for _ in range(2))
 
 
-def meanings_of(source):
+def meanings_of(source: str) -> Any:
     """What the names of a source stand for, each of which is asked for."""
     meanings = Meanings(description_of(source))
     meanings.filled()
@@ -321,7 +326,7 @@ def meanings_of(source):
 
 
 class Costs(unittest.TestCase):
-    def test_twice_the_input_takes_about_twice_the_time(self):
+    def test_twice_the_input_takes_about_twice_the_time(self) -> None:
         for what, (size, act) in READINGS.items():
             with self.subTest(what):
                 # A larger size is tried where one doesn't fit into a processor's cache any more: what is quadratic grows too much at each.
@@ -329,19 +334,19 @@ class Costs(unittest.TestCase):
                 self.assertIsNotNone(growth, f"more than {MOST} times the time")
 
 
-    def test_of_synonyms_each_is_gone_through_once(self):
+    def test_of_synonyms_each_is_gone_through_once(self) -> None:
         meanings = meanings_of(legend_of_letters(2000))
         self.assertLess(MOST_NAMES - meanings.names_left, 5000)
         self.assertEqual(meanings.notes, [])
 
-    def test_of_a_chain_of_aggregates_none_is_gone_through_for_each(self):
+    def test_of_a_chain_of_aggregates_none_is_gone_through_for_each(self) -> None:
         """Each is the one before and an object."""
         lines = "\n".join(f"{one} = {other} and Player" for one, other in zip(LETTERS[1:2000], ["Background", *LETTERS[1:]]))
         meanings = meanings_of(f"{HEAD}LEGEND\n{lines}\nCOLLISIONLAYERS\nBackground\nPlayer\nWINCONDITIONS\nLEVELS\n{LETTERS[1]}\n")
         self.assertLess(MOST_NAMES - meanings.names_left, 20_000)
         self.assertEqual(meanings.notes, [])
 
-    def test_what_is_known_of_names_changes_none_of_them(self):
+    def test_what_is_known_of_names_changes_none_of_them(self) -> None:
         """Of names that come to one another too, or to themselves, in whichever order they are asked for."""
         chosen = random.Random(0)
         sources = []
@@ -359,34 +364,35 @@ class Costs(unittest.TestCase):
 
 
 class Far(unittest.TestCase):
-    def test_texts_behind_a_session_take_no_longer_than_reading_them(self):
+    def test_texts_behind_a_session_take_no_longer_than_reading_them(self) -> None:
         """A million of them take a second or so, where a comparison of each with a word would take ten."""
         self.assertLess(seconds_of(read_behind, 500_000), 5)
 
 
 class Memory(unittest.TestCase):
-    def assert_read(self, *words):
+    def assert_read(self, *words: str) -> None:
         ran = subprocess.run([sys.executable, "-B", "-X", "utf8", "-c", READ, *words], cwd=TOP / "python", stdout=subprocess.PIPE, stderr=subprocess.STDOUT)
         self.assertEqual((ran.returncode, ran.stdout.decode()), (0, ""))
 
-    def test_no_round_is_remembered(self):
+    def test_no_round_is_remembered(self) -> None:
         for what, text in ROUNDS.items():
             with self.subTest(what):
                 self.assert_read("find", *text)
 
-    def test_what_is_split_is_not_held_twice(self):
+    def test_what_is_split_is_not_held_twice(self) -> None:
         self.assert_read("split", "[", "[],", "[]]")
 
 
 class Counting(Finder):
     """Finds out in what a session hung by a player that counts: the step hangs with the rule of one line."""
 
-    def __init__(self, sessions, culprit):
+    def __init__(self, sessions: Sessions, culprit: str) -> None:
         super().__init__(sessions, Engine())
-        self.played, self.player = [], self
+        self.played: List[Entry] = []
+        self.player = self  # type: ignore[assignment]  # it plays itself
         self.engine, self.culprit = Engine(), culprit
 
-    def runs(self, entries):
+    def runs(self, entries: Sequence[Entry]) -> List[Run]:
         if not budget.EXPLAINING.is_left():
             raise hangs.Unanswered("no time is left")
         self.played += entries
@@ -396,19 +402,19 @@ class Counting(Finder):
 
 
 class Budget(OnSessions):
-    def setUp(self):
+    def setUp(self) -> None:
         super().setUp()
         left = budget.EXPLAINING.left
         self.addCleanup(lambda: setattr(budget.EXPLAINING, "left", left))
 
-    def hung(self, count, culprit):
+    def hung(self, count: int, culprit: int) -> Tuple[Any, ...]:
         text = "".join(f"[ Player ] -> [ Player ] sfx{it}\n" for it in range(count))
         source = f"{HEAD}LEGEND\nCOLLISIONLAYERS\nBackground\nPlayer\nRULES\n{text}{TAIL}"
         sessions = sessions_in("s.json", json.dumps([["a", [source, [3], ""]]]))
         run = Run(0, "a", "stopped", "loop-limit", [Frame(0, "start", "background player:0,background:1,\n")])
         return Counting(sessions, f"sfx{culprit}\n"), sessions.entries[0], run, source[: source.index(f"sfx{culprit}\n")].count("\n") + 1
 
-    def test_where_a_session_hung_is_found_by_few_plays(self):
+    def test_where_a_session_hung_is_found_by_few_plays(self) -> None:
         """Half of the rules are asked for at a time: of 300 the one that hangs is found by ten plays or so."""
         for count, culprit, most in ((1, 0, 3), (300, 0, 12), (300, 137, 12), (300, 299, 12)):
             finder, entry, run, line = self.hung(count, culprit)
@@ -418,14 +424,14 @@ class Budget(OnSessions):
             finder.told(entry, run)
             self.assertEqual(len(finder.played), played, "it is found out once")
 
-    def test_where_no_time_is_left_it_is_said_that_nothing_was_looked_at(self):
+    def test_where_no_time_is_left_it_is_said_that_nothing_was_looked_at(self) -> None:
         finder, entry, run, _ = self.hung(30, 7)
         budget.EXPLAINING.left = 0
         self.assertEqual(finder.told(entry, run), f"; where is {budget.NOT_LOOKED_AT}")
         self.assertEqual(told(run, entry), (f"{told(run)[0]}; {budget.NOT_LOOKED_AT}", []))
         self.assertEqual(finder.played, [])
 
-    def test_time_that_ends_in_the_midst_of_a_session_is_heeded(self):
+    def test_time_that_ends_in_the_midst_of_a_session_is_heeded(self) -> None:
         """Of what takes many seconds to say only what was played is said, soon behind the end of the time."""
         _, entry, run, _ = self.hung(30, 7)
         behind, comments = run._replace(close="differs", cause=None), "(" * 1_000_000
@@ -445,14 +451,14 @@ class Budget(OnSessions):
                 self.assertLess(monotonic() - begin, 1.5)
                 self.assertLess(budget.EXPLAINING.left, 0)
 
-    def test_what_explains_within_what_explains_is_taken_off_once(self):
+    def test_what_explains_within_what_explains_is_taken_off_once(self) -> None:
         budget.EXPLAINING.left = 100
         with budget.EXPLAINING.spent(), budget.EXPLAINING.spent():
             sleep(0.2)
             self.assertLess(budget.EXPLAINING.seconds_left(), 100)
         self.assertAlmostEqual(budget.EXPLAINING.left, 99.8, 1)
 
-    def test_what_explains_takes_from_the_budget(self):
+    def test_what_explains_takes_from_the_budget(self) -> None:
         _, entry, run, _ = self.hung(30, 7)
         before = budget.EXPLAINING.left
         told(run, entry)

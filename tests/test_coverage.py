@@ -1,10 +1,13 @@
 """`saxtegun coverage`: on the example with rules that nothing can need, and with what all need."""
+from __future__ import annotations
+
 import json
 import time
 import tracemalloc
 import unittest
 import unittest.mock
 from argparse import Namespace
+from typing import Any, Iterator, Sequence
 
 from test_processes import SLOW, Programs
 from test_test import RULE, OfAGame
@@ -13,7 +16,8 @@ from saxtegun.commands import Refused
 from saxtegun.descriptions import description_of, expect
 from saxtegun.lines import Frame, Run
 from saxtegun.omissions import Omissions
-from saxtegun.sessions import sessions_in
+from saxtegun.playing import Engine
+from saxtegun.sessions import Entry, sessions_in
 from saxtegun.verbs import coverage
 
 SOURCE = "RULES\n[ a ] -> [ b ]\n+ [ b ] -> [ c ]\nstartloop\nlate [ c ] -> (aside) [ d ]\nendloop\nWINCONDITIONS\n\nall a on b\nLEVELS\na\n"
@@ -22,7 +26,7 @@ SOURCE = "RULES\n[ a ] -> [ b ]\n+ [ b ] -> [ c ]\nstartloop\nlate [ c ] -> (asi
 class LeavingOut(unittest.TestCase):
     """The source without a line is read as the source is, but for that line, and for the `+` of the next of its group where it began that."""
 
-    def assert_left_out(self, source, *heirs):
+    def assert_left_out(self, source: str, *heirs: int) -> None:
         """Of each line the one that begins the group behind it, or 0."""
         omissions = Omissions(source)
         parts, texts = omissions.parts(), [*description_of(source).lines.with_headings()]
@@ -32,14 +36,14 @@ class LeavingOut(unittest.TestCase):
             wanted = [(number, text.lstrip("+ ") if number == heir else text) for number, text in texts if number != part.number]
             self.assertEqual([*description_of(omissions.without(part)).lines.with_headings()], wanted)
 
-    def test_each_rule_and_win_line_is_left_out_in_turn(self):
+    def test_each_rule_and_win_line_is_left_out_in_turn(self) -> None:
         self.assertEqual([it.text for it in Omissions(SOURCE).parts()], ["[ a ] -> [ b ]", "+ [ b ] -> [ c ]", "late [ c ] ->  [ d ]", "all a on b"])
         self.assert_left_out(SOURCE, 3, 0, 0, 0)
 
-    def test_a_comment_that_holds_the_same_is_no_rule(self):
+    def test_a_comment_that_holds_the_same_is_no_rule(self) -> None:
         self.assert_left_out("RULES\n([ a ] -> [ b ]) [ a ] -> [ b ]\n(c + d) + [ b ] -> [ c ]\n(late) + (e) [ c ] -> [ d ]\n", 3, 0, 0)
 
-    def test_comments_take_nothing_with_them(self):
+    def test_comments_take_nothing_with_them(self) -> None:
         for rule in (
             "[ a ] (c) -> [ b ]", "([ a ]  -> [ b ]) [ a ] (c) -> [ b ]", "\t[ a ] -> (of (two)\nlines) [ b ]", "(of\ntwo lines) [ a ] -> (and\nmore)", "[ a ] -> message (b) c",
             "[ a ] (b) -> message (b", "[ a ] -> [ b ] ) c", "[ a ] -(b)> mess(c)age (d",
@@ -52,21 +56,21 @@ class LeavingOut(unittest.TestCase):
 class Nothing(unittest.TestCase):
     """Where no line was left out nothing is said of what sessions notice."""
 
-    def play(self, entries, of, engine):
+    def play(self, entries: Sequence[Entry], of: Any, engine: Engine) -> Iterator[Run]:
         for number, it in enumerate(entries):
             is_whole = it.source in (self.source, f"{self.source}\n")
             yield Run(number, it.name, "passed", None, [Frame(0, "start", "a:0,")]) if is_whole else Run(number, it.name, "refused", "BadRule:2", [])
 
-    def assert_refused(self, source, why):
+    def assert_refused(self, source: str, why: str) -> None:
         self.source = source
         sessions = sessions_in("s.json", json.dumps([["a", [source, [], "a:0,"]]]))
         with unittest.mock.patch.object(coverage, "runs_played", self.play):
             self.assertRaisesRegex(Refused, f"^no line was left out: {why}$", coverage.Coverage(sessions, Namespace(order="columns", workers=None, program=None)).run)
 
-    def test_sources_without_a_line_are_refused(self):
+    def test_sources_without_a_line_are_refused(self) -> None:
         self.assert_refused("RULES\nWINCONDITIONS\nLEVELS\na\n", "no source that is played has a rule or a win line")
 
-    def test_lines_of_which_none_can_be_left_out_alone_are_refused(self):
+    def test_lines_of_which_none_can_be_left_out_alone_are_refused(self) -> None:
         self.assert_refused(SOURCE, "without any of them the rest is refused")
 
 
@@ -74,14 +78,16 @@ class Memory(unittest.TestCase):
     """What is held for a game of many rules is about its size, and not its size for each rule."""
 
     RULES = 2000
+    played: int
+    most: int
 
-    def play(self, entries, of, engine):
+    def play(self, entries: Sequence[Entry], of: Any, engine: Engine) -> Iterator[Run]:
         self.played += len(entries) // 2
         self.most = max(self.most, sum(len(it.source) for it in entries))
         for number, it in enumerate(entries):
             yield Run(number, it.name, "passed", None, [Frame(0, "start", "a:0,")])
 
-    def test_no_more_is_held_than_what_is_played_at_once(self):
+    def test_no_more_is_held_than_what_is_played_at_once(self) -> None:
         source = "RULES\n" + "[ Player ] -> [ Player ] (so that it is long)\n" * self.RULES
         sessions = sessions_in("s.json", json.dumps([["a", [source, [], "a:0,"]]]))
         self.played, self.most = 0, 0
@@ -101,7 +107,7 @@ class Memory(unittest.TestCase):
 
 
 class Time(Programs):
-    def test_no_more_lines_are_left_out_than_there_is_time_for(self):
+    def test_no_more_lines_are_left_out_than_there_is_time_for(self) -> None:
         """All would take a minute. What is told is of those that were."""
         sessions = self.write("s.json", json.dumps([["a", ["RULES\n" + "[ a ] -> [ b ]\n" * 60, [], "a:0,"]]]))
         for within, out, why in (
@@ -118,14 +124,14 @@ class Time(Programs):
 
 @plays
 class DayOfCoverage(OfAGame):
-    def number(self, text):
+    def number(self, text: str) -> int:
         return 1 + self.game.read_text(encoding="utf-8").partition(text)[0].count("\n")
 
-    def test_what_all_need_is_not_reported(self):
+    def test_what_all_need_is_not_reported(self) -> None:
         answer = run("coverage", self.game, self.recordings)
         self.assertEqual((answer.status, answer.out, answer.errors), (0, "2 lines left out in turn: 0 that no session notices\n", ""))
 
-    def test_rules_that_no_session_needs_are_reported(self):
+    def test_rules_that_no_session_needs_are_reported(self) -> None:
         # the first does what the rule of the example does too, and the second never matches
         never = "[ Wall Player ] -> [ Wall ]"
         self.with_rule(f"{RULE}\n{RULE}\n{never}")
@@ -136,7 +142,7 @@ class DayOfCoverage(OfAGame):
         self.assertEqual(told, [[f"{self.game}:{first + it}", text] for it, text in enumerate((RULE, RULE, never))])
         self.assertEqual(answer.out.splitlines()[-1], "4 lines left out in turn: 3 that no session notices")
 
-    def test_a_win_line_is_needed_where_a_session_solves_a_level(self):
+    def test_a_win_line_is_needed_where_a_session_solves_a_level(self) -> None:
         inside = self.write_entries([self.entries[2]])
         answer = run("coverage", self.game, inside)
         self.assertEqual((answer.status, answer.out.splitlines()[-1]), (1, "2 lines left out in turn: 1 that no session notices"))
@@ -144,7 +150,7 @@ class DayOfCoverage(OfAGame):
         last = self.write_entries([self.entries[1]])
         self.assertEqual(run("coverage", self.game, last).status, 0)
 
-    def test_a_game_that_is_refused_is_not_covered_by_sessions_of_another_text(self):
+    def test_a_game_that_is_refused_is_not_covered_by_sessions_of_another_text(self) -> None:
         self.with_rule(RULE.replace("Crate", "Crat"))
         mixed = self.write_entries([self.entries[1], ["own", [self.source, *self.entries[1][1][1:]]]], "mixed.json")
         answer = run("coverage", self.game, mixed)
@@ -152,7 +158,7 @@ class DayOfCoverage(OfAGame):
         number = self.number(RULE.replace("Crate", "Crat"))
         self.assertIn(f"no session is played over {self.game}, so none of its lines was left out: session 0, {self.entries[1][0]}: line {number} has a name that is not there", answer.errors)
 
-    def test_a_game_that_no_session_follows_is_not_covered(self):
+    def test_a_game_that_no_session_follows_is_not_covered(self) -> None:
         own = self.write_entries([["own", [self.source, *self.entries[1][1][1:]]]], "own.json")
         self.assertEqual(run("coverage", own).status, 0)
         for text in (self.source + "message x\n", "no game"):
@@ -161,7 +167,7 @@ class DayOfCoverage(OfAGame):
             self.assertEqual((answer.status, answer.out), (2, ""))
             self.assertIn(f"no session is played over {self.game}, so none of its lines was left out: each has another text\n", answer.errors)
 
-    def test_a_line_with_a_comment_inside_is_left_out(self):
+    def test_a_line_with_a_comment_inside_is_left_out(self) -> None:
         """No session needs it, and each needs the one whose comment holds the text of another."""
         rule = "[ > Player | (so) Wall ] -> [ Player | Wall ]"
         self.with_rule(f"({rule}) {RULE.replace('->', '(so) ->')}\n{rule}")
@@ -169,7 +175,7 @@ class DayOfCoverage(OfAGame):
         self.assertEqual(answer.status, 1)
         self.assertEqual(answer.out, f"{self.game}:{self.number(rule) + 1}: no session notices it: [ > Player |  Wall ] -> [ Player | Wall ]\n3 lines left out in turn: 1 that no session notices\n")
 
-    def test_where_no_session_is_played_there_is_no_answer(self):
+    def test_where_no_session_is_played_there_is_no_answer(self) -> None:
         sessions = self.write("refused.json", json.dumps([["a", ["", [], ""]]]))
         self.assert_refused(run("coverage", sessions), "has no session that can be played, so no line was left out: session 0, a: its source is the empty text")
         self.assert_refused(run("coverage", self.game, self.write("none.json", "[]")), "so no line was left out: it is empty")

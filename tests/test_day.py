@@ -1,4 +1,6 @@
 """The author's day of the README: its five commands, played as they stand there, one after the other."""
+from __future__ import annotations
+
 import json
 import os
 import re
@@ -15,7 +17,7 @@ STATUSES = [1, 0, 1, 0, 0]
 
 @plays
 class DayOfTheReadme(InARoom):
-    def test_the_commands_follow_from_one_another(self):
+    def test_the_commands_follow_from_one_another(self) -> None:
         section = (TOP / "README.md").read_text(encoding="utf-8").partition("## An author's day\n")[2].partition("\n## ")[0]
         commands = re.findall("^    (saxtegun .*)$", section, re.M)
         folder = self.room / "day"
@@ -30,9 +32,9 @@ class DayOfTheReadme(InARoom):
         self.assertEqual((again.returncode, sum(it.startswith(b"passed, ") for it in again.stdout.splitlines())), (0, 6))
         self.assertEqual(sorted(it.name for it in folder.iterdir()), ["game.txt", "recordings.json", "report.html"])
 
-    def test_an_edit_that_breaks_a_recording_is_red(self):
+    def test_an_edit_that_breaks_a_recording_is_red(self) -> None:
         section = (TOP / "README.md").read_text(encoding="utf-8").partition("## An author's day\n")[2].partition("\n## ")[0]
-        added = re.search("`(saxtegun add [^`]*)`", section)[1]
+        added = re.findall("`(saxtegun add [^`]*)`", section)[0]
         played, recorded = re.findall("^    (saxtegun .*)$", section, re.M)[:2]
         folder = self.room / "day"
         folder.mkdir()
@@ -40,7 +42,7 @@ class DayOfTheReadme(InARoom):
         shutil.copy(TOP / "examples/day/game.txt", game)
         words = {**environment(), "PATH": f"{TOP}:{os.environ['PATH']}"}
 
-        def called(command, keys=b"sd"):
+        def called(command: str, keys: bytes = b"sd") -> subprocess.CompletedProcess[bytes]:
             return subprocess.run(["bash", "-c", command], cwd=folder, env=words, input=keys, stdout=subprocess.PIPE, stderr=subprocess.STDOUT)
 
         self.assertEqual(called(recorded).returncode, 0)
@@ -58,7 +60,7 @@ class DayOfTheReadme(InARoom):
         self.assertEqual(answer.returncode, 1)
         self.assertIn(b"2 sessions: 0 passed, 2 differ", answer.stdout)
 
-    def test_the_first_screen_shows_what_is_printed(self):
+    def test_the_first_screen_shows_what_is_printed(self) -> None:
         shown = (TOP / "README.md").read_text(encoding="utf-8").partition("\n    $ ./")[2].partition("\n\n")[0]
         command, _, rest = shown.partition("\n")
         lines = [it[4:] for it in rest.split("\n")]

@@ -1,4 +1,6 @@
 """What the engine tells of a source, how it is asked, and what is said where it can't be."""
+from __future__ import annotations
+
 import io
 import json
 import os
@@ -7,6 +9,8 @@ import subprocess
 import sys
 import unittest
 from contextlib import contextmanager, redirect_stdout
+from pathlib import Path
+from typing import Any, Dict, Iterator, List, Optional, Sequence, Tuple, Union
 from unittest import mock
 
 from tool import TOP, InARoom  # which puts the package on the path
@@ -21,7 +25,7 @@ from saxtegun.pages import look_known
 from saxtegun.playing import Engine
 from saxtegun.recording_search import find
 from saxtegun.recordings import as_sessions, own_name
-from saxtegun.sessions import sessions_in
+from saxtegun.sessions import Entry, sessions_in
 from saxtegun.verbs import coverage
 
 SOURCE = """(a comment) Title A (game)
@@ -82,17 +86,17 @@ TOLD = Description(
 ENTRY = sessions_in("x", '[["a", ["title x\\nOBJECTS\\n", [], ""]]]').entries[0]
 
 
-def ways():
+def ways() -> Any:
     """As the command asks, and in Node."""
     return how_to_ask(), [programs.node_that_plays(), str(programs.DESCRIBE_IN_NODE)]
 
 
-def description_line(source):
+def description_line(source: str) -> str:
     return asked([source], how_to_ask())[0]
 
 
 class Whole(unittest.TestCase):
-    def test_a_source_is_told_line_by_line(self):
+    def test_a_source_is_told_line_by_line(self) -> None:
         found = description_of(SOURCE)
         self.assertEqual(found._replace(lines=NOTHING.lines), TOLD)
         self.assertEqual(next(iter(found.lines)), Line(1, "prelude", "Title A (game)"))
@@ -103,17 +107,17 @@ class Whole(unittest.TestCase):
         self.assertEqual([it.is_late for it in found.rules], [False, True, False, False])
         self.assertEqual([it.joins for it in found.rules], [False, False, True, False])
 
-    def test_a_source_that_is_refused_is_told_as_far_as_it_goes(self):
+    def test_a_source_that_is_refused_is_told_as_far_as_it_goes(self) -> None:
         self.assertEqual(description_of("title x").fault, Fault("Section", 0))
         self.assertEqual(titles_of(["title x"]), {"x"})
         long = description_of("x" * 2**20 + "y")
         self.assertEqual((long.fault, [*long.lines], long._replace(fault=None, lines=NOTHING.lines)), (Fault("TooLong", 0), [], NOTHING))
 
-    def test_half_a_letter_is_another_one(self):
+    def test_half_a_letter_is_another_one(self) -> None:
         self.assertEqual(bytes_of("a\ud800b"), b"a?b")
         self.assertEqual(titles_of(["title \ud800"]), {"?"})
 
-    def test_a_game_that_is_refused_for_its_rules_win_lines_clock_or_a_line_of_its_legend_has_its_layers(self):
+    def test_a_game_that_is_refused_for_its_rules_win_lines_clock_or_a_line_of_its_legend_has_its_layers(self) -> None:
         for old, new in (("late ", "random "), ("All", "Few"), ("Title", "realtime_interval 1\nTitle"), ("One =", "Two = Nobody\nOne ="), (".P\n", ".?\n")):
             with self.subTest(new):
                 source = SOURCE.replace(old, new)
@@ -123,19 +127,19 @@ class Whole(unittest.TestCase):
                 self.assertEqual(game.members("one"), ["player"])
                 self.assertEqual(game.glyph_of(["player", "background"]), "@")
 
-    def test_time_to_explain_that_ends_while_a_description_is_read_ends_explaining(self):
+    def test_time_to_explain_that_ends_while_a_description_is_read_ends_explaining(self) -> None:
         line = json.dumps({"fault": None, "lines": [[1, "prelude", False, "x"]]}, separators=(",", ":"))
         with mock.patch.object(budget.EXPLAINING, "left", 0), self.assertRaises(budget.UsedUp), budget.EXPLAINING.spent():
             descriptions.read(line)
 
 
 @contextmanager
-def asked_for():
+def asked_for() -> Iterator[List[int]]:
     """Counts how many sources are asked for at once, of which nothing is told."""
     line = json.dumps({"fault": None, **{it: [] for it in Description._fields[1:]}}, separators=(",", ":"))
     counts = []
 
-    def answers(them, words):
+    def answers(them: Sequence[Any], words: Sequence[str]) -> List[str]:
         counts.append(len(them))
         return [line] * len(them)
 
@@ -143,7 +147,7 @@ def asked_for():
         yield counts
 
 
-def refusing(entries, of, engine):
+def refusing(entries: Sequence[Entry], of: Any, engine: Engine) -> Iterator[Run]:
     """Runs that are all refused, as if something had played."""
     return (Run(number, it.name, "refused", "NoLevel:0", []) for number, it in enumerate(entries))
 
@@ -151,35 +155,35 @@ def refusing(entries, of, engine):
 class Asked(InARoom):
     """How the engine is asked: by stand-ins that are scripts, or by a count of calls."""
 
-    def setUp(self):
+    def setUp(self) -> None:
         super().setUp()
         fresh = mock.patch.object(descriptions, "DESCRIPTIONS", descriptions.Descriptions())
         fresh.start()
         self.addCleanup(fresh.stop)
-        self.chosen = mock.patch.object(programs, "CHOSEN_FOR_SOURCES", [])
+        self.chosen: Any = mock.patch.object(programs, "CHOSEN_FOR_SOURCES", [])
         self.chosen.start()
         self.addCleanup(self.chosen.stop)
         game_of.cache_clear()
 
-    def stand_in(self, script):
+    def stand_in(self, script: str) -> None:
         path = self.room / "pz_describer"
         path.write_text(f"#!{sys.executable}\nimport os, sys, time\n{script}\n")
         path.chmod(0o755)
         programs.CHOSEN_FOR_SOURCES[:] = [[str(path)]]
 
-    def assert_refused(self, why):
+    def assert_refused(self, why: str) -> None:
         with self.assertRaises(Undescribed) as refused:
             description_of("title x")
         self.assertEqual(str(refused.exception), f"the engine can't be asked what it reads of a source: {why}")
 
-    def test_each_source_is_asked_for_once(self):
+    def test_each_source_is_asked_for_once(self) -> None:
         with mock.patch.object(descriptions, "watched", side_effect=descriptions.watched) as called:
             for _ in range(3):
                 for source in ("title x", "title y"):
                     description_of(source)
         self.assertEqual(called.call_count, 2)
 
-    def test_sources_that_are_expected_are_told_by_one_process(self):
+    def test_sources_that_are_expected_are_told_by_one_process(self) -> None:
         for words in ways():
             sources = [f"title {it}" for it in range(200)]
             with self.subTest(words[0]), mock.patch.object(descriptions, "how_to_ask", lambda: words), mock.patch.object(subprocess, "Popen", side_effect=subprocess.Popen) as begun:
@@ -188,7 +192,7 @@ class Asked(InARoom):
                 self.assertEqual([description_of(it).prelude[0].value for it in sources], [str(it) for it in range(200)])
                 self.assertEqual(begun.call_count, 1)
 
-    def test_two_hundred_games_that_are_refused_are_explained_by_one_process(self):
+    def test_two_hundred_games_that_are_refused_are_explained_by_one_process(self) -> None:
         """They are explained by lines that are there, so that nothing plays."""
         sessions, lines = self.room / "sessions.json", self.room / "lines"
         sessions.write_text(json.dumps([[f"s{it}", [f"title {it}\nOBJECTS\nPlayer\nred\nRULES\n[ Crate{it} ] -> [ ]\n", [], ""]] for it in range(200)]))
@@ -200,7 +204,7 @@ class Asked(InARoom):
         self.assertEqual(begun.call_count, 1)
         self.assertTrue(all(f"`Crate{it}`" in told.getvalue() for it in range(200)))
 
-    def test_what_was_told_before_the_engine_ended_is_known(self):
+    def test_what_was_told_before_the_engine_ended_is_known(self) -> None:
         self.stand_in(f"print({description_line('title x')!r}); sys.stderr.write('memory\\n'); sys.exit(2)")
         expect(["title x", "title y"])
         with mock.patch.object(descriptions, "watched", side_effect=descriptions.watched) as called:
@@ -209,7 +213,7 @@ class Asked(InARoom):
             self.assertEqual(description_of("title y").prelude[0].value, "x", "the stand-in tells each the same")
             self.assertEqual(called.call_count, 2)
 
-    def test_what_was_told_before_it_was_too_much_is_known(self):
+    def test_what_was_told_before_it_was_too_much_is_known(self) -> None:
         """Small games may tell so much together, of which each alone tells far less."""
         line, sources = description_line("title x"), [f"title {it}" for it in range(10)]
         self.stand_in(f"[print({line!r}) for it in sys.argv[1:]]")
@@ -218,14 +222,14 @@ class Asked(InARoom):
             self.assertEqual([description_of(it).prelude[0].value for it in sources], ["x"] * 10)
         self.assertEqual(called.call_count, 4)
 
-    def test_only_so_many_letters_are_asked_for_at_once(self):
+    def test_only_so_many_letters_are_asked_for_at_once(self) -> None:
         sources = [f"title {it}" + "\n" * 100 for it in range(10)]
         expect(sources)
         with mock.patch.object(descriptions, "MOST_LETTERS_AT_ONCE", 500), mock.patch.object(descriptions, "watched", side_effect=descriptions.watched) as called:
             self.assertEqual([description_of(it).prelude[0].value for it in sources], [str(it) for it in range(10)])
         self.assertEqual(called.call_count, 3)
 
-    def test_of_sources_just_too_many_to_be_kept_none_is_asked_for_alone(self):
+    def test_of_sources_just_too_many_to_be_kept_none_is_asked_for_alone(self) -> None:
         """They are gone through again and again, and each forgets one that is wanted next."""
         sources, line = [f"title {it:3}" for it in range(101)], description_line("title x")
         expect(sources)
@@ -235,7 +239,7 @@ class Asked(InARoom):
                     description_of(it)
         self.assertLessEqual(called.call_count, 6)
 
-    def test_sources_that_come_again_are_asked_for_with_those_that_are_wanted_next(self):
+    def test_sources_that_come_again_are_asked_for_with_those_that_are_wanted_next(self) -> None:
         """In whichever order they come again: with those behind their first places each would be asked for with many that nobody wants then."""
         once = [f"title {it:3}" for it in range(200)]
         wanted = [*once, *random.Random(0).sample(once, len(once))]
@@ -246,7 +250,7 @@ class Asked(InARoom):
         self.assertLess(len(counts), 20)
         self.assertLess(sum(counts), 500)
 
-    def test_the_longest_source_that_is_played_is_kept_beside_others(self):
+    def test_the_longest_source_that_is_played_is_kept_beside_others(self) -> None:
         """A game of a MiB by turns with small ones, as in a file where its recordings have the empty text: each turn would ask for it anew."""
         longest = "title x".ljust(2**20)
         wanted = [it for number in range(300) for it in (longest, f"title {number}")]
@@ -256,33 +260,33 @@ class Asked(InARoom):
                 description_of(it)
         self.assertEqual(counts, [301])
 
-    def sessions_of(self, count, lines=""):
+    def sessions_of(self, count: int, lines: str = "") -> Path:
         """A file of sessions of as many games."""
         path = self.room / "sessions.json"
         path.write_text(json.dumps([[f"s{it}", [f"title {it}\n{lines}", [], ""]] for it in range(count)]))
         return path
 
-    def test_recordings_of_many_games_are_named_by_one_process(self):
+    def test_recordings_of_many_games_are_named_by_one_process(self) -> None:
         found = find(json.dumps([["", [f"title {it}\nOBJECTS\n", [], ""]] for it in range(300)])).found
         with asked_for() as counts:
             as_sessions("x", found, own_name)
         self.assertEqual(counts, [300])
 
-    def test_levels_of_many_games_are_found_by_one_process(self):
+    def test_levels_of_many_games_are_found_by_one_process(self) -> None:
         sessions = sessions_in("x", self.sessions_of(300).read_text())
         with asked_for() as counts, mock.patch.object(reindexing, "runs_played", refusing):
             self.assertEqual(len(reindexing.reindexed(sessions.entries, sessions, Engine())), 300)
         self.assertEqual(counts, [300])
 
-    def test_lines_of_many_games_are_left_out_by_one_process(self):
-        def played(entries, of, engine):
+    def test_lines_of_many_games_are_left_out_by_one_process(self) -> None:
+        def played(entries: Sequence[Entry], of: Any, engine: Engine) -> Iterator[Run]:
             return (it._replace(close="passed") for it in refusing(entries, of, engine))
 
         with asked_for() as counts, mock.patch.object(coverage, "runs_played", played), self.assertRaises(Refused):
             self.call("coverage", self.sessions_of(300))
         self.assertEqual(counts, [300])
 
-    def test_clocks_of_many_games_are_found_by_one_process(self):
+    def test_clocks_of_many_games_are_found_by_one_process(self) -> None:
         path = self.sessions_of(300, "realtime_interval 1\n")
         for verb in ("test", "lines", "accept"):
             descriptions.DESCRIPTIONS.cache_clear()
@@ -290,23 +294,23 @@ class Asked(InARoom):
                 self.assertRaisesRegex(Refused, "nothing plays", self.call, verb, path, "--ticks-as-recorded")
                 self.assertEqual(counts, [300])
 
-    def call(self, verb, *words):
+    def call(self, verb: str, *words: object) -> int:
         with mock.patch.object(sys, "argv", ["saxtegun", verb, *map(str, words)]), redirect_stdout(io.StringIO()):
             return main()
 
-    def test_what_was_expected_before_is_expected_again(self):
+    def test_what_was_expected_before_is_expected_again(self) -> None:
         expect(["a", "b"])
         self.assertEqual(titles_of(["title x", "title y"]), {"x", "y"})
         self.assertEqual(descriptions.DESCRIPTIONS.expected.sources, ["a", "b"])
 
-    def test_of_many_sources_some_are_kept(self):
+    def test_of_many_sources_some_are_kept(self) -> None:
         with mock.patch.object(descriptions, "MOST_KEPT", 20):
             for source in ("title x" + "\n" * 9, "title y" + "\n" * 9, "title z"):
                 description_of(source)
                 self.assertIn(source, descriptions.DESCRIPTIONS.known)
             self.assertEqual(len(descriptions.DESCRIPTIONS.known), 1)
 
-    def test_the_program_that_tells_sources_is_looked_for_beside_the_one_that_plays(self):
+    def test_the_program_that_tells_sources_is_looked_for_beside_the_one_that_plays(self) -> None:
         for plays, tells in (("bin/pz_replayer", "bin/pz_describer"), ("crates/pz_replayer/out/pz_replayer", "crates/pz_describer/out/pz_describer")):
             path = self.room / tells
             path.parent.mkdir(parents=True)
@@ -319,12 +323,12 @@ class Asked(InARoom):
                 programs.CHOSEN_FOR_SOURCES.clear()
                 self.assertEqual(programs.describer_words(), [str(path)])
 
-    def test_without_a_program_and_node_it_is_said_what_is_missing(self):
-        nothing = {"DESCRIBERS": (), "CHOSEN": [], "CHOSEN_FOR_STAGES": [], "BUILT": self.room / "none"}
+    def test_without_a_program_and_node_it_is_said_what_is_missing(self) -> None:
+        nothing: Dict[str, Any] = {"DESCRIBERS": (), "CHOSEN": [], "CHOSEN_FOR_STAGES": [], "BUILT": self.room / "none"}
         with mock.patch.multiple(programs, **nothing), mock.patch.dict(os.environ, PATH=str(self.room), SAXTEGUN_PROGRAM=""):
             self.assert_refused(f"the program is not built here, and there is no Node: {programs.HOW_TO_GET_ONE}")
 
-    def test_what_ends_without_an_answer_is_told(self):
+    def test_what_ends_without_an_answer_is_told(self) -> None:
         for script, why in (
             ("sys.stderr.write('memory\\n'); sys.exit(2)", "memory"),
             ("os.kill(os.getpid(), 9)", "it ended with status -9"),
@@ -342,12 +346,12 @@ class Asked(InARoom):
                 self.stand_in(script)
                 self.assert_refused(why)
 
-    def test_a_file_that_can_t_be_written_is_told(self):
+    def test_a_file_that_can_t_be_written_is_told(self) -> None:
         self.stand_in("print()")
         with mock.patch.object(descriptions.Path, "write_bytes", side_effect=OSError(28, "No space left on device")):
             self.assert_refused("No space left on device")
 
-    def test_what_tells_too_much_or_takes_too_long_is_told(self):
+    def test_what_tells_too_much_or_takes_too_long_is_told(self) -> None:
         self.stand_in("print('x' * 5 * 2**20)")
         with mock.patch.object(descriptions, "MOST_TOLD", 2**22):
             self.assert_refused("it told more than 4 MiB")
@@ -355,13 +359,13 @@ class Asked(InARoom):
         with mock.patch.object(descriptions, "SECONDS", 0.2):
             self.assert_refused("not answered in 0.2 s")
 
-    def test_what_takes_longer_than_there_is_time_to_explain_ends_explaining(self):
+    def test_what_takes_longer_than_there_is_time_to_explain_ends_explaining(self) -> None:
         self.stand_in("time.sleep(60)")
         with mock.patch.object(budget.EXPLAINING, "left", 0.2):
             sentence, below = told(Run(0, "a", "refused", "Section:0", []), ENTRY)
         self.assertEqual((sentence.rpartition("; ")[2], below), (budget.NOT_LOOKED_AT, []))
 
-    def test_an_answer_is_told_without_what_the_engine_was_asked_for(self):
+    def test_an_answer_is_told_without_what_the_engine_was_asked_for(self) -> None:
         self.stand_in("sys.exit(3)")
         why = "the engine can't be asked what it reads of a source: it ended with status 3"
         sentence, below = told(Run(0, "a", "refused", "Section:0", []), ENTRY)
@@ -383,7 +387,7 @@ print(sum(1 for it in told.lines), getrusage(RUSAGE_SELF).ru_maxrss // 1024)
 
 
 class Memory(unittest.TestCase):
-    def test_a_source_of_many_lines_takes_not_many_times_its_size(self):
+    def test_a_source_of_many_lines_takes_not_many_times_its_size(self) -> None:
         """A MiB of line feeds, and of the shortest rules; in MiB, of which Python itself takes some 30."""
         for source, count, most in ((r"'\n' * 2**20", 2**20 + 1, 150), (r"'OBJECTS\nRULES\n' + '[\n' * (2**19 - 9)", 2**19 - 8, 250)):
             with self.subTest(source):
@@ -394,7 +398,7 @@ class Memory(unittest.TestCase):
 
 
 class EngineOfDescriptions(InARoom):
-    def test_each_file_has_its_line(self):
+    def test_each_file_has_its_line(self) -> None:
         words = [programs.in_node().words[0], str(programs.DESCRIBE_IN_NODE)]
         names = programs.environment_of(words)
         paths = [self.room / it for it in "ab"]
@@ -402,7 +406,8 @@ class EngineOfDescriptions(InARoom):
             path.write_text(f"title {path.name}")
         ran = subprocess.run([*words, *map(str, paths)], stdout=subprocess.PIPE, stderr=subprocess.PIPE, env=names)
         self.assertEqual((ran.returncode, ran.stderr, len(ran.stdout.splitlines())), (0, b"", 2))
-        for given, why in (([], b"bad command line\n"), ([str(self.room / "c")], b"open-fault\n")):
+        calls: List[Tuple[List[str], bytes]] = [([], b"bad command line\n"), ([str(self.room / "c")], b"open-fault\n")]
+        for given, why in calls:
             ran = subprocess.run([*words, *given], stdout=subprocess.PIPE, stderr=subprocess.PIPE, env=names)
             self.assertEqual((ran.returncode, ran.stderr), (2, why))
 
@@ -433,9 +438,12 @@ REFUSED_FILES = {"": "not-json", "{}": "not-json", "[3]": "bad-entry 0", json.du
 class DayOfLevelsAndFiles(InARoom):
     """What is told of level texts and of files of sessions, by the program where it is built."""
 
-    words, names = staticmethod(programs.describer_words), None
+    names: Optional[Dict[str, str]] = None
 
-    def tell(self, kind, *texts):
+    def words(self) -> List[str]:
+        return programs.describer_words()
+
+    def tell(self, kind: str, *texts: Union[str, bytes]) -> Tuple[int, str, str]:
         paths = [self.room / str(number) for number in range(len(texts))]
         for path, text in zip(paths, texts):
             path.write_bytes(text if isinstance(text, bytes) else text.encode())
@@ -443,23 +451,23 @@ class DayOfLevelsAndFiles(InARoom):
         ran = subprocess.run([*words, kind, *map(str, paths)], stdout=subprocess.PIPE, stderr=subprocess.PIPE, env=self.names or programs.environment_of(words), check=False)
         return ran.returncode, ran.stdout.decode(), ran.stderr.decode()
 
-    def test_level_texts(self):
+    def test_level_texts(self) -> None:
         self.assertEqual(self.tell("--levels", *LEVELS), (0, "".join(f"{it}\n" for it in LEVELS.values()), ""))
 
-    def test_a_set_of_long_names_in_many_cells_is_told_once(self):
+    def test_a_set_of_long_names_in_many_cells_is_told_once(self) -> None:
         text = " ".join(f"name{it}" for it in range(10_000)) + ":0," + "0," * 100_000
         status, told, _ = self.tell("--levels", text)
         self.assertEqual((status, len(json.loads(told)["cells"])), (0, 100_001))
         self.assertLess(len(told), len(text) + 100)
 
-    def test_files_of_sessions(self):
+    def test_files_of_sessions(self) -> None:
         self.assertEqual(self.tell("--sessions", "[]", json.dumps(SESSIONS)), (0, f'{{"sessions":[],"sources":[]}}\n{TOLD_OF_SESSIONS}\n', ""))
 
-    def test_files_that_are_refused(self):
+    def test_files_that_are_refused(self) -> None:
         for text, why in REFUSED_FILES.items():
             self.assertEqual(self.tell("--sessions", text), (2, "", f"{why}\n"))
 
-    def test_what_is_no_text_or_no_command_line(self):
+    def test_what_is_no_text_or_no_command_line(self) -> None:
         for kind in ("--levels", "--sessions"):
             self.assertEqual(self.tell(kind, b"\xff"), (2, "", "not-json\n"))
             self.assertEqual(self.tell(kind), (2, "", "bad command line\n"))
@@ -469,13 +477,13 @@ class EngineOfLevelsAndFiles(DayOfLevelsAndFiles):
     """The same by the module that is built."""
 
     @classmethod
-    def setUpClass(cls):
+    def setUpClass(cls) -> None:
         if os.environ.get("SAXTEGUN_PROGRAM") == "none" or not (TOP / "engine/out/saxtegun.wasm").is_file():
             raise unittest.SkipTest("the module is not built")
 
     names = {it: value for it, value in os.environ.items() if it != "SAXTEGUN_MODULE"}
 
-    def words(self):
+    def words(self) -> List[str]:
         return [programs.in_node().words[0], str(programs.DESCRIBE_IN_NODE)]
 
 

@@ -1,7 +1,10 @@
 """docs/differences.md: each of its minimal games ends here as it says."""
+from __future__ import annotations
+
 import json
 import re
 import unittest
+from typing import Any, Iterator, List, Tuple
 
 from tool import TOP, InARoom, plays, run
 from saxtegun.differences import placed_told, scan_told
@@ -71,7 +74,7 @@ INPUTS = {"up": 0, "left": 1, "down": 2, "right": 3, "action": 4, "undo": "undo"
 WORDS = ("level", "inputs", "here", "there", "win")
 
 
-def games():
+def games() -> Iterator[Tuple[str, List[Any], str, str]]:
     """Each minimal game of the page: its source, its inputs, and how it ends here and there."""
     for block in re.findall(r"(?:^    .+\n)+", (TOP / "docs/differences.md").read_text(encoding="utf-8"), re.M):
         lines = [it.strip() for it in block.splitlines()]
@@ -83,17 +86,17 @@ def games():
         yield source, [INPUTS[it] for it in of["inputs"][0].split() if it != "none"], of["here"][0], of["there"][0]
 
 
-def drawn(source, text):
+def drawn(source: str, text: str) -> str:
     """A level by the letters of the game, a slash between its rows."""
     labels = Labels()
-    cells = read_cells(text, labels)
+    cells = read_cells(text, labels) or []
     rows = in_rows("columns", width_of(text, len(cells)), cells)
-    return "/".join(game_of(source).drawing([[labels.names[it] for it in row] for row in rows]))
+    return "/".join(game_of(source).drawing([[labels.names[it] for it in row] for row in rows]) or [])
 
 
 @plays
 class DayOfDifferences(InARoom):
-    def test_each_game_ends_as_the_page_says(self):
+    def test_each_game_ends_as_the_page_says(self) -> None:
         count = 0
         for source, inputs, here, there in games():
             with self.subTest(source.partition("RULES\n\n")[2]):
@@ -109,7 +112,7 @@ class DayOfDifferences(InARoom):
                     self.assertEqual((lines[-1]["close"], drawn(source, lines[-2]["level"])), ("differs", here))
         self.assertEqual(count, 11)
 
-    def test_explaining_names_the_likely_one(self):
+    def test_explaining_names_the_likely_one(self) -> None:
         wanted = {
             "[ action Player ] [ Thing ]": "`thing` in the rule on line {first} stands for objects of one layer: on the site the first place counts",
             "noundo": "the game has `noundo`: on the site the undo of this session does nothing",
@@ -127,14 +130,14 @@ class DayOfDifferences(InARoom):
             with self.subTest(form):
                 self.assertIn(f"    the site may decide otherwise: {told.format(first=first, second=first + 1)}", run("explain", self.room / "one.json").out)
 
-    def test_what_only_looks_so_is_not_named(self):
+    def test_what_only_looks_so_is_not_named(self) -> None:
         for rule in ("[ > Player ] -> [ Player ]", "[ Player ] [ Crate ] -> [ Player ] [ ]", "[ > Player | Crate ] [ Box ] -> [ | Player ] [ ]", "late right [ Player ] -> [ Player Mark ]"):
             self.assertEqual((scan_told(HEAD % ("", rule, "", "p.")), rule), ("", rule))
         for rule in ("late [ Mark ] -> [ Crate ]", "[ > Player | Mark ] -> [ > Player | Dot ]", "[ > Player | Crate ] -> [ > Player | Box ]", "[ > Player | Mark ] -> [ > Player | stationary Crate ]"):
             self.assertEqual((placed_told(HEAD % ("", rule, "", "p.")), rule), ("", rule))
         self.assertIn("places `crate`", placed_told(HEAD % ("", "[ > Player | Mark ] -> [ > Player | Crate ]", "", "p.")))
 
-    def test_a_game_without_such_a_form_is_told_nothing(self):
+    def test_a_game_without_such_a_form_is_told_nothing(self) -> None:
         self.assertNotIn("the site", run("explain", TOP / "examples/block-pushing.json").out)
 
 

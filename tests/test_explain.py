@@ -1,4 +1,6 @@
 """`saxtegun explain`: on the example, whose lines are played by hand, and on cases of conformance/."""
+from __future__ import annotations
+
 import json
 import re
 import unittest
@@ -53,16 +55,16 @@ CULPRITS = {
 
 
 class Explain(OnSessions):
-    def test_the_example_is_reported_with_its_cells_and_drawn(self):
+    def test_the_example_is_reported_with_its_cells_and_drawn(self) -> None:
         answer = run("explain", EXAMPLE, self.lines)
         self.assertEqual((answer.status, answer.out, answer.errors), (0, STALE, ""))
 
-    def test_a_fault_is_reported_with_its_culprit(self):
+    def test_a_fault_is_reported_with_its_culprit(self) -> None:
         for name, words in CULPRITS.items():
             with self.subTest(name):
                 self.assertIn(words, run("explain", *case(name), "--order", "rows").out)
 
-    def test_a_case_is_reported_with_its_cause(self):
+    def test_a_case_is_reported_with_its_cause(self) -> None:
         for name, wanted in TOLD.items():
             with self.subTest(name):
                 answer = run("explain", *case(name), "--order", "rows")
@@ -70,7 +72,7 @@ class Explain(OnSessions):
                 for words in wanted:
                     self.assertIn(words, answer.out)
 
-    def test_every_case_is_explained(self):
+    def test_every_case_is_explained(self) -> None:
         sessions, lines = cases_in_rows()
         answer = run("explain", self.write("sessions.json", sessions), self.write("lines", lines), "--order", "rows")
         self.assertEqual((answer.status, answer.errors), (0, ""))
@@ -80,7 +82,7 @@ class Explain(OnSessions):
         self.assertEqual(len(heads) + more, failed)
         self.assertNotIn("its cause is", answer.out)
 
-    def test_one_fault_of_a_game_is_explained_once(self):
+    def test_one_fault_of_a_game_is_explained_once(self) -> None:
         sessions, lines = (it.read_text(encoding="utf-8") for it in case("the-word-random-in-a-rule"))
         [entry], [line] = json.loads(sessions), lines.splitlines()
         other = ["another", [entry[1][0].replace("random", "  random"), *entry[1][1:]]]
@@ -91,7 +93,7 @@ class Explain(OnSessions):
         self.assertEqual(heads, [f"session 0, {entry[0]} and 2 more sessions", "session 2, another"])
         self.assertIn("4 sessions: 0 passed, 0 differ, 0 stopped, 4 refused", answer.out)
 
-    def test_a_level_is_not_drawn_where_a_cell_has_no_letter(self):
+    def test_a_level_is_not_drawn_where_a_cell_has_no_letter(self) -> None:
         source = json.loads(EXAMPLE.read_text(encoding="utf-8"))[4][1][0].replace("* = Crate", "Box = Crate")
         entries = json.loads(EXAMPLE.read_text(encoding="utf-8"))
         entries[4][1][0] = source
@@ -99,7 +101,7 @@ class Explain(OnSessions):
         self.assertIn("column 2, row 3: background crate; recorded: background", answer.out)
         self.assertNotIn("####..", answer.out)
 
-    def test_lines_of_another_file_are_refused(self):
+    def test_lines_of_another_file_are_refused(self) -> None:
         lines = self.lines.read_text(encoding="utf-8")
         for text, what in (
             (lines.replace("half way", "half-way"), "session 2 is named 'half-way through the first', and in the file 'half way"),
@@ -112,7 +114,7 @@ class Explain(OnSessions):
             with self.subTest(what):
                 self.assert_refused(run("explain", EXAMPLE, self.write("lines", text)), what)
 
-    def test_a_file_that_is_no_sessions_file_is_refused_with_the_place(self):
+    def test_a_file_that_is_no_sessions_file_is_refused_with_the_place(self) -> None:
         entry = '["a", ["", [0], ""]]'
         for text, what in (
             ("", "line 1, letter 1"),
@@ -135,7 +137,7 @@ class Explain(OnSessions):
                 self.assert_refused(run("explain", self.write("sessions.json", text), self.lines), what)
         self.assert_refused(run("explain", self.room / "nothing", self.lines), "nothing can't be read")
 
-    def test_what_the_program_refuses_of_numbers_is_refused(self):
+    def test_what_the_program_refuses_of_numbers_is_refused(self) -> None:
         """What an entry doesn't need isn't handed on to the program, so its numbers are judged here: as docs/sessions.md has them."""
         names = [it.name for it in (TOP / "conformance/cases").iterdir() if re.search("number-that-rounds|whole-number|nought|index-of-four|exponent|no-float|beyond-the-largest", it.name)]
         self.assertGreater(len(names), 6)
@@ -149,12 +151,12 @@ class Explain(OnSessions):
                 except Refused:
                     self.assertTrue(is_refused)
 
-    def test_a_long_cause_of_another_engine_is_cut(self):
+    def test_a_long_cause_of_another_engine_is_cut(self) -> None:
         sessions = self.write("s.json", '[["a", ["no game", [], ""]]]')
         close = {"cause": "x" * 100_000, "close": "stopped", "frames": 0, "name": "a", "session": 0}
         one, other = (self.write(name, json.dumps({**close, "cause": cause}) + "\n") for name, cause in (("one", "x" * 100_000), ("other", "y" * 100_000)))
-        for words in (("explain", sessions, one), ("compare", one, other, sessions)):
-            answer = run(*words)
+        for verb, files in (("explain", [sessions, one]), ("compare", [one, other, sessions])):
+            answer = run(verb, *files)
             self.assertIn("x" * 100, answer.out)
             self.assertLess(len(answer.out), 1000)
 

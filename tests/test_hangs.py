@@ -1,4 +1,6 @@
 """In which input and in what a session hung: on small games, of which it was worked out by hand."""
+from __future__ import annotations
+
 import json
 import unittest
 
@@ -61,7 +63,7 @@ HUNG = {
 
 @plays
 class DayOfHanging(OnSessions):
-    def test_what_hung_is_found_out_by_playing(self):
+    def test_what_hung_is_found_out_by_playing(self) -> None:
         for title, (rules, inputs, wanted) in HUNG.items():
             with self.subTest(title):
                 sessions = self.write("s.json", json.dumps([["a", [SOURCE % rules, inputs, "background:0,"]]]))
@@ -69,14 +71,14 @@ class DayOfHanging(OnSessions):
 
 
 class Hanging(OnSessions):
-    def test_a_program_that_has_no_answer_takes_none_away(self):
+    def test_a_program_that_has_no_answer_takes_none_away(self) -> None:
         program = self.write("program", "#!/bin/sh\nexit 2\n")
         program.chmod(0o755)
         sessions = sessions_in("s.json", json.dumps([["a", [SOURCE % "[ Crate ] -> [ ]", [3], ""]]]))
         hung = Run(0, "a", "stopped", "loop-limit", [Frame(0, "start", "background player:0,background:1,background crate:2,\n")])
         self.assertEqual(Finder(sessions, Engine(program=str(program))).told(sessions.entries[0], hung), "")
 
-    def test_things_are_in_the_order_in_which_they_run(self):
+    def test_things_are_in_the_order_in_which_they_run(self) -> None:
         source = "RULES\nLATE [ a ] -> [ ]\n+ [ b ] -> [ ]\nstartloop\nlate up [ c ] -> [ ]\n[ late ] -> [ ]\nendloop\ndown [ d ] -> [ ]\n"
         found = [(it.name, sorted(it.lines), [sorted(inner.lines) for inner in it.inner]) for it in things_of(source)]
         self.assertEqual(found, [
@@ -84,7 +86,7 @@ class Hanging(OnSessions):
             ("it is the group of lines 2 to 3", [2, 3], []), ("it is in the loop of lines 4 to 7", [4, 5, 7], [[5]]),
         ])
 
-    def test_the_source_has_the_level_and_the_rules_that_are_kept(self):
+    def test_the_source_has_the_level_and_the_rules_that_are_kept(self) -> None:
         source = (SOURCE % "[ Mark ] -> [ ]\n(x) [ Crate ] -> [ ]").replace("LEGEND\n", "LEGEND\nb = Crate\n")
         made = source_from(source, [[("background", "player"), ("background",)]], {23})
         self.assertEqual(made, (SOURCE % "[ Crate ] -> [ ]").replace("run_rules_on_level_start\n", "").replace(

@@ -1,6 +1,8 @@
 """What an enemy, or a power cut, does from outside: a verb that is killed while it writes loses no file, and wrong calls of the bare module harm no other.
 
 By hand in their long form: `KILLS=300 CALLS=10000 SEED=.. python3 -m unittest discover -s tests -k hostile`, and `node tests/engine/hostile.mjs SEED 10000` for the glue."""
+from __future__ import annotations
+
 import json
 import os
 import random
@@ -9,6 +11,8 @@ import subprocess
 import sys
 import time
 import unittest
+from pathlib import Path
+from typing import Any, List, Optional
 
 from test_test import OfAGame
 from tool import TOP, environment, plays, run
@@ -25,31 +29,32 @@ COUNT = 150
 class DayOfKills(OfAGame):
     """Kills accept, add and play --save at a random moment of so long as they take."""
 
-    def setUp(self):
+    def setUp(self) -> None:
         super().setUp()
         self.random = random.Random(SEED)
         self.console = self.write_entries([["new", [self.source, *self.entries[2][1][1:]]]], "console.txt")
 
-    def suite(self):
+    def suite(self) -> str:
         """A file of many sessions, of which one differs."""
         name, body = self.entries[4]
         return json.dumps([[name, body], *([f"{LONG} {it}", self.entries[3][1]] for it in range(COUNT))])
 
-    def words(self, verb, path):
+    def words(self, verb: str, path: Path) -> List[Any]:
         return {
             "accept": ["accept", path, "--game", self.game, "--in-place", "--only", "a recording*"],
             "add": ["add", path, self.console],
             "play": ["play", self.game, "--save", "mine", path],
         }[verb]  # fmt: skip
 
-    def started(self, verb, path):
+    def started(self, verb: str, path: Path) -> subprocess.Popen[bytes]:
         words = [sys.executable, "-B", TOP / "saxtegun", *self.words(verb, path)]
         return subprocess.Popen(list(map(str, words)), stdin=subprocess.PIPE, stdout=subprocess.DEVNULL, stderr=subprocess.DEVNULL, env={**environment(), "TMPDIR": str(self.room)}, start_new_session=True)
 
-    def ended(self, verb, path, after=None):
+    def ended(self, verb: str, path: Path, after: Optional[float] = None) -> float:
         """Runs a verb, killed after so many seconds; how long it took."""
         begin = time.monotonic()
         with self.started(verb, path) as ran:
+            assert ran.stdin is not None
             ran.stdin.write(b"dq")
             ran.stdin.flush()
             try:
@@ -58,7 +63,7 @@ class DayOfKills(OfAGame):
                 ran.kill()
         return time.monotonic() - begin
 
-    def test_no_file_is_lost(self):
+    def test_no_file_is_lost(self) -> None:
         path, counts = self.room / "s.json", {"old": 0, "new": 0}
         for verb in ("accept", "add", "play"):
             old = self.suite()
@@ -82,7 +87,7 @@ class DayOfKills(OfAGame):
 
 @unittest.skipUnless(NODE and MODULE, "there is no Node, or no module")
 class Bare(unittest.TestCase):
-    def test_wrong_calls_of_the_bare_module_return_or_trap(self):
+    def test_wrong_calls_of_the_bare_module_return_or_trap(self) -> None:
         words = [NODE, TOP / "tests/engine/bare.mjs", str(SEED), str(CALLS), MODULE]
         ran = subprocess.run(list(map(str, words)), stdout=subprocess.PIPE, stderr=subprocess.PIPE, timeout=60 + CALLS / 10)
         self.assertEqual((ran.returncode, ran.stderr.decode()), (0, ""))

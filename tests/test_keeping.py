@@ -1,19 +1,22 @@
 """What was worked on is there behind a reload of the page, in each browser that is there: also where the database is slow, notes have no room, the clock
 stands still, or the page that was left isn't gone yet."""
+from __future__ import annotations
+
 import json
 import subprocess
 import sys
 import tempfile
 import unittest
 from pathlib import Path
+from typing import Any, Type
 
-from tool import TOP
+from tool import TOP, MixedIn
 
 sys.path.append(str(TOP / "web" / "tests"))
-from browsers import BROWSERS
+from browsers import BROWSERS, AnyBrowser
 
 MODULE = next((it for it in (TOP / "engine" / "out" / "saxtegun.wasm", TOP / "released" / "saxtegun.wasm") if it.is_file()), None)
-CLEANING = {"ignore_cleanup_errors": True} if sys.version_info >= (3, 10) else {}
+CLEANING: Any = {"ignore_cleanup_errors": True} if sys.version_info >= (3, 10) else {}
 READY, BUSY, LATE = "document.documentElement?.dataset.opened === 'true'", "document.documentElement.dataset.busy", "document.getElementById('promise').textContent.includes('has not kept')"
 GAME = (TOP / "examples" / "day" / "game.txt").read_text(encoding="utf-8")
 DAY = (TOP / "examples" / "day" / "recordings.json").read_text(encoding="utf-8")
@@ -36,15 +39,15 @@ HOLD_DATABASE = """new Promise((settle) => { window.isHeld = true; const opening
 class Page:
     """The page in one browser."""
 
-    def __init__(self, kind, room):
+    def __init__(self, kind: Type[AnyBrowser], room: str) -> None:
         self.file = Path(room) / "saxtegun.html"
-        subprocess.run([TOP / "dev" / "page", "--module", MODULE, "--output", self.file], stdout=subprocess.DEVNULL, check=True)
+        subprocess.run([TOP / "dev" / "page", "--module", str(MODULE), "--output", self.file], stdout=subprocess.DEVNULL, check=True)
         self.browser = kind(room)
 
-    def visit(self):
+    def visit(self) -> None:
         self.browser.open(self.file, is_ready=READY)
 
-    def begin(self):
+    def begin(self) -> None:
         """Opens the page as one that nothing was kept for. What it keeps while that is forgotten is there again, and is forgotten next."""
         self.visit()
         while any(self.value(f"document.getElementById('{name}').value") != text for name, text in (("name", ""), ("source", GAME))) or not self.value(IS_FRESH):
@@ -52,72 +55,75 @@ class Page:
             self.value(FORGET)
             self.visit()
 
-    def value(self, script):
+    def value(self, script: str) -> Any:
         return self.browser.value(script)
 
-    def shown(self):
+    def shown(self) -> Any:
         return self.value(SHOWN)
 
-    def press(self, *keys):
+    def press(self, *keys: str) -> None:
         self.value(f"({json.dumps(keys)}.forEach((key) => document.getElementById('stage').dispatchEvent(new KeyboardEvent('keydown', {{ key, bubbles: true, cancelable: true }}))), 1)")
 
-    def fill(self, name, text):
+    def fill(self, name: str, text: str) -> None:
         self.value(f"((it) => {{ it.value = {json.dumps(text)}; it.dispatchEvent(new Event('input')); return 1; }})(document.getElementById('{name}'))")
 
-    def hand(self, name, text):
+    def hand(self, name: str, text: str) -> None:
         self.value(f"""((files, it) => {{ files.items.add(new File([{json.dumps(text)}], {json.dumps(name)})); it.files = files.files; it.dispatchEvent(new Event('change')); return 1; }})(
             new DataTransfer(), document.getElementById('file'))""")
 
-    def wait(self):
+    def wait(self) -> None:
         self.browser.until(BUSY, "false")
 
-    def wait_until_kept(self):
+    def wait_until_kept(self) -> None:
         self.wait()
         self.browser.until(IS_KEPT, True)
 
-    def work(self, name, *keys):
+    def work(self, name: str, *keys: str) -> None:
         """Does something that is lost where the page is left at once, and nothing keeps it."""
         self.fill("name", name)
         self.press(*keys)
         self.wait()
 
-    def replace_texts(self, texts):
+    def replace_texts(self, texts: Any) -> None:
         """Types texts, each of which then makes way for the example."""
         for text in texts:
             self.fill("source", text)
             self.value("(document.getElementById('example').click(), 1)")
 
-    def leave_room(self, letters):
+    def leave_room(self, letters: int) -> None:
         """Fills what notes have room in, but for so many letters."""
         self.value(f"""((size) => {{ const left = 'x'.repeat({letters}); localStorage.setItem('left', left); for (let text = 'x'.repeat(size); size > 0; size = Math.floor(size / 2)) {{
             try {{ for (;;) localStorage.setItem(`fill ${{localStorage.length}}`, text.slice(0, size)); }} catch {{ }} }} localStorage.removeItem('left'); return 1; }})(1 << 20)""")
 
 
-class KeepingTests:
+class KeepingTests(MixedIn):
+    kind: Type[AnyBrowser]
+    page: Page
+
     @classmethod
-    def setUpClass(cls):
+    def setUpClass(cls) -> None:
         room = tempfile.TemporaryDirectory(**CLEANING)
         cls.addClassCleanup(room.cleanup)
         cls.page = Page(cls.kind, room.name)
         cls.addClassCleanup(cls.page.browser.end)
 
-    def setUp(self):
+    def setUp(self) -> None:
         self.page.begin()
 
-    def assert_nothing_lost(self):
+    def assert_nothing_lost(self) -> None:
         self.page.wait()
         before = self.page.shown()
         self.page.visit()
         self.assertEqual(self.page.shown(), before)
 
-    def test_what_a_slow_database_has_not_written(self):
+    def test_what_a_slow_database_has_not_written(self) -> None:
         self.page.press("ArrowLeft")
         self.page.wait_until_kept()
         self.page.value(HOLD_DATABASE)
         self.page.work("two", "ArrowUp", "ArrowRight")
         self.assert_nothing_lost()
 
-    def test_a_file_that_a_slow_database_has_not_written(self):
+    def test_a_file_that_a_slow_database_has_not_written(self) -> None:
         self.page.wait_until_kept()
         self.page.value(HOLD_DATABASE)
         self.page.hand("mine.json", DAY)
@@ -125,7 +131,7 @@ class KeepingTests:
         self.page.work("two", "ArrowUp")
         self.assert_nothing_lost()
 
-    def test_what_has_little_room_beside_much_that_can_be_put_back(self):
+    def test_what_has_little_room_beside_much_that_can_be_put_back(self) -> None:
         self.page.replace_texts(LONG[:-1])
         self.page.wait_until_kept()
         self.page.leave_room(300_000)
@@ -134,7 +140,7 @@ class KeepingTests:
         self.page.work("two", "ArrowUp", "ArrowRight")
         self.assert_nothing_lost()
 
-    def test_what_has_no_room_is_said(self):
+    def test_what_has_no_room_is_said(self) -> None:
         self.page.work("one", "ArrowLeft")
         self.page.wait_until_kept()
         self.page.leave_room(0)
@@ -147,7 +153,7 @@ class KeepingTests:
         self.page.visit()
         self.assertEqual(self.page.shown()["said"], "")
 
-    def test_what_can_be_put_back_has_no_room(self):
+    def test_what_can_be_put_back_has_no_room(self) -> None:
         self.page.work("one", "ArrowLeft")
         self.page.wait_until_kept()
         self.page.leave_room(100_000)
@@ -164,7 +170,7 @@ class KeepingTests:
         self.page.wait()
         self.assertEqual([self.page.shown()["name"], len(self.page.shown()["inputs"])], ["one", 1])
 
-    def test_a_clock_that_stands_still_or_steps_back(self):
+    def test_a_clock_that_stands_still_or_steps_back(self) -> None:
         for time in (5_000_000_000_000, 4_000_000_000_000):
             self.page.value("(Date.now = () => 5_000_000_000_000, 1)")
             self.page.work("one", "ArrowLeft")
@@ -174,7 +180,7 @@ class KeepingTests:
             self.page.work(f"two {time}", "ArrowUp", "ArrowRight")
             self.assert_nothing_lost()
 
-    def test_a_page_that_was_left_and_is_not_gone(self):
+    def test_a_page_that_was_left_and_is_not_gone(self) -> None:
         self.page.work("one", "ArrowLeft", "ArrowUp")
         self.page.wait_until_kept()
         name = self.page.value("sessionStorage.getItem('saxtegun-tab')")
@@ -191,12 +197,12 @@ class KeepingTests:
         self.page.browser.to_tab(one)
         self.assert_nothing_lost()
 
-    def test_keys_that_wait_to_be_played(self):
+    def test_keys_that_wait_to_be_played(self) -> None:
         self.page.press(*["ArrowLeft", "ArrowRight"] * 20)
         self.page.visit()
         self.assertEqual(len(self.page.shown()["inputs"]), 40)
 
-    def test_that_nothing_is_kept_yet_is_said(self):
+    def test_that_nothing_is_kept_yet_is_said(self) -> None:
         promised = self.page.value("document.getElementById('promise').textContent")
         self.page.wait_until_kept()
         self.page.value(HOLD_DATABASE)
@@ -209,7 +215,7 @@ class KeepingTests:
         self.page.wait_until_kept()
         self.assertEqual(self.page.value("Object.keys(localStorage).length"), 0)
 
-    def test_a_file_that_is_read_late_makes_the_page_busy(self):
+    def test_a_file_that_is_read_late_makes_the_page_busy(self) -> None:
         self.page.value("(Blob.prototype.arrayBuffer = ((read) => async function () { await new Promise((settle) => { window.go = settle; }); return read.call(this); })(Blob.prototype.arrayBuffer), File.prototype.arrayBuffer = Blob.prototype.arrayBuffer, 1)")
         self.page.hand("mine.json", DAY)
         self.page.fill("name", "two")
@@ -221,7 +227,7 @@ class KeepingTests:
 
 
 class KeepingAnywhere(unittest.TestCase):
-    def test_there_is_a_browser(self):
+    def test_there_is_a_browser(self) -> None:
         if not (BROWSERS and MODULE):
             print("there is no browser or no module: what the page keeps was not tried in a browser", file=sys.stderr)
             self.skipTest("there is no browser or no module")

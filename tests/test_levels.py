@@ -1,6 +1,9 @@
 """Level texts: read at once where they are spelt as the program spells them, and otherwise piece by piece, with one answer."""
+from __future__ import annotations
+
 import random
 import unittest
+from typing import Any, Callable
 
 import tool  # puts the package on the path
 from saxtegun.levels import Follower, Labels, differing, read_cells, read_pieces, read_written
@@ -28,7 +31,7 @@ TEXTS = {
 WORDS = ("a", "b c", "", "A", "a:1", "x ", " y", "\r", "a\n", "\u00e9")
 
 
-def text_by(chance):
+def text_by(chance: random.Random) -> str:
     """A text of a few pieces, of which most but not all are right."""
     pieces, count = [], 0
     # some have more than ten sets, whose numbers have two digits
@@ -42,19 +45,19 @@ def text_by(chance):
     return ",".join(pieces) + ("," if chance.random() < 0.95 else "")
 
 
-def names_in(read, text):
+def names_in(read: Callable[..., Any], text: str) -> Any:
     labels = Labels()
     cells = read(text, labels)
     return None if cells is None else [labels.names[it] for it in cells]
 
 
 class Levels(unittest.TestCase):
-    def test_a_text_is_read_as_its_names(self):
+    def test_a_text_is_read_as_its_names(self) -> None:
         for text, wanted in TEXTS.items():
             with self.subTest(text):
                 self.assertEqual(names_in(read_cells, text), wanted)
 
-    def test_both_ways_of_reading_give_one_answer(self):
+    def test_both_ways_of_reading_give_one_answer(self) -> None:
         chance, at_once = random.Random(3), 0
         for _ in range(20_000):
             text = text_by(chance)
@@ -64,7 +67,7 @@ class Levels(unittest.TestCase):
                 self.assertEqual(names_in(read_pieces, text), found, text)
         self.assertGreater(at_once, 1_000)
 
-    def test_a_text_means_the_same_behind_others(self):
+    def test_a_text_means_the_same_behind_others(self) -> None:
         chance = random.Random(5)
         for _ in range(400):
             labels = Labels()
@@ -77,23 +80,23 @@ class Levels(unittest.TestCase):
                 if found is not None:
                     self.assertEqual([labels.names[it] for it in found], names_in(read_pieces, text), text)
 
-    def test_a_line_behind_other_sets_means_another_thing(self):
+    def test_a_line_behind_other_sets_means_another_thing(self) -> None:
         labels = Labels()
         follower = Follower(labels)
         for text, wanted in (("a:0,b:1,\n1,0,\n", "abba"), ("b:0,a:1,\n1,0,\n", "baab"), ("a:0,0,\n1,0,\n", None), ("a:0,b:1,\n1,0,\n", "abba")):
             found = follower.read(text)
             self.assertEqual(None if found is None else "".join(labels.names[it][0] for it in found), wanted)
 
-    def test_more_sets_than_a_byte_has_numbers(self):
+    def test_more_sets_than_a_byte_has_numbers(self) -> None:
         labels = Labels()
         names = [f"n{number}" for number in range(300)]
         texts = ["".join(f"{name}:{number},\n" for number, name in enumerate(order)) for order in (names, names[::-1])]
         follower = Follower(labels)
         for text, order in zip(texts * 2, (names, names[::-1]) * 2):
-            self.assertEqual([labels.names[it] for it in follower.read(text)], [(name,) for name in order])
-        self.assertEqual(len(differing(*map(follower.read, texts))), 300)
+            self.assertEqual([labels.names[it] for it in follower.read(text) or []], [(name,) for name in order])
+        self.assertEqual(len(differing(*(follower.read(it) or [] for it in texts))), 300)
 
-    def test_cells_that_differ_are_found_in_each_stretch(self):
+    def test_cells_that_differ_are_found_in_each_stretch(self) -> None:
         chance = random.Random(4)
         for count in (0, 1, 31, 32, 33, 200):
             one = [chance.randrange(3) for _ in range(count)]

@@ -1,10 +1,14 @@
 """`saxtegun lines` is the program itself, conformance/run says what is wrong with its words, and frames are read in two ways with one answer."""
+from __future__ import annotations
+
 import json
 import random
 import subprocess
 import sys
 import unittest
+from pathlib import Path
 from time import monotonic
+from typing import Tuple
 
 from day import EXAMPLE, OnSessions
 from tool import PROGRAM, TOP, plays, run
@@ -14,30 +18,30 @@ RUN = TOP / "conformance/run"
 
 
 class Lines(OnSessions):
-    def program(self, text):
+    def program(self, text: str) -> Path:
         path = self.write("program", f"#!/bin/sh\n{text}\n")
         path.chmod(0o755)
         return path
 
-    def test_lines_and_status_are_those_of_the_program(self):
+    def test_lines_and_status_are_those_of_the_program(self) -> None:
         program = self.program(f'[ "$*" = "--order rows --workers 3 {EXAMPLE}" ] || exit 7\ncat {self.lines}\nexit 1')
         answer = run("lines", EXAMPLE, "--order", "rows", "--workers", "3", "--program", program)
         self.assertEqual((answer.status, answer.out, answer.errors), (1, self.lines.read_text(encoding="utf-8"), ""))
 
-    def test_standard_input_is_handed_on(self):
+    def test_standard_input_is_handed_on(self) -> None:
         program = self.program('[ "$*" = "--order columns" ] || exit 7\ncat')
         for words in ((), ("-",)):
             answer = run("lines", *words, "--program", program, stdin=b"[]\n")
             self.assertEqual((answer.status, answer.out, answer.errors), (0, "[]\n", ""))
 
-    def test_a_failure_is_reported_with_its_file_and_entry(self):
+    def test_a_failure_is_reported_with_its_file_and_entry(self) -> None:
         program = self.program('echo "bad-level 4" >&2\nexit 2')
         answer = run("lines", EXAMPLE, "--program", program)
         self.assert_refused(answer, "block-pushing.json was not played: the recorded level of session 4 (a recording that has gone stale) is no level text (bad-level 4)")
         self.assert_refused(run("lines", "--program", program, stdin=b"[]"), "standard input was not played: the recorded level of session 4 is no level text")
         self.assert_refused(run("lines", EXAMPLE, "--program", self.program("kill -9 $$")), "was not played: nothing is told")
 
-    def test_what_an_ended_program_has_left_behind_is_not_waited_for(self):
+    def test_what_an_ended_program_has_left_behind_is_not_waited_for(self) -> None:
         """It holds the pipe from a session of its own, in which nobody ends it, and may write into it without an end."""
         holds = "os.setsid(); time.sleep(20)"
         writes = "os.setsid(); end = time.monotonic() + 20\n    while time.monotonic() < end: os.write(1, b'x' * 1000)"
@@ -50,7 +54,7 @@ class Lines(OnSessions):
                 self.assertLess(monotonic() - begin, 10)
                 self.assertEqual((answer.status, answer.out.startswith(self.lines.read_text(encoding="utf-8"))), (status, True))
 
-    def test_a_program_that_hangs_and_leaves_something_behind_is_stopped_in_its_time(self):
+    def test_a_program_that_hangs_and_leaves_something_behind_is_stopped_in_its_time(self) -> None:
         program = self.write("program", f"#!{sys.executable}\nimport os, time\nif os.fork() == 0: os.setsid()\ntime.sleep(20)\n")
         program.chmod(0o755)
         begin = monotonic()
@@ -58,7 +62,7 @@ class Lines(OnSessions):
         # not as long as what is left behind sleeps
         self.assertLess(monotonic() - begin, 18)
 
-    def test_what_is_said_while_building_is_handed_on(self):
+    def test_what_is_said_while_building_is_handed_on(self) -> None:
         answer = run("lines", EXAMPLE, "--program", self.program('echo "proving a; 1 left" >&2\necho "memory" >&2\nexit 2'))
         self.assertEqual(answer.errors.splitlines()[0], "proving a; 1 left")
         self.assertIn("there is not enough memory", answer.errors)
@@ -67,15 +71,15 @@ class Lines(OnSessions):
 class Frames(unittest.TestCase):
     LINE = '{"at":12,"frame":3,"kind":"move","level":"a \u00e9:0,0,\\n0,b:1,\\n","session":7}\n'
 
-    def test_a_frame_as_the_program_writes_it_is_read_at_once(self):
-        self.assertEqual(tuple(written_frame(self.LINE, 7, 3)), (12, "move", "a \u00e9:0,0,\n0,b:1,\n"))
+    def test_a_frame_as_the_program_writes_it_is_read_at_once(self) -> None:
+        self.assertEqual(tuple(written_frame(self.LINE, 7, 3) or ()), (12, "move", "a \u00e9:0,0,\n0,b:1,\n"))
         self.assertIsNone(written_frame(self.LINE, 6, 3))
         self.assertIsNone(written_frame(self.LINE, 7, 4))
 
-    def test_half_a_letter_is_left_to_json(self):
+    def test_half_a_letter_is_left_to_json(self) -> None:
         self.assertIsNone(written_frame(self.LINE.replace("a \u00e9", "\\ud800"), 7, 3))
 
-    def test_what_is_read_at_once_is_what_json_says(self):
+    def test_what_is_read_at_once_is_what_json_says(self) -> None:
         chance, at_once = random.Random(6), 0
         letters = '{}":,\\n0123456789aet\u00e9\u2028\t\r\n \x00\x7f'
         for _ in range(20_000):
@@ -90,21 +94,21 @@ class Frames(unittest.TestCase):
 
 
 class WordsOfTheRunner(OnSessions):
-    def answer(self, *words):
+    def answer(self, *words: object) -> Tuple[int, str, str]:
         ran = subprocess.run([RUN, *map(str, words)], stdout=subprocess.PIPE, stderr=subprocess.PIPE)
         return ran.returncode, ran.stdout.decode(), ran.stderr.decode()
 
-    def test_help_is_printed(self):
+    def test_help_is_printed(self) -> None:
         status, out, errors = self.answer("--help")
         self.assertEqual((status, errors), (0, ""))
         self.assertIn("conformance/run --both PROGRAM OTHER FILE..", out)
 
-    def test_replay_answers_help_and_builds_nothing(self):
+    def test_replay_answers_help_and_builds_nothing(self) -> None:
         ran = subprocess.run([TOP / "replay", "--help"], stdout=subprocess.PIPE, stderr=subprocess.PIPE)
         self.assertEqual((ran.returncode, ran.stderr), (0, b""))
         self.assertIn(b"./replay [--workers N] [--order rows|columns] [FILE]", ran.stdout)
 
-    def test_wrong_words_are_refused_in_one_manner(self):
+    def test_wrong_words_are_refused_in_one_manner(self) -> None:
         missing = self.room / "missing.json"
         for words, what in {
             (): "a program is wanted",
@@ -119,11 +123,11 @@ class WordsOfTheRunner(OnSessions):
 
 @plays
 class DayOfLines(OnSessions):
-    def test_the_example_is_played(self):
+    def test_the_example_is_played(self) -> None:
         answer = run("lines", EXAMPLE)
         self.assertEqual((answer.status, answer.out, answer.errors), (1, self.lines.read_text(encoding="utf-8"), ""))
 
-    def test_a_file_that_is_not_there_is_named(self):
+    def test_a_file_that_is_not_there_is_named(self) -> None:
         self.assert_refused(run("lines", self.room / "none.json", "--program", PROGRAM), "none.json was not played: it can't be opened (open-fault)")
 
 

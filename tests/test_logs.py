@@ -1,4 +1,6 @@
 """Logs: what a stranger has named is no command of a CI's, in no verb and on neither stream."""
+from __future__ import annotations
+
 import json
 import os
 import random
@@ -6,9 +8,10 @@ import re
 import subprocess
 import sys
 import unittest
+from typing import List
 
 from day import EXAMPLE, OnSessions
-from tool import run
+from tool import Answer, run
 from saxtegun.commands import cut, printable
 from saxtegun.failures import MOST_FAILURES, Failure, markdown
 from saxtegun.logs import guarded
@@ -31,12 +34,12 @@ sys.exit(1)
 """
 
 
-def is_command(line):
+def is_command(line: str) -> bool:
     """Whether a CI may take a line for a command, as GitHub's runner and Azure's agent look for them."""
     return any(it.strip().strip("\u200b\ufeff").startswith("::") for it in re.split("[\r\x0b\x0c\x1c-\x1e\x85\u2028\u2029]", line)) or re.search(r"##[a-zA-Z]*\[", line) is not None
 
 
-def texts(count):
+def texts(count: int) -> List[str]:
     """Texts of a stranger, the same ones each time."""
     random.seed(SEED)
     made = [before + command for before in BEFORE for command in COMMANDS]
@@ -44,33 +47,33 @@ def texts(count):
 
 
 class Guarding(unittest.TestCase):
-    def test_no_text_is_a_command(self):
+    def test_no_text_is_a_command(self) -> None:
         for text in texts(COUNT):
             for line in text.split("\n"):
                 with self.subTest(line):
                     self.assertFalse(is_command(guarded(line)), guarded(line))
 
-    def test_no_line_of_a_summary_is_a_command(self):
+    def test_no_line_of_a_summary_is_a_command(self) -> None:
         """A summary may be written into a log as well."""
         failures = [Failure(text, "differs", text, text.split("\n"), text, 1) for text in texts(COUNT)[:400]]
         for at in range(0, len(failures), MOST_FAILURES):
             for line in markdown(failures[at : at + MOST_FAILURES], "24 sessions").split("\n"):
                 self.assertFalse(is_command(line), line)
 
-    def test_no_blanks_of_a_name_lead_to_a_row_that_looks_like_ours(self):
+    def test_no_blanks_of_a_name_lead_to_a_row_that_looks_like_ours(self) -> None:
         """A terminal breaks a line that is long; each name is told from others still."""
         for blanks in (" " * 4, " " * 70, " " * 71):
             self.assertEqual(cut(f"x{blanks}5 sessions: 5 passed"), f"x\\u{{20*{len(blanks)}}}5 sessions: 5 passed")
         self.assertEqual(cut("a   b"), "a   b")
         self.assertEqual(printable("a\u2800\u3164\u115f\u1160\uffa0b"), "a\\u{2800}\\u{3164}\\u{115f}\\u{1160}\\u{ffa0}b")
 
-    def test_what_is_no_command_stays(self):
+    def test_what_is_no_command_stays(self) -> None:
         for line in ("", "a :: b", "x::y", "# [ a ]", "## [a]", "| ##.#", "passed, solved: the first", "    ####"):
             self.assertEqual(guarded(line), line)
 
 
 class Logs(OnSessions):
-    def setUp(self):
+    def setUp(self) -> None:
         super().setUp()
         self.names = names = [it.replace("\n", " ") for it in texts(200)]
         source = json.loads(EXAMPLE.read_text(encoding="utf-8"))[0][1][0]
@@ -88,14 +91,14 @@ class Logs(OnSessions):
         self.game = self.write("##[error]x.txt", title + source)
         self.bad = self.write("##[error]x.json", json.dumps([["##[set-output name=x;]y", [source, [], "junk"]]]))
 
-    def assert_safe(self, answer, commands=0):
+    def assert_safe(self, answer: Answer, commands: int = 0) -> None:
         lines = [*answer.out.split("\n"), *answer.errors.split("\n")]
         self.assertGreater(len(lines), 2)
         found = [it for it in lines if is_command(it)]
         self.assertEqual(len(found), commands, found[:3])
         self.assertTrue(all(it.startswith("::error ") for it in found), found[:3])
 
-    def test_no_verb_writes_a_command_of_a_stranger_s(self):
+    def test_no_verb_writes_a_command_of_a_stranger_s(self) -> None:
         program, refuses = ("--program", self.program), ("--program", self.refuses)
         for words in (
             ("test", self.sessions, *program), ("explain", self.sessions, self.lines), ("compare", self.lines, self.other, self.sessions),
@@ -107,7 +110,7 @@ class Logs(OnSessions):
             with self.subTest(words[0]):
                 self.assert_safe(run(*words))
 
-    def test_annotations_are_the_only_commands(self):
+    def test_annotations_are_the_only_commands(self) -> None:
         answer = run("test", self.sessions, "--program", self.program, "--github")
         self.assert_safe(answer, 200)
 

@@ -1,4 +1,6 @@
 """Files that were cut or changed in some letters: each verb answers with a status, or with one sentence, and never with a traceback."""
+from __future__ import annotations
+
 import contextlib
 import io
 import json
@@ -7,6 +9,7 @@ import random
 import shutil
 import tempfile
 import unittest
+from typing import Any
 from unittest import mock
 
 from day import EXAMPLE, OnSessions
@@ -28,7 +31,7 @@ STAGES = b"".join(
 LETTERS = '[]{}",:0123456789\\ue\n\x00\ufeff\u2028'
 
 
-def mutated(data, chance):
+def mutated(data: bytes, chance: random.Random) -> bytes:
     """The bytes with a few changed, or cut."""
     data = bytearray(data)
     for _ in range(chance.choice((1, 1, 2, 5, 30))):
@@ -46,7 +49,7 @@ def mutated(data, chance):
 
 
 class Mutated(OnSessions):
-    def setUp(self):
+    def setUp(self) -> None:
         super().setUp()
         entries = json.loads(EXAMPLE.read_text(encoding="utf-8"))[3:]
         lines = self.lines.read_bytes().splitlines()
@@ -73,7 +76,7 @@ class Mutated(OnSessions):
         self.program.chmod(0o755)
         self.tell_stages(STAGES)
 
-    def answer(self, *words):
+    def answer(self, *words: object) -> int:
         """The status of a verb, called within this process; a refusal is 2, and anything else that it raises fails the test."""
         output = tempfile.TemporaryFile("w", encoding="utf-8")
         with output, mock.patch("sys.argv", ["saxtegun", *words]), contextlib.redirect_stdout(output), contextlib.redirect_stderr(io.StringIO()):
@@ -82,7 +85,7 @@ class Mutated(OnSessions):
             except Refused:
                 return 2
 
-    def read_mutated(self, uses, files, chance):
+    def read_mutated(self, uses: Any, files: Any, chance: random.Random) -> int:
         """Verbs on mutated files: `uses` maps a file to the words of verbs that read it. Answers how many were refused."""
         refused = 0
         before = os.getcwd()
@@ -103,7 +106,7 @@ class Mutated(OnSessions):
             os.chdir(before)
         return refused
 
-    def test_no_mutated_file_gives_a_traceback(self):
+    def test_no_mutated_file_gives_a_traceback(self) -> None:
         of_both = ["explain s.json l", "report s.json l", "junit s.json l", "accept s.json l", "accept s.json l --only half*"]
         uses = {
             "s.json": [*of_both, "testdata s.json", "split s.json 2 new", "source game.txt s.json --all", "compare l l s.json"],
@@ -116,7 +119,7 @@ class Mutated(OnSessions):
         }
         self.assertGreater(self.read_mutated(uses, FILES - PLAYED, random.Random(7)), 300)
 
-    def test_no_mutated_file_that_is_played_gives_a_traceback(self):
+    def test_no_mutated_file_that_is_played_gives_a_traceback(self) -> None:
         program = "--program program"
         of_lines = [f"test s.json {program} --report page --junit xml --markdown md --github", f"lines s.json {program}", f"add s.json console.txt {program}", f"coverage s.json {program}"]
         uses = {

@@ -1,4 +1,6 @@
 """The playground: how dev/page joins it, what its policy allows, and that it reads games and tells faults as the command does. web/tests looks at it in browsers."""
+from __future__ import annotations
+
 import base64
 import hashlib
 import json
@@ -10,6 +12,7 @@ import unittest
 import zlib
 from html.parser import HTMLParser
 from random import Random
+from typing import Any, Dict, Iterator, List, Sequence, Tuple
 
 from test_differences import games
 from tool import CASES, InARoom, TOP, run
@@ -26,7 +29,7 @@ from saxtegun.recordings import COMPILER, CUT_OFF, HOW, OBJECTS, as_sessions, ow
 from saxtegun.sessions import Entry
 from saxtegun.webpages import without_types
 
-NODE, OWN, MODULE = shutil.which("node"), TOP / "tests" / "web", b"\0asm\1\0\0\0"
+NODE, OWN, MODULE = shutil.which("node") or "", TOP / "tests" / "web", b"\0asm\1\0\0\0"
 # The name of a language of XML, which nothing is fetched from.
 SVG = "http://www.w3.org/2000/svg"
 
@@ -34,44 +37,46 @@ SVG = "http://www.w3.org/2000/svg"
 class Elements(HTMLParser):
     """The elements of a page by their tags, and the texts of its scripts and styles by their ids."""
 
-    def __init__(self, text):
+    def __init__(self, text: str) -> None:
         super().__init__(convert_charrefs=False)
-        self.found, self.texts, self.open = [], {}, None
+        self.found: List[Any] = []
+        self.texts: Dict[str, str] = {}
+        self.open: Any = None
         self.feed(text)
 
-    def handle_starttag(self, tag, attrs):
+    def handle_starttag(self, tag: str, attrs: Any) -> None:
         self.found.append((tag, dict(attrs)))
         self.open = dict(attrs).get("id", tag) if tag in ("script", "style") else None
 
-    def handle_endtag(self, tag):
+    def handle_endtag(self, tag: str) -> None:
         self.open = None
 
-    def handle_data(self, data):
+    def handle_data(self, data: str) -> None:
         if self.open is not None:
             self.texts[self.open] = self.texts.get(self.open, "") + data
 
 
 class Page(InARoom):
-    def setUp(self):
+    def setUp(self) -> None:
         super().setUp()
         (self.room / "module.wasm").write_bytes(MODULE)
 
-    def built(self, name="page.html"):
+    def built(self, name: str = "page.html") -> Tuple[str, str]:
         answer = run(TOP / "dev/page", "--module", self.room / "module.wasm", "--output", self.room / "new" / name)
         self.assertEqual((answer.status, answer.errors), (0, ""))
         return (self.room / "new" / name).read_text(encoding="utf-8"), answer.out
 
-    def test_the_same_sources_give_the_same_bytes(self):
+    def test_the_same_sources_give_the_same_bytes(self) -> None:
         (one, said), (other, _) = self.built("one.html"), self.built("other.html")
         self.assertEqual(one, other)
         self.assertIn(hashlib.sha256(one.encode()).hexdigest(), said)
 
-    def test_the_module_and_the_example_stand_in_it(self):
+    def test_the_module_and_the_example_stand_in_it(self) -> None:
         texts = Elements(self.built()[0]).texts
         self.assertEqual(zlib.decompress(base64.b64decode(texts["module"])), MODULE)
         self.assertEqual(json.loads(texts["example-game"]), (TOP / "examples/day/game.txt").read_text(encoding="utf-8"))
 
-    def test_its_policy_lets_nothing_else_run_and_asks_no_network(self):
+    def test_its_policy_lets_nothing_else_run_and_asks_no_network(self) -> None:
         elements = Elements(self.built()[0])
         policy = next(words["content"] for tag, words in elements.found if tag == "meta" and words.get("http-equiv") == "Content-Security-Policy")
         of = {words[0]: words[1:] for words in (it.split() for it in policy.split(";"))}
@@ -79,21 +84,21 @@ class Page(InARoom):
         self.assertEqual(of, {"default-src": ["'none'"], "script-src": [digest["script"], "'wasm-unsafe-eval'"], "style-src": [digest["style"]], "worker-src": ["blob:"],
                               "base-uri": ["'none'"], "form-action": ["'none'"]})
 
-    def test_no_element_runs_or_loads_anything_by_itself(self):
+    def test_no_element_runs_or_loads_anything_by_itself(self) -> None:
         elements = Elements(self.built()[0])
         for tag, words in elements.found:
             with self.subTest(tag):
                 self.assertEqual([it for it in words if it.startswith("on") or it in ("src", "href", "srcset", "style", "action", "data")], [])
         self.assertEqual([words for tag, words in elements.found if tag == "script" and "type" not in words], [{"id": "script"}])
 
-    def test_nothing_names_an_address_of_a_network(self):
+    def test_nothing_names_an_address_of_a_network(self) -> None:
         page = self.built()[0].replace(SVG, "")
         self.assertEqual(re.findall(r"(?i)\b(?:https?|wss?|ftp):.{0,40}|.{0,40}[\"'`]//[a-z].{0,40}", page), [])
         # the glue would fetch a module that is named by its address, which the policy forbids
         for word in ("XMLHttpRequest", "WebSocket", "EventSource", "sendBeacon", "innerHTML", "insertAdjacentHTML", "document.write", "eval(", "new Function"):
             self.assertNotIn(word, page)
 
-    def test_each_element_that_the_script_asks_for_is_there(self):
+    def test_each_element_that_the_script_asks_for_is_there(self) -> None:
         elements = Elements(self.built()[0])
         ids = [words["id"] for _, words in elements.found if "id" in words]
         self.assertEqual(len(ids), len(set(ids)))
@@ -101,7 +106,7 @@ class Page(InARoom):
         asked = {one or other for one, other in asked}
         self.assertEqual(asked - set(ids), set())
 
-    def test_what_is_clicked_or_filled_in_has_a_name(self):
+    def test_what_is_clicked_or_filled_in_has_a_name(self) -> None:
         text = self.built()[0]
         labelled = set(re.findall(r'<label for="([a-z-]+)"', text)) | {found for found in re.findall(r'<label>[^<]*<select id="([a-z-]+)"', text)} | {"file"}
         for tag, words in Elements(text).found:
@@ -111,11 +116,11 @@ class Page(InARoom):
             if tag == "canvas":
                 self.assertEqual(words["role"], "img")
 
-    def test_a_module_that_is_not_there_is_reported(self):
+    def test_a_module_that_is_not_there_is_reported(self) -> None:
         answer = run(TOP / "dev/page", "--module", self.room / "none", "--output", self.room / "page.html")
         self.assertEqual((answer.status, answer.errors), (1, f"dev/page: there is no module at {self.room}/none; engine/build makes it\n"))
 
-    def test_a_name_that_two_modules_declare_is_refused(self):
+    def test_a_name_that_two_modules_declare_is_refused(self) -> None:
         for it in ("dev", "web", "python", "engine", "examples/day"):
             shutil.copytree(TOP / it, self.room / it, ignore=shutil.ignore_patterns("out", "tests", "__pycache__"))
         with open(self.room / "web/saying.mjs", "a", encoding="utf-8") as added:
@@ -155,19 +160,19 @@ const words = "// @ts-check";
 ''')
 
     @unittest.skipUnless(NODE, "Node is not there")
-    def test_node_reads_its_script(self):
+    def test_node_reads_its_script(self) -> None:
         (self.room / "script.cjs").write_text(Elements(self.built()[0]).texts["script"], encoding="utf-8")
         ran = subprocess.run([NODE, "--check", self.room / "script.cjs"], stdout=subprocess.PIPE, stderr=subprocess.STDOUT, check=False)
         self.assertEqual(ran.returncode, 0, ran.stdout.decode())
 
 
-def in_node(script, values):
+def in_node(script: str, values: Any) -> Any:
     """What a script of tests/web makes of values."""
     ran = subprocess.run([NODE, OWN / script], input=json.dumps(values).encode(), stdout=subprocess.PIPE, check=True)
     return json.loads(ran.stdout)
 
 
-def entries_of_cases():
+def entries_of_cases() -> Iterator[Tuple[Any, List[Any]]]:
     """Each session of the cases that JSON can be read of, with the lines of its case."""
     for case in sorted(CASES.iterdir()):
         try:
@@ -191,7 +196,7 @@ FORMS = json.loads((TOP / "tests/forms/expected.json").read_text(encoding="utf-8
 PIECES = ("[", '"', "\\", "\n", "]", ",", "&quot;", "<br>", "> ", "//", "/*", "*/", "`", "\u201c", "\u201d", "${", "null", '"objects"', '["a",["objects",[0],"b:0,",', "1.0", "&#34;", "'", "\r\n", "\ufeff", "\u00a0", "\U0001f600")
 
 
-def broken_forms(count):
+def broken_forms(count: int) -> Iterator[str]:
     """Forms in which letters are missing, or pieces stand that don't belong there."""
     random = Random(1)
     texts = [read_any_text(str(it)) for it in sorted((TOP / "tests/forms").glob("*.txt"))]
@@ -207,7 +212,7 @@ def broken_forms(count):
 class Twins(unittest.TestCase):
     """The page reads games and tells faults as the command does: what Python says is what is wanted."""
 
-    def test_games_are_read_as_python_reads_them(self):
+    def test_games_are_read_as_python_reads_them(self) -> None:
         sources = list(dict.fromkeys([*(value[1][0] for value, _ in entries_of_cases()), (TOP / "examples/day/game.txt").read_text(encoding="utf-8"), *STRANGE]))
         expect(sources)
         for source, found in zip(sources, in_node("read-games.mjs", sources)):
@@ -219,7 +224,7 @@ class Twins(unittest.TestCase):
                 if any(it.layer is not None for it in told.objects):
                     self.assertEqual(look, json.loads(json.dumps(look_of(game))))
 
-    def test_faults_are_reported_as_by_python(self):
+    def test_faults_are_reported_as_by_python(self) -> None:
         told = [(line["cause"], value[1][0], value[1][1], [it["at"] for it in lines if "at" in it]) for value, lines in entries_of_cases() for line in lines if "cause" in line]
         self.assertGreater(len(told), 80)
         expect(source for _, source, _, _ in told)
@@ -231,12 +236,12 @@ class Twins(unittest.TestCase):
             with self.subTest(cause):
                 self.assertEqual(it, {"sentence": sentence, "line": fault[1] if fault and fault[1] else None})
 
-    def found_in(self, texts):
+    def found_in(self, texts: Sequence[str]) -> List[Any]:
         """What the page finds in texts, as the command finds it: entries and what was skipped."""
         return [([(it["line"], it["name"], it["source"], it["inputs"], it["level"], it["index"]) for it in found["found"]], [(it["line"], it["what"]) for it in found["skipped"]])
                 for found in in_node("find.mjs", texts)]
 
-    def test_each_form_gives_its_recordings(self):
+    def test_each_form_gives_its_recordings(self) -> None:
         expected, forms = FORMS["recordings"], FORMS["forms"]
         texts = {form: read_any_text(str(TOP / f"tests/forms/{form}.txt")) for form in forms}
         for (form, wanted), (found, skipped) in zip(forms.items(), self.found_in(list(texts.values()))):
@@ -244,7 +249,7 @@ class Twins(unittest.TestCase):
                 self.assertEqual([[name, body] for _, name, *body in found], [[name, [expected[key][it] for it in ("source", "inputs", "level", "index")]] for name, key in wanted["took"]])
                 self.assertEqual([it if it in ("compiler", "cut-off") else "fault" for _, it in skipped], wanted["skipped"])
 
-    def test_forms_with_errors_give_what_the_command_finds(self):
+    def test_forms_with_errors_give_what_the_command_finds(self) -> None:
         texts = list(broken_forms(2000))
         for text, found in zip(texts, self.found_in(texts)):
             there = find(text)
@@ -252,36 +257,36 @@ class Twins(unittest.TestCase):
             wanted = [(it.line, it.name, *body[:3], (body[3] if len(body) > 3 else 0) or 0) for it, body in zip(there.found, bodies)]
             self.assertEqual(found, (wanted, [tuple(it) for it in there.skipped]), text)
 
-    def test_recordings_get_the_names_that_the_command_gives(self):
+    def test_recordings_get_the_names_that_the_command_gives(self) -> None:
         for form in ("entry", "body-alone", "without-a-name", "entries-in-a-row", "solved"):
             findings = find(read_any_text(str(TOP / f"tests/forms/{form}.txt")))
             entries = as_sessions("a", findings.found, own_name).entries
             with self.subTest(form):
                 self.assertEqual(in_node("names.mjs", [[it.name, it.source, it.inputs, it.level, it.index] for it in [e._replace(name=f.name) for e, f in zip(entries, findings.found)]]), [it.name for it in entries])
 
-    def test_what_is_skipped_is_told_as_the_command_tells_it(self):
+    def test_what_is_skipped_is_told_as_the_command_tells_it(self) -> None:
         page = (TOP / "web/findings.mjs").read_text(encoding="utf-8")
         for sentence in (COMPILER, CUT_OFF, OBJECTS, HOW):
             self.assertIn(sentence, page)
 
-    def test_the_likely_difference_is_the_one_that_the_command_names(self):
+    def test_the_likely_difference_is_the_one_that_the_command_names(self) -> None:
         cases = [(value[1][0], [it for it in value[1][1] if isinstance(it, str)], [it for it in lines if "level" in it]) for value, lines in entries_of_cases() if len(value[1]) > 1 and isinstance(value[1][1], list)]
         starts = [[{"at": 0, "kind": "start", "level": level}] for level in ("", "background:0,crate:1,player box:2,", "a:0,")]
         cases += [(source, inputs, start) for source, inputs, _, _ in games() for start in starts[:2]]
         cases += [(source, ["undo"], starts[2]) for source in STRANGE]
-        wanted = [likely(Entry(0, "", source, inputs, "", 0, {}, False), Run(0, "", "differs", None, [Frame(it["at"], it["kind"], it["level"]) for it in frames]))
+        wanted = [likely(Entry(0, "", source, [*inputs], "", 0, {}, False), Run(0, "", "differs", None, [Frame(it["at"], it["kind"], it["level"]) for it in frames]))
                   for source, inputs, frames in cases]
         self.assertGreater(len(set(wanted)), 9)
         for case, it, there in zip(cases, wanted, in_node("likely.mjs", cases)):
             self.assertEqual(there, it, case)
 
-    def test_the_logic_of_the_page(self):
+    def test_the_logic_of_the_page(self) -> None:
         for name in ("logic", "state", "shown", "drawing", "stages", "solving", "reading", "random", "keeping", "behind", "strangers", "frames-of-lines"):
             with self.subTest(name):
                 ran = subprocess.run([NODE, "--test", "--test-reporter=tap", OWN / f"{name}.test.mjs"], stdout=subprocess.PIPE, stderr=subprocess.STDOUT, check=False)
                 self.assertEqual(ran.returncode, 0, ran.stdout.decode(errors="replace"))
 
-    def test_what_the_page_reads_takes_time_by_its_length(self):
+    def test_what_the_page_reads_takes_time_by_its_length(self) -> None:
         room = {**os.environ, "NODE_OPTIONS": "--max-semi-space-size=128"}  # so that little time is taken by collecting
         ran = subprocess.run([NODE, "--test", "--test-reporter=tap", OWN / "costs.test.mjs"], env=room, stdout=subprocess.PIPE, stderr=subprocess.STDOUT, check=False)
         self.assertEqual(ran.returncode, 0, ran.stdout.decode(errors="replace"))

@@ -1,4 +1,6 @@
 """How a program is run: in bounds that are told, and ended with the command; and wrong programs, which must not be believed."""
+from __future__ import annotations
+
 import json
 import os
 import shutil
@@ -9,6 +11,7 @@ import tempfile
 import time
 import unittest
 from pathlib import Path
+from typing import Any, Callable, Dict, List, Sequence, Union
 from unittest import mock
 
 from day import EXAMPLE, OnSessions, lines_of_example
@@ -18,7 +21,7 @@ from saxtegun.commands import Refused
 from saxtegun.lines import Run
 from saxtegun.playing import Engine, batches, runs_of
 from saxtegun.processes import Unanswered
-from saxtegun.sessions import MOST_BYTES, Sessions, read_sessions, sessions_in
+from saxtegun.sessions import MOST_BYTES, Entry, Sessions, read_sessions, sessions_in
 
 # Answers each session of its file at once, but for one that is named slow, whose answer takes as long as nobody waits.
 PLAYER = f"""#!{sys.executable}
@@ -75,17 +78,17 @@ WRONG = {
 
 
 class Programs(OnSessions):
-    def program(self, text):
+    def program(self, text: str) -> Path:
         file = self.write("program", text if text.startswith("#!") else f"#!/bin/sh\ncd '{self.room}'\n{text}\n")
         file.chmod(0o755)
         return file
 
-    def suite(self, names):
+    def suite(self, names: Sequence[str]) -> Path:
         return self.write("s.json", json.dumps([[name, ["OBJECTS", [], LEVEL]] for name in names]))
 
 
 class Wrong(Programs):
-    def test_no_wrong_program_is_believed(self):
+    def test_no_wrong_program_is_believed(self) -> None:
         self.write("shown", lines_of_example(EXAMPLE.read_text(encoding="utf-8")))
         self.assertEqual(len(WRONG), 22)
         for number, (what, script) in enumerate(WRONG.items()):
@@ -98,7 +101,7 @@ class Wrong(Programs):
 
 
 class Time(Programs):
-    def test_a_session_that_is_not_answered_is_told_and_no_other_is_lost(self):
+    def test_a_session_that_is_not_answered_is_told_and_no_other_is_lost(self) -> None:
         sessions = self.suite([*(f"quick {it}" for it in range(20)), "slow", *(f"late {it}" for it in range(10))])
         answer = run("test", sessions, "--program", self.program(PLAYER), "--timeout", ENOUGH)
         self.assertEqual((answer.status, answer.errors), (2, ""))
@@ -106,26 +109,26 @@ class Time(Programs):
         self.assertIn(f"session 20, slow: unanswered: not answered in {ENOUGH} s\n", answer.out)
         self.assertIn("31 sessions: 30 passed, 0 differ, 0 stopped, 0 refused, 1 not answered; 0 solved, 0 solved in part, 30 not solved\n", answer.out)
 
-    def test_sessions_that_are_not_answered_take_about_their_limits(self):
+    def test_sessions_that_are_not_answered_take_about_their_limits(self) -> None:
         """Where none is answered only the first batch takes its time for nothing; else finding each takes its time some times more."""
         for names, most in (("ssss", 5), ("s" * 200, 201), ("qs" * 40, 82), ("q" * 63 + "s", 8), ("q" * 40 + "s" + "q" * 100, 9), ("q" * 300, 0)):
             with self.subTest(names):
                 entries = sessions_in("s", json.dumps([[it, ["", [], ""]] for it in names])).entries
                 waited = []
 
-                def played(some, of, engine, seconds):
+                def played(some: Sequence[Entry], of: Any, engine: Engine, seconds: float) -> List[Run]:
                     if any(it.name == "s" for it in some):
                         waited.append(seconds)
                         raise Unanswered("not answered")
                     return [Run(place, it.name, "passed", None, []) for place, it in enumerate(some)]
 
                 with mock.patch.object(playing, "runs_within", played), mock.patch.object(playing, "monotonic", lambda: sum(waited)):
-                    runs = list(playing.runs_in_time(entries, None, playing.Engine(seconds=1.0)))
+                    runs = list(playing.runs_in_time(entries, Sessions("", "", []), playing.Engine(seconds=1.0)))
                 self.assertEqual([it.number for it in runs], list(range(len(names))))
                 self.assertEqual([it.close for it in runs], ["unanswered" if it == "s" else "passed" for it in names])
                 self.assertLessEqual(len(waited), most)
 
-    def test_reports_have_what_is_not_answered(self):
+    def test_reports_have_what_is_not_answered(self) -> None:
         sessions = self.suite(["quick", "slow"])
         words = ["--program", self.program(PLAYER), "--timeout", "1"]
         answer = run("test", sessions, *words[:2], "--timeout", ENOUGH, "--junit", self.room / "xml", "--report", self.room / "page", "--markdown", self.room / "md")
@@ -139,26 +142,26 @@ class Time(Programs):
         lines = run("lines", sessions, *words)
         self.assertEqual((lines.status, lines.errors), (2, "saxtegun lines: not answered in 1 s\n"))
 
-    def test_two_texts_over_which_nothing_is_answered_are_not_the_same(self):
+    def test_two_texts_over_which_nothing_is_answered_are_not_the_same(self) -> None:
         program, sessions = self.program(PLAYER), self.suite(["quick", "slow"])
         words = ["--sources", self.write("one", "OBJECTS"), self.write("other", "OBJECTS\n"), sessions, "--program", program, "--timeout", ENOUGH]
         answer = run("compare", *words)
         self.assertEqual(answer.status, 2)
         self.assertEqual(answer.out, f"session 1, slow: not answered in {ENOUGH} s over one and other\n2 sessions: 1 the same, 0 diverge, 1 not answered\n")
 
-    def test_a_limit_is_a_number_of_seconds(self):
+    def test_a_limit_is_a_number_of_seconds(self) -> None:
         for word in ("0", "-1", "x", "nan", "inf", "1e9"):
             self.assert_refused(run("test", EXAMPLE, "--timeout", word), "must be a number of seconds")
 
 
-def hear_signals():
+def hear_signals() -> None:
     """What is started hears each signal, whatever the tests were started by ignores, as nohup does."""
     for number in (signal.SIGTERM, signal.SIGHUP, signal.SIGINT):
         signal.signal(number, signal.SIG_DFL)
 
 
 class Bounds(Programs):
-    def watched(self, script, **bounds):
+    def watched(self, script: str, **bounds: Any) -> Any:
         with open(self.room / "lines", "wb") as lines:
             before = {name: getattr(processes, name) for name in bounds}
             try:
@@ -169,17 +172,17 @@ class Bounds(Programs):
                 for name, value in before.items():
                     setattr(processes, name, value)
 
-    def test_an_endless_program_is_cut_and_that_is_told(self):
+    def test_an_endless_program_is_cut_and_that_is_told(self) -> None:
         with self.assertRaisesRegex(Refused, "was stopped: it wrote more than 0 GiB of lines; play fewer sessions at once"):
             self.watched("exec yes", MOST_WRITTEN=2**20)
         with self.assertRaisesRegex(Refused, "was stopped: it said more than 1 MiB on standard error"):
             self.watched("exec 1>&2; exec head -c 500000000 /dev/zero", MOST_SAID=2**20)
 
-    def test_what_a_program_leaves_behind_is_ended_with_it(self):
+    def test_what_a_program_leaves_behind_is_ended_with_it(self) -> None:
         self.assertEqual(self.watched(f"sleep 1000 & echo $! >'{self.room}/left'; exit 0").status, 0)
         self.assert_gone(int((self.room / "left").read_text()))
 
-    def assert_gone(self, number):
+    def assert_gone(self, number: int) -> None:
         for _ in range(100):
             try:
                 os.kill(number, 0)
@@ -188,7 +191,7 @@ class Bounds(Programs):
             time.sleep(0.05)
         self.fail(f"process {number} is left")
 
-    def test_what_holds_only_the_lines_is_ended_too(self):
+    def test_what_holds_only_the_lines_is_ended_too(self) -> None:
         """The program ends, and what it has started keeps standard output open, but not standard error."""
         program = self.program(f"(exec 2>/dev/null; echo $$ >left; exec sleep 1000) &\nwhile [ ! -s left ]; do :; done\ncat {self.lines}\nexit 1")
         begin = time.monotonic()
@@ -196,18 +199,19 @@ class Bounds(Programs):
         self.assertEqual((answer.status, answer.out), (1, self.lines.read_text(encoding="utf-8")))
         self.assertLess(time.monotonic() - begin, 30)
 
-    def test_the_command_takes_its_program_and_its_folders_with_it(self):
+    def test_the_command_takes_its_program_and_its_folders_with_it(self) -> None:
         script = f"echo $$ >'{self.room}/number'; exec sleep 1000"
         for number in (signal.SIGTERM, signal.SIGHUP, signal.SIGINT):
             folder = self.room / f"temp {number}"
             folder.mkdir()
             (self.room / "number").unlink(missing_ok=True)
-            words = [sys.executable, TOP / "saxtegun", "test", EXAMPLE, "--program", self.program(script)]
+            words: List[Union[str, Path]] = [sys.executable, TOP / "saxtegun", "test", EXAMPLE, "--program", self.program(script)]
             with subprocess.Popen(words, env={**environment(), "TMPDIR": str(folder)}, stdout=subprocess.DEVNULL, stderr=subprocess.PIPE, preexec_fn=hear_signals) as ran, self.subTest(number):
                 while not (self.room / "number").exists() or not (self.room / "number").read_text():
                     time.sleep(0.02)
                 self.assertNotEqual(list(folder.iterdir()), [])
                 ran.send_signal(number)
+                assert ran.stderr is not None
                 self.assertNotIn(b"Traceback", ran.stderr.read())
                 self.assertEqual(ran.wait(timeout=20), 2 if number == signal.SIGINT else -number)
                 self.assertEqual(list(folder.iterdir()), [])
@@ -304,13 +308,13 @@ runpy.run_path("saxtegun", run_name="__main__")
 
 
 class Done(unittest.TestCase):
-    def test_a_signal_as_the_command_begins_ends_it_without_a_word(self):
+    def test_a_signal_as_the_command_begins_ends_it_without_a_word(self) -> None:
         for ignores, status in ((hear_signals, -signal.SIGINT), (lambda: signal.signal(signal.SIGINT, signal.SIG_IGN), 0)):
             with self.subTest(status=status):
                 ran = subprocess.run([sys.executable, "-B", "-c", BEGUN], cwd=TOP, stdin=subprocess.DEVNULL, capture_output=True, preexec_fn=ignores)
                 self.assertEqual((ran.returncode, ran.stderr), (status, b""))
 
-    def test_what_lies_beside_the_command_or_where_it_is_called_is_no_module_of_it(self):
+    def test_what_lies_beside_the_command_or_where_it_is_called_is_no_module_of_it(self) -> None:
         """Modules of the names of Python's own lie beside the command, and where it is called, beside a link to it."""
         with tempfile.TemporaryDirectory() as name:
             top, away = Path(name) / "top", Path(name) / "away"
@@ -327,7 +331,7 @@ class Done(unittest.TestCase):
                     ran = subprocess.run([sys.executable, "-B", str(command), "lines", "--help"], cwd=folder, stdin=subprocess.DEVNULL, capture_output=True)
                     self.assertEqual((ran.returncode, ran.stderr), (0, b""))
 
-    def test_a_relative_entry_of_pythonpath_names_no_module_of_it(self):
+    def test_a_relative_entry_of_pythonpath_names_no_module_of_it(self) -> None:
         """Those that Python itself reads as it begins aside: nobody is asked before."""
         with tempfile.TemporaryDirectory() as name:
             away = Path(name)
@@ -352,28 +356,28 @@ class Done(unittest.TestCase):
             ran = subprocess.run([sys.executable, "-B", str(TOP / "saxtegun"), "lines", "--help"], cwd=os.path.dirname(os.__file__), env={**os.environ, "PYTHONPATH": ":/none"}, capture_output=True)
             self.assertEqual((ran.returncode, ran.stderr), (0, b""))
 
-    def test_who_presses_ctrl_c_behind_another_signal_sees_it_end_by_that(self):
+    def test_who_presses_ctrl_c_behind_another_signal_sees_it_end_by_that(self) -> None:
         for number in (signal.SIGTERM, signal.SIGHUP):
             with self.subTest(number):
                 words = [sys.executable, "-B", "-c", HURRIED, str(int(number))]
                 ran = subprocess.run(words, cwd=TOP / "python", stdin=subprocess.DEVNULL, capture_output=True, preexec_fn=hear_signals, timeout=15)
                 self.assertEqual((ran.returncode, ran.stdout, ran.stderr), (-number, b"tidied up\nlet go\n", b""))
 
-    def test_a_signal_that_something_has_caught_comes_again_and_waits_for_what_tidies_up(self):
+    def test_a_signal_that_something_has_caught_comes_again_and_waits_for_what_tidies_up(self) -> None:
         for number in (signal.SIGTERM, signal.SIGHUP):
             with self.subTest(number):
                 words = [sys.executable, "-B", "-c", DEAFENED, str(int(number))]
                 ran = subprocess.run(words, cwd=TOP / "python", stdin=subprocess.DEVNULL, capture_output=True, preexec_fn=hear_signals, timeout=15)
                 self.assertEqual((ran.returncode, ran.stdout, ran.stderr), (-number, b"tidied up\n", b""))
 
-    def test_a_signal_that_nobody_has_heard_comes_again(self):
+    def test_a_signal_that_nobody_has_heard_comes_again(self) -> None:
         for number in (signal.SIGTERM, signal.SIGHUP, signal.SIGINT):
             with self.subTest(number):
                 words = [sys.executable, "-B", "-c", TIDIES, str(int(number))]
                 ran = subprocess.run(words, cwd=TOP / "python", stdin=subprocess.DEVNULL, capture_output=True, preexec_fn=hear_signals, timeout=15)
                 self.assertEqual((ran.returncode, ran.stdout, ran.stderr), (2 if number == signal.SIGINT else -number, b"", b""))
 
-    def test_a_signal_that_comes_behind_all_else_ends_it_without_a_word(self):
+    def test_a_signal_that_comes_behind_all_else_ends_it_without_a_word(self) -> None:
         for number in (signal.SIGTERM, signal.SIGHUP, signal.SIGINT):
             with self.subTest(number):
                 words = [sys.executable, "-B", "-c", DONE, str(int(number))]
@@ -382,15 +386,15 @@ class Done(unittest.TestCase):
 
 
 class Held(Programs):
-    def setUp(self):
+    def setUp(self) -> None:
         super().setUp()
         for number in (signal.SIGTERM, signal.SIGINT):
             self.addCleanup(signal.signal, number, signal.signal(number, self.hear))
 
-    def hear(self, number, frame):
+    def hear(self, number: int, frame: Any) -> None:
         raise Ended(number)
 
-    def test_a_signal_comes_behind_what_is_not_left_halfway(self):
+    def test_a_signal_comes_behind_what_is_not_left_halfway(self) -> None:
         done = []
         for number in (signal.SIGTERM, signal.SIGINT):
             with self.assertRaises(Ended), processes.held():
@@ -398,17 +402,18 @@ class Held(Programs):
                 done.append(number)
             self.assertEqual((done[-1], signal.getsignal(number)), (number, self.hear))
 
-    def test_what_is_ignored_stays_ignored(self):
+    def test_what_is_ignored_stays_ignored(self) -> None:
         signal.signal(signal.SIGTERM, signal.SIG_IGN)
         with processes.held():
             os.kill(os.getpid(), signal.SIGTERM)
         self.assertEqual(signal.getsignal(signal.SIGTERM), signal.SIG_IGN)
 
-    def test_a_program_that_begins_as_a_signal_comes_is_ended(self):
+    def test_a_program_that_begins_as_a_signal_comes_is_ended(self) -> None:
         """The signal comes where the program runs already, and nobody has been told of it."""
-        begun, ran = subprocess.Popen, []
+        begun = subprocess.Popen
+        ran: List[Any] = []
 
-        def begin(*words, **options):
+        def begin(*words: Any, **options: Any) -> Any:
             ran.append(begun(*words, **options))
             os.kill(os.getpid(), signal.SIGTERM)
             time.sleep(0.1)
@@ -434,29 +439,34 @@ time.sleep(1000)
 class Ends(Programs):
     """Each verb that plays ends with what it has started, and leaves no folder."""
 
-    def setUp(self):
+    def setUp(self) -> None:
         super().setUp()
         self.deaf, self.folder = self.program(DEAF), self.room / "temp"
         self.folder.mkdir()
-        self.addCleanup(lambda: [os.kill(it, signal.SIGKILL) for it in self.numbers() if os.path.exists(f"/proc/{it}")])
+        self.addCleanup(self.kill_what_is_left)
 
-    def numbers(self):
+    def kill_what_is_left(self) -> None:
+        for it in self.numbers():
+            if os.path.exists(f"/proc/{it}"):
+                os.kill(it, signal.SIGKILL)
+
+    def numbers(self) -> List[int]:
         path = self.room / "numbers"
         return [int(it) for it in path.read_text().split()] if path.exists() else []
 
-    def wait_for(self, is_so):
+    def wait_for(self, is_so: Callable[[], object]) -> None:
         for _ in range(600):
             if is_so():
                 return
             time.sleep(0.05)
         self.fail("it did not come")
 
-    def started(self, *words, **streams):
+    def started(self, *words: object, **streams: Any) -> subprocess.Popen[bytes]:
         streams = {"stdin": subprocess.DEVNULL, "stdout": subprocess.DEVNULL, **streams}
-        words = [sys.executable, "-B", TOP / "saxtegun", *map(str, words)]
-        return subprocess.Popen(words, cwd=self.room, env={**environment(), "TMPDIR": str(self.folder)}, stderr=subprocess.PIPE, preexec_fn=hear_signals, **streams)
+        command: List[Union[str, Path]] = [sys.executable, "-B", TOP / "saxtegun", *map(str, words)]
+        return subprocess.Popen(command, cwd=self.room, env={**environment(), "TMPDIR": str(self.folder)}, stderr=subprocess.PIPE, preexec_fn=hear_signals, **streams)
 
-    def assert_ends(self, ran, *signals):
+    def assert_ends(self, ran: subprocess.Popen[bytes], *signals: int) -> None:
         for number in signals:
             ran.send_signal(number)
             time.sleep(0.2)
@@ -465,20 +475,21 @@ class Ends(Programs):
         except subprocess.TimeoutExpired:
             ran.kill()
             self.fail("it doesn't end")
+        assert ran.stderr is not None
         self.assertNotIn(b"Traceback", ran.stderr.read())
         self.assertEqual(list(self.folder.iterdir()), [])
         for number in self.numbers():
             with self.assertRaises(ProcessLookupError):
                 os.kill(number, 0)
 
-    def test_shrinking_ends_both_of_its_programs(self):
+    def test_shrinking_ends_both_of_its_programs(self) -> None:
         for number in (signal.SIGTERM, signal.SIGHUP, signal.SIGINT):
             (self.room / "numbers").unlink(missing_ok=True)
             with self.subTest(number), self.started("shrink", self.deaf, self.deaf, EXAMPLE, "both*", self.room / "case", "--timeout", "100") as ran:
                 self.wait_for(lambda: len(self.numbers()) == 2)
                 self.assert_ends(ran, number)
 
-    def test_a_review_that_is_ended_keeps_its_answers_and_leaves_no_folder(self):
+    def test_a_review_that_is_ended_keeps_its_answers_and_leaves_no_folder(self) -> None:
         """It waits for an answer while the lines that it reads are held. Ctrl-C leaves the file as it was, and says so."""
         stale = json.loads(EXAMPLE.read_text(encoding="utf-8"))[-1]
         before = json.dumps([stale, stale])
@@ -487,6 +498,7 @@ class Ends(Programs):
             suite = self.write("stale.json", before)
             with self.subTest(number), self.started("accept", suite, "--review", "--in-place", "--program", program, stdin=subprocess.PIPE) as ran:
                 told = self.told_up_to(ran, b"accept it?")
+                assert ran.stdin is not None and ran.stderr is not None
                 ran.stdin.write(b"y\n")
                 ran.stdin.flush()
                 told += self.told_up_to(ran, b"accept it?")
@@ -497,13 +509,14 @@ class Ends(Programs):
                 first, second = json.loads(suite.read_text(encoding="utf-8"))
                 self.assertEqual((first == stale, second == stale), (number == signal.SIGINT, True))
 
-    def told_up_to(self, ran, words):
+    def told_up_to(self, ran: subprocess.Popen[bytes], words: bytes) -> bytes:
+        assert ran.stderr is not None
         told = b""
         while words not in told:
             told += os.read(ran.stderr.fileno(), 1) or self.fail(told)
         return told
 
-    def test_a_comparison_of_two_texts_leaves_no_folder(self):
+    def test_a_comparison_of_two_texts_leaves_no_folder(self) -> None:
         """The lines of the first text are held while the second is played."""
         program = self.program(f"if [ -e '{self.room}/played' ]; then echo $$ >>numbers; exec sleep 1000; fi\ntouch '{self.room}/played'\ncat '{self.lines}'\nexit 1")
         texts = [self.write(name, "OBJECTS\n") for name in ("one.txt", "other.txt")]
@@ -514,16 +527,17 @@ class Ends(Programs):
                 self.wait_for(self.numbers)
                 self.assert_ends(ran, number)
 
-    def test_whoever_is_impatient_leaves_no_program_behind(self):
+    def test_whoever_is_impatient_leaves_no_program_behind(self) -> None:
         for words in (("test", EXAMPLE), ("coverage", EXAMPLE), ("lines", EXAMPLE)):
             (self.room / "numbers").unlink(missing_ok=True)
             with self.subTest(words[0]), self.started(*words, "--program", self.deaf) as ran:
                 self.wait_for(self.numbers)
                 self.assert_ends(ran, signal.SIGINT, signal.SIGINT)
 
-    def test_whoever_stops_watching_while_it_plays_has_no_answer(self):
+    def test_whoever_stops_watching_while_it_plays_has_no_answer(self) -> None:
         program, sessions, log = self.program(PLAYER), self.suite(["quick"]), self.room / "program.log"
         with self.started("test", sessions, "--program", program, "--watch") as ran:
+            assert ran.stderr is not None
             self.assertIn(b"waiting for a save", ran.stderr.readline())
             played = len(log.read_text().split())
             self.suite(["slow"])
@@ -531,7 +545,7 @@ class Ends(Programs):
             self.assert_ends(ran, signal.SIGINT)
             self.assertEqual(ran.returncode, 2)
 
-    def test_lines_that_nobody_reads_keep_nothing_from_ending(self):
+    def test_lines_that_nobody_reads_keep_nothing_from_ending(self) -> None:
         program = self.write("endless", "#!/bin/sh\nexec yes '{\"at\":0'\n")
         program.chmod(0o755)
         for number in (signal.SIGTERM, signal.SIGHUP, signal.SIGINT):
@@ -548,7 +562,7 @@ class Ends(Programs):
 
 
 class Copies(Programs):
-    def test_the_copies_of_a_game_count_against_no_limit(self):
+    def test_the_copies_of_a_game_count_against_no_limit(self) -> None:
         """18 KB of recordings over a game of 56 KB are more than a file may hold, where each has the game."""
         game = self.write("game.txt", "title x\n(" + "x" * 56_000 + ")\nOBJECTS\n")
         recordings = self.write("r.json", json.dumps([[f"session {it}", ["", [3], LEVEL]] for it in range(310)]))
@@ -559,26 +573,26 @@ class Copies(Programs):
         played = list(map(int, (self.room / "program.log").read_text().split()))
         self.assertEqual((sum(played), len(played) > 2), (2 * 310, True))
 
-    def test_the_lines_of_a_suite_over_one_game_are_those_of_one_run(self):
+    def test_the_lines_of_a_suite_over_one_game_are_those_of_one_run(self) -> None:
         """`lines --game` plays it in batches, and numbers the sessions through."""
         text = "title x\n(" + "x" * 56_000 + ")\nOBJECTS\n"
         entries = [[f"session {it}", ["", [3], LEVEL]] for it in range(310)]
         game, recordings = self.write("game.txt", text), self.write("r.json", json.dumps(entries))
         answer = run("lines", recordings, "--game", game, "--program", self.program(PLAYER))
         self.assertEqual((answer.status, answer.errors), (0, ""))
-        frames = [{"at": at, "frame": at, "kind": kind, "level": LEVEL} for at, kind in enumerate(("start", "move"))]
+        frames: List[Dict[str, Any]] = [{"at": at, "frame": at, "kind": kind, "level": LEVEL} for at, kind in enumerate(("start", "move"))]
         wanted = [line for it in range(310) for line in (*({**frame, "session": it} for frame in frames), {"close": "passed", "frames": 2, "name": f"session {it}", "session": it})]
         self.assertEqual([json.loads(it) for it in answer.out.splitlines()], wanted)
         self.assertGreater(len((self.room / "program.log").read_text().split()), 1)
 
-    def test_batches_hold_all_entries_in_their_order_and_none_is_too_large(self):
+    def test_batches_hold_all_entries_in_their_order_and_none_is_too_large(self) -> None:
         sessions = sessions_in("x", json.dumps([[str(it), ["x" * 3_000_000, [], ""]] for it in range(13)]))
         found = list(batches(sessions.entries))
         self.assertEqual([json.loads(it)[0] for batch in found for it in batch], [str(it) for it in range(13)])
         self.assertTrue(all(sum(map(len, it)) + len(it) + 1 <= MOST_BYTES for it in found))
         self.assertEqual([len(it) for it in found], [5, 5, 3])
 
-    def test_sessions_are_numbered_through(self):
+    def test_sessions_are_numbered_through(self) -> None:
         sessions = read_sessions(str(self.suite([f"s{it}" for it in range(200)])))
         for seconds in (None, 20.0):
             runs = runs_of(sessions.entries, Sessions("s.json", "", []), Engine(program=str(self.program(PLAYER)), seconds=seconds))

@@ -1,5 +1,7 @@
 """Random acts on the playground in each browser that is there: nothing fails, nothing that was made is lost, also over a reload, and each close that
 the page shows is that of the engine on the file as it would be saved. ACTS says how many acts (20,000 by hand), SEED with which seed they begin."""
+from __future__ import annotations
+
 import json
 import os
 import shutil
@@ -10,17 +12,18 @@ import time
 import unittest
 from concurrent.futures import ThreadPoolExecutor
 from pathlib import Path
+from typing import Any, List, Type
 
 from tool import PROGRAM, TOP
 
 sys.path.append(str(TOP / "web" / "tests"))
-from browsers import BROWSERS
+from browsers import BROWSERS, AnyBrowser
 
 ACTS, SEED = int(os.environ.get("ACTS", "2000")), int(os.environ.get("SEED", "1"))
 AT_ONCE = 100  # acts between two reloads
 NODE = shutil.which("node")
 MODULE = next((it for it in (TOP / "engine" / "out" / "saxtegun.wasm", TOP / "released" / "saxtegun.wasm") if it.is_file()), None)
-CLEANING = {"ignore_cleanup_errors": True} if sys.version_info >= (3, 10) else {}
+CLEANING: Any = {"ignore_cleanup_errors": True} if sys.version_info >= (3, 10) else {}
 READY = "document.documentElement?.dataset.opened === 'true'"
 SCRIPT = (TOP / "web" / "tests" / "acts.js").read_text(encoding="utf-8").partition("\n(")[2].strip()
 GAME = (TOP / "examples" / "day" / "game.txt").read_text(encoding="utf-8")
@@ -36,9 +39,9 @@ TEXTS = {
 }
 
 
-def closes_of(entries, order):
+def closes_of(entries: List[Any], order: str) -> List[str]:
     """How the program, or the engine in Node where it isn't there, says that each session closes."""
-    command = [str(PROGRAM)] if os.access(PROGRAM, os.X_OK) else [NODE, str(TOP / "engine" / "replay.mjs")]
+    command = [str(PROGRAM)] if os.access(PROGRAM, os.X_OK) else [str(NODE), str(TOP / "engine" / "replay.mjs")]
     with tempfile.NamedTemporaryFile("w", suffix=".json", encoding="utf-8") as file:
         json.dump(entries, file)
         file.flush()
@@ -46,7 +49,7 @@ def closes_of(entries, order):
     return [line["close"] for line in map(json.loads, ran.stdout.decode().splitlines()) if "close" in line]
 
 
-def played_over(found):
+def played_over(found: Any) -> List[Any]:
     """The sessions that the page showed, with the text at hand in the place of empty ones."""
     return [[name, [source or found["text"], *body]] for name, (source, *body) in found["entries"]]
 
@@ -54,21 +57,21 @@ def played_over(found):
 class Acts:
     """Random acts in one browser."""
 
-    def __init__(self, test, kind, page, room):
+    def __init__(self, test: unittest.TestCase, kind: Type[AnyBrowser], page: Path, room: str) -> None:
         self.test, self.kind, self.page = test, kind, page
         self.browser = kind(room)
-        self.founds = []
+        self.founds: List[Any] = []
 
-    def visit(self):
+    def visit(self) -> None:
         self.browser.open(self.page, is_ready=READY)
         # nothing is handed out: that would open a dialog
         self.browser.value("(HTMLAnchorElement.prototype.click = () => {}, 1)")
 
-    def shown(self):
+    def shown(self) -> Any:
         inputs = "[...document.querySelectorAll('#strip button')].map((it) => it.title.replace(/^input [0-9]+: /, ''))"
         return self.browser.value(f"({{ text: document.getElementById('source').value, inputs: {inputs}, name: document.getElementById('name').value }})")
 
-    def act(self):
+    def act(self) -> None:
         """Acts, with a reload behind each hundred; what the page showed is there behind it."""
         before = None
         for number in range(0, ACTS, AT_ONCE):
@@ -79,7 +82,7 @@ class Acts:
             before = answer["shown"]
             self.founds += answer["found"]
 
-    def assert_closes(self):
+    def assert_closes(self) -> None:
         for order in ("columns", "rows"):
             some = [it for it in self.founds if it["order"] == order]
             entries = [entry for it in some for entry in played_over(it)]
@@ -87,16 +90,16 @@ class Acts:
 
 
 class RandomPage(unittest.TestCase):
-    def setUp(self):
+    def setUp(self) -> None:
         if not (BROWSERS and NODE and MODULE):
             print("there is no browser, no Node or no module: the page was not tried in a browser", file=sys.stderr)
             self.skipTest("there is no browser, no Node or no module")
 
-    def acts_in(self, kind):
+    def acts_in(self, kind: Type[AnyBrowser]) -> str:
         begun = time.monotonic()
         with tempfile.TemporaryDirectory(**CLEANING) as room:
             page = Path(room) / "saxtegun.html"
-            subprocess.run([TOP / "dev" / "page", "--module", MODULE, "--output", page], stdout=subprocess.DEVNULL, check=True)
+            subprocess.run([TOP / "dev" / "page", "--module", str(MODULE), "--output", page], stdout=subprocess.DEVNULL, check=True)
             acts = Acts(self, kind, page, room)
             try:
                 acts.act()
@@ -106,7 +109,7 @@ class RandomPage(unittest.TestCase):
         sessions = sum(len(it["entries"]) for it in acts.founds)
         return f"{kind.name}: {ACTS} random acts, {sessions} closes compared, {time.monotonic() - begun:.0f} s"
 
-    def test_random_acts(self):
+    def test_random_acts(self) -> None:
         # side by side, since most of the time a browser waits
         with ThreadPoolExecutor() as pool:
             for told in pool.map(self.acts_in, BROWSERS):

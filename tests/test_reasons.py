@@ -1,4 +1,6 @@
 """What is wrong with a line that a fault names: which word and which bracket of a rule, by docs/language.md, and where a text breaks."""
+from __future__ import annotations
+
 import json
 import os
 import random
@@ -54,7 +56,7 @@ WORDS = "[ ] | -> [_Player_] [_Player_|_] Player no > < ^ v late + right up hori
 RULES = ("[ > Player | Player ] -> [ > Player | > Player ]", "late [ Player ] -> [ ] again", "right [ no Player ] [ Player ] -> [ ] [ Player ] win sfx1 message x", "+ [ Player | ... | Player ] -> [ | ... | ]")
 
 
-def rule_by(chance):
+def rule_by(chance: random.Random) -> str:
     """A line of a few words, or a rule with a few changes."""
     if chance.random() < 0.4:
         return " ".join(chance.choices(WORDS, k=chance.randint(1, 9))).replace("_", " ")
@@ -67,30 +69,30 @@ def rule_by(chance):
 
 
 class Reasons(unittest.TestCase):
-    def test_the_word_or_the_bracket_is_named(self):
+    def test_the_word_or_the_bracket_is_named(self) -> None:
         for rule, told in WRONG.items():
             with self.subTest(rule):
                 self.assertEqual(reason_told("BadRule:16", f"{HEAD}[ Player ] -> [ Player ]\n{rule}\n{TAIL}"), f": {told}")
         for rule, told in (("+ [ Player ] -> [ ]", "`+` stands on the first rule, which has no group above it"), ("startloop\n+ [ Player ] -> [ ]", "`+` stands behind `startloop`, where a group begins")):
             self.assertEqual(reason_told(f"BadRule:{15 + rule.count(chr(10))}", f"{HEAD}{rule}\n{TAIL}"), f": {told}")
 
-    def test_what_is_a_rule_has_nothing_wrong(self):
+    def test_what_is_a_rule_has_nothing_wrong(self) -> None:
         for rule in ("[ > Player | ... | Player ] -> [ | ... | ] again sfx3 message [ -> ]", "+ LATE right down [ no Player ] [ ] -> cancel", "[Player|]->[|Player]win"):
             self.assertEqual(reason_told("BadRule:16", f"{HEAD}late [ Player ] -> [ Player ]\n{rule}\n{TAIL}"), "", rule)
         for cause in ("BadRule:0", "BadRule:99", "BadRule:15", "loop-limit", "BadRule:x", "OutsideProfile:3"):
             self.assertEqual(reason_told(cause, f"{HEAD}[ Player ] -> [ Player ]\n{TAIL}"), "")
 
-    def test_a_text_of_another_length_is_looked_at_in_time(self):
+    def test_a_text_of_another_length_is_looked_at_in_time(self) -> None:
         self.assertNotEqual(reason_told("BadRule:15", f"{HEAD}{'[[' * 500_000}\n{TAIL}"), "")
 
-    def test_where_a_level_text_breaks(self):
+    def test_where_a_level_text_breaks(self) -> None:
         for text, place in BREAKS.items():
             self.assertEqual(break_of(text), place, text)
         self.assertEqual(break_of(f"a:0,{'1' * 5000},"), (1, 5, "1" * 5000))
         for text in ("", "a:0,\n0,\n", "a b:0,:1,\r\n01,0,", "a:b:0,", f"a:0,{'0' * 5000},", "junk" * 1_000_000):
             self.assertIsNone(break_of(text), text)
 
-    def test_a_comma_before_a_bracket_is_named_by_its_line(self):
+    def test_a_comma_before_a_bracket_is_named_by_its_line(self) -> None:
         for text, place in (('[\n["a", ["", [], ""]],\n]', "line 2, letter 20"), ('[["a", ["", [0, ], ""]]]', "line 1, letter 15"), ('[["a", ["", [], "" ,\n\n]]]', "line 1, letter 20")):
             with self.assertRaises(Refused) as refused:
                 sessions_in("s.json", text)
@@ -99,14 +101,14 @@ class Reasons(unittest.TestCase):
 
 @plays
 class DayOfReasons(OnSessions):
-    def test_the_program_refuses_each_of_these_rules(self):
+    def test_the_program_refuses_each_of_these_rules(self) -> None:
         entries = [[rule, [f"{HEAD}[ Player ] -> [ Player ]\n{rule}\n{TAIL}", [], ""]] for rule in WRONG]
         answer = run("test", self.write("s.json", json.dumps(entries)))
         self.assertEqual(answer.out.count("(BadRule:16)"), len(WRONG))
         for rule, told in WRONG.items():
             self.assertIn(f"{rule}: refused: line 16 is no rule: {told} (BadRule:16)", answer.out)
 
-    def test_a_reason_is_given_exactly_where_the_program_finds_no_rule(self):
+    def test_a_reason_is_given_exactly_where_the_program_finds_no_rule(self) -> None:
         chance = random.Random(SEED)
         rules = [rule_by(chance) for _ in range(COUNT)]
         suite = self.write("s.json", json.dumps([["a", [f"{HEAD}late [ Player ] -> [ Player ]\n{it}\n{TAIL}", [], ""]] for it in rules]))
@@ -118,7 +120,7 @@ class DayOfReasons(OnSessions):
                 self.assertTrue(bool(told) == is_bad or close.get("cause") == "OutsideProfile:16", f"{close.get('cause')}{told}")
         self.assertGreater(sum("cause" not in it for it in closes), COUNT // 50)
 
-    def test_a_level_text_that_breaks_is_named_by_its_place(self):
+    def test_a_level_text_that_breaks_is_named_by_its_place(self) -> None:
         suite = self.write("s.json", json.dumps([["a", [HEAD + TAIL, [], "background:0,\njunk,"]]]))
         for verb in ("test", "lines"):
             self.assertIn("the recorded level of session 0 (a) is no level text: on line 2, letter 1 of it `junk` is no piece of one (bad-level 0)", run(verb, suite).errors)

@@ -1,11 +1,14 @@
 """Recordings in any text: each form of tests/forms gives the recordings that tests/forms/expected.json names, which were written down as the forms were made, and
 skips what it names. The same files hold for whatever else looks for recordings, such as the page."""
+from __future__ import annotations
+
 import json
 import time
 import unittest
+from typing import List, Tuple
 
 from test_test import OfAGame
-from tool import TOP, InARoom, plays, run
+from tool import TOP, Answer, InARoom, plays, run
 from saxtegun.files import read_any_text
 from saxtegun.recording_search import find
 
@@ -27,12 +30,12 @@ SAID = {
 
 
 class Forms(unittest.TestCase):
-    def test_what_is_no_recording_is_passed_over(self):
+    def test_what_is_no_recording_is_passed_over(self) -> None:
         for text in ('["undo"]', 'x ["tick", 3]', '["a",["s",[1\u0663],"x"]]', '["a",["s",[\u0663],"x"]]'):
             with self.subTest(text):
                 self.assertEqual(find(text), ([], []))
 
-    def test_each_form_gives_its_recordings(self):
+    def test_each_form_gives_its_recordings(self) -> None:
         self.assertEqual(sorted(it.stem for it in FORMS.glob("*.txt")), sorted(EXPECTED["forms"]))
         for form, expected in EXPECTED["forms"].items():
             with self.subTest(form):
@@ -41,7 +44,7 @@ class Forms(unittest.TestCase):
                 self.assertEqual(took, [[name, EXPECTED["recordings"][key]] for name, key in expected["took"]])
                 self.assertEqual([it.what if it.what in CODES else "fault" for it in findings.skipped], expected["skipped"])
 
-    def test_a_form_without_a_recording_says_what_to_do(self):
+    def test_a_form_without_a_recording_says_what_to_do(self) -> None:
         self.assertEqual(sorted(SAID), sorted(form for form, it in EXPECTED["forms"].items() if not it["took"]))
         for form, said in SAID.items():
             for verb in ("add", "testdata"):
@@ -50,25 +53,25 @@ class Forms(unittest.TestCase):
                     self.assertEqual((answer.status, answer.out), (2, ""))
                     self.assertIn(said, answer.errors)
 
-    def test_behind_what_is_escaped_in_vain_the_search_goes_on(self):
+    def test_behind_what_is_escaped_in_vain_the_search_goes_on(self) -> None:
         body = '["title x",[1],"",0]'
         for before in ('[\\"a\\", ', '"[\\"a\\"]" ', "`['a\\`['` ", "[\\'a", "\u201e[\u201e "):
             with self.subTest(before):
                 self.assertEqual([(it.name, it.body) for it in find(f'{before}["a", {body}]').found], [("a", body)])
 
-    def test_a_number_that_is_too_long_to_be_one_is_passed_over(self):
+    def test_a_number_that_is_too_long_to_be_one_is_passed_over(self) -> None:
         number, body = "1" * 5000, '["title x",[1],"",0]'
         for long in (f'["b",["title x",[1],"",{number}]]', f'["b",["title x",[1,{number}],"",0]]', f'["b",{number},["title x"]]', f'[{number}]'):
             with self.subTest(long[:20]):
                 found = find(f'{long} ["a", {body}]')
                 self.assertEqual([(it.name, it.body) for it in found.found], [("a", body)])
 
-    def test_a_number_of_a_letter_in_html_may_be_too_long_to_be_one(self):
+    def test_a_number_of_a_letter_in_html_may_be_too_long_to_be_one(self) -> None:
         for number in ("1" * 5000, "0" * 5000 + "65"):
             found = find(f'[&quot;a&quot;, [&quot;title x&#{number};&quot;,[1],&quot;&quot;,0]]').found
             self.assertEqual([(it.name, json.loads(it.body)) for it in found], [("a", ["title x\ufffd", [1], "", 0])])
 
-    def test_a_long_text_is_searched_fast(self):
+    def test_a_long_text_is_searched_fast(self) -> None:
         text = (FORMS / "console-with-headings.txt").read_text(encoding="utf-8")
         for long, count in ((text * (26_000_000 // len(text)), 26_000_000 // len(text)), ("[ > Player | Crate ] -> [ > Player ]\n" * 700_000, 0)):
             began = time.process_time()
@@ -78,15 +81,15 @@ class Forms(unittest.TestCase):
 
 
 class TestData(InARoom):
-    def test_entries_are_written_as_they_are(self):
+    def test_entries_are_written_as_they_are(self) -> None:
         answer = run("testdata", FORMS / "test-data.txt")
         entries = [["Two Steps", [*EXPECTED["recordings"]["walk"].values(), "1716.5"]], ["standing still", [*EXPECTED["recordings"]["stay"].values()]]]
         self.assertEqual((answer.status, json.loads(answer.out), answer.errors), (0, entries, "testdata: 2 entries\n"))
 
-    def test_one_without_a_name_gets_its_title_and_level(self):
+    def test_one_without_a_name_gets_its_title_and_level(self) -> None:
         self.assertEqual(json.loads(run("testdata", FORMS / "body-alone.txt").out)[0][0], "Two Steps, level 1")
 
-    def test_what_stands_behind_the_body_stays_where_only_brackets_are_missing(self):
+    def test_what_stands_behind_the_body_stays_where_only_brackets_are_missing(self) -> None:
         whole = '["a",["title x\\nOBJECTS",[1],"b:0,",0],"solved",7'
         for end in ("]", "", "\n", "\nVM1: more", "] "):
             self.assertEqual([it.rest for it in find(whole + end).found], [('"solved"', "7")], end)
@@ -94,12 +97,12 @@ class TestData(InARoom):
             found = find(end)
             self.assertEqual((found.found, [it.what for it in found.skipped]), ([], ["cut-off"]), end)
 
-    def test_what_is_cut_off_gives_status_1(self):
+    def test_what_is_cut_off_gives_status_1(self) -> None:
         answer = run("testdata", FORMS / "cut-off-and-then-whole.txt")
         self.assertEqual((answer.status, len(json.loads(answer.out))), (1, 1))
         self.assertIn("line 1: skipped a recording that is cut off", answer.errors)
 
-    def test_what_can_not_be_read_is_reported_in_a_line(self):
+    def test_what_can_not_be_read_is_reported_in_a_line(self) -> None:
         (self.room / "latin").write_bytes(b"['\xe4']")
         for words in ((self.room / "nothing",), (self.room,), (self.room / "latin",), ("-",), ()):
             answer = run("testdata", *words)
@@ -109,13 +112,13 @@ class TestData(InARoom):
 
 @plays
 class DayOfForms(OfAGame):
-    def added(self, form, *words):
+    def added(self, form: str, *words: object) -> Tuple[Answer, List[str]]:
         """The names in a file to which a form was added."""
         suite = self.room / "new.json"
         answer = run("add", suite, FORMS / f"{form}.txt", *words)
         return answer, [it[0] for it in json.loads(suite.read_text(encoding="utf-8"))] if suite.exists() else []
 
-    def test_each_form_with_a_recording_is_added(self):
+    def test_each_form_with_a_recording_is_added(self) -> None:
         for form, expected in EXPECTED["forms"].items():
             if not expected["took"]:
                 continue
@@ -125,7 +128,7 @@ class DayOfForms(OfAGame):
                 self.assertEqual(len(names), len({key for _, key in expected["took"]}))
                 (self.room / "new.json").unlink()
 
-    def test_no_two_names_are_alike(self):
+    def test_no_two_names_are_alike(self) -> None:
         self.assertEqual(self.added("entries-in-a-row")[1], ["Two Steps, level 1", "standing still"])
         self.assertEqual(self.added("single-quotes-and-undefined")[1], ["Two Steps, level 1", "standing still"])
         suite = self.room / "new.json"
@@ -135,7 +138,7 @@ class DayOfForms(OfAGame):
         suite.unlink()
         self.assertEqual(self.added("list-of-entries", "--name", "mine")[1], ["mine", "mine (2)"])
 
-    def test_the_same_recording_is_not_added_again(self):
+    def test_the_same_recording_is_not_added_again(self) -> None:
         self.added("entry")
         answer, names = self.added("html", "--name", "another")
         self.assertEqual((answer.status, names), (0, ["Two Steps, level 1"]))

@@ -1,4 +1,6 @@
 """`saxtegun test` in a git folder: where a session that broke parts from the committed text, and that a hostile repository runs nothing."""
+from __future__ import annotations
+
 import hashlib
 import json
 import os
@@ -6,7 +8,9 @@ import shutil
 import subprocess
 import unittest
 import zlib
+from pathlib import Path
 from time import sleep
+from typing import Any, Iterator, Sequence, Tuple
 from unittest import mock
 
 from test_test import RULE, OfAGame
@@ -15,33 +19,33 @@ from saxtegun import regressions
 from saxtegun.lines import Frame, Run
 from saxtegun.playing import Engine
 from saxtegun.regressions import committed_text
-from saxtegun.sessions import sessions_in
+from saxtegun.sessions import Entry, Sessions, sessions_in
 
 STUCK = "[ > Player | Crate ] -> [ Player | Crate ]"
 SAYS = "over the committed game.txt it passed, and its frames first part at "
 
 
-def git(folder, *words):
-    words = ["git", "-C", folder, "-c", "user.name=a", "-c", "user.email=a@example", "-c", "protocol.file.allow=always", *words]
-    return subprocess.run(list(map(str, words)), check=False, stdin=subprocess.DEVNULL, stdout=subprocess.PIPE, stderr=subprocess.PIPE)
+def git(folder: Path, *words: object) -> subprocess.CompletedProcess[bytes]:
+    command = ["git", "-C", folder, "-c", "user.name=a", "-c", "user.email=a@example", "-c", "protocol.file.allow=always", *words]
+    return subprocess.run(list(map(str, command)), check=False, stdin=subprocess.DEVNULL, stdout=subprocess.PIPE, stderr=subprocess.PIPE)
 
 
 class InAGitFolder(OfAGame):
-    def setUp(self):
+    def setUp(self) -> None:
         super().setUp()
         if shutil.which("git") is None:
             self.skipTest("there is no git")
         git(self.room, "init", "--quiet")
         self.commit()
 
-    def commit(self):
+    def commit(self) -> None:
         git(self.room, "add", "--all")
         git(self.room, "commit", "--quiet", "--message", "a text")
 
 
 @plays
 class DayOfCommits(InAGitFolder):
-    def test_a_session_that_broke_says_where_it_parts(self):
+    def test_a_session_that_broke_says_where_it_parts(self) -> None:
         """The first crate that is pushed: by the third input, up, in the first level; by the fourth, left, in the second."""
         self.with_rule(STUCK)
         answer = run("test", self.game, self.recordings)
@@ -51,12 +55,12 @@ class DayOfCommits(InAGitFolder):
         # the stale one had not passed over the committed text either
         self.assertNotIn(SAYS, answer.out.partition("a recording that has gone stale")[2])
 
-    def test_the_report_and_the_summary_are_of_the_same_run(self):
+    def test_the_report_and_the_summary_are_of_the_same_run(self) -> None:
         self.with_rule(STUCK)
         run("test", self.game, self.recordings, "--markdown", self.room / "m.md")
         self.assertIn(f"{SAYS}frame 3", (self.room / "m.md").read_text(encoding="utf-8"))
 
-    def test_where_nothing_is_committed_nothing_is_said(self):
+    def test_where_nothing_is_committed_nothing_is_said(self) -> None:
         self.assertNotIn(SAYS, run("test", self.game, self.recordings).out)
         self.with_rule(STUCK)
         new = self.write("new.txt", self.game.read_text(encoding="utf-8"))
@@ -67,18 +71,18 @@ class DayOfCommits(InAGitFolder):
         git(self.room, "init", "--quiet")
         self.assertNotIn("committed", run("test", self.game, self.recordings).out)
 
-    def test_where_no_time_is_left_nothing_is_said(self):
+    def test_where_no_time_is_left_nothing_is_said(self) -> None:
         left = regressions.EXPLAINING.left
         self.addCleanup(lambda: setattr(regressions.EXPLAINING, "left", left))
         regressions.EXPLAINING.left = 0
-        self.assertEqual(regressions.divergences(None, [], [], None, None), {})
+        self.assertEqual(regressions.divergences(None, [], [], Sessions("", "", []), Engine()), {})
 
-    def test_the_time_is_that_of_all_batches(self):
+    def test_the_time_is_that_of_all_batches(self) -> None:
         """A large text makes small batches, of which each may take nearly all of the time: 100 of them, a fiftieth of a second each, in a tenth."""
         sessions = sessions_in("x", json.dumps([["a", ["", [], ""]]] * 100))
         start, other = (Frame(0, "start", level) for level in ("background:0,\n", "background player:0,\n"))
 
-        def played(entries, of, engine, seconds):
+        def played(entries: Sequence[Entry], of: Any, engine: Engine, seconds: float) -> Iterator[Run]:
             for number, _ in enumerate(entries):
                 sleep(0.02)
                 yield Run(number, "a", "passed", None, [start])
@@ -90,7 +94,7 @@ class DayOfCommits(InAGitFolder):
 
 
 class UsedUpWithin(unittest.TestCase):
-    def test_where_the_time_ends_in_the_midst_what_is_known_is_told(self):
+    def test_where_the_time_ends_in_the_midst_what_is_known_is_told(self) -> None:
         """As the committed text is read, to be played without its clock."""
         sessions = sessions_in("x", json.dumps([["a", ["title x\n" * 1_000, [], ""]]] * 2))
         with mock.patch.object(regressions.EXPLAINING, "left", -1.0), regressions.EXPLAINING.spent():
@@ -98,14 +102,14 @@ class UsedUpWithin(unittest.TestCase):
 
 
 class Hostile(InAGitFolder):
-    def hacks(self, name):
+    def hacks(self, name: str) -> Tuple[Path, Path]:
         """A program that leaves a trace, and the trace."""
         trace = self.room / f"trace-{name}"
         program = self.write(f"hack-{name}", f"#!/bin/sh\ntouch '{trace}'\nexit 0\n")
         program.chmod(0o755)
         return program, trace
 
-    def test_a_configuration_runs_nothing(self):
+    def test_a_configuration_runs_nothing(self) -> None:
         program, trace = self.hacks("all")
         self.write(".gitattributes", "*.txt filter=evil diff=evil\n")
         self.commit()
@@ -127,7 +131,7 @@ class Hostile(InAGitFolder):
         git(self.room, "status")
         self.assertTrue(trace.exists())
 
-    def test_what_is_missing_is_not_fetched(self):
+    def test_what_is_missing_is_not_fetched(self) -> None:
         """A partial clone says itself how its missing objects are fetched: by a command of its own."""
         program, trace = self.hacks("fetch")
         blob = git(self.room, "rev-parse", "HEAD:game.txt").stdout.decode().strip()
@@ -151,19 +155,19 @@ class Hostile(InAGitFolder):
                 self.assertTrue(trace.exists(), "the trap isn't set")
                 trace.unlink()
 
-    def test_no_protocol_is_allowed(self):
+    def test_no_protocol_is_allowed(self) -> None:
         """A protocol may have any name, also none: a program of that name speaks it."""
         for name in ("none", ""):
             program, trace = self.hacks("speak")
             program.rename(self.room / f"git-remote-{name}")
             for environment, is_trapped in ({"GIT_ALLOW_PROTOCOL": regressions.OFFLINE["GIT_ALLOW_PROTOCOL"]}, False), ({"GIT_ALLOW_PROTOCOL": name}, True):
-                words = ["git", "-C", self.room, "-c", "remote.origin.url=/x", "-c", f"remote.origin.vcs={name}", "fetch", "origin"]
+                words = ["git", "-C", str(self.room), "-c", "remote.origin.url=/x", "-c", f"remote.origin.vcs={name}", "fetch", "origin"]
                 subprocess.run(words, stdout=subprocess.PIPE, stderr=subprocess.PIPE, env={**os.environ, "PATH": f"{self.room}:{os.environ['PATH']}", **environment})
                 self.assertEqual(trace.exists(), is_trapped, name)
             trace.unlink()
 
     @unittest.skipUnless(regressions.BOUND, "there is no shell")
-    def test_a_commit_that_grows_takes_no_memory(self):
+    def test_a_commit_that_grows_takes_no_memory(self) -> None:
         """A commit of some megabytes that is larger than the memory of git once it is read."""
         piece, count = b" " * 2**20, regressions.MOST_MEMORY // 2**20
         head = git(self.room, "cat-file", "commit", "HEAD").stdout
@@ -181,21 +185,22 @@ class Hostile(InAGitFolder):
         (self.room / ".git/HEAD").write_text(f"{name}\n", encoding="ascii")
         self.assertIsNone(committed_text(str(self.game)))
 
-    def test_the_time_is_that_of_all_answers(self):
+    def test_the_time_is_that_of_all_answers(self) -> None:
         self.write("git", f"#!/bin/sh\n{shutil.which('sleep')} 0.4\necho 5\n").chmod(0o755)
         with mock.patch.dict(regressions.os.environ, PATH=f"{self.room}:{os.environ['PATH']}"):
             for seconds, text in ((5, "5\n"), (0.6, None)):
                 with mock.patch.object(regressions, "SECONDS", seconds):
                     self.assertEqual(committed_text(str(self.game)), text)
 
-    def test_the_environment_names_no_other_repository(self):
+    def test_the_environment_names_no_other_repository(self) -> None:
         words = {"GIT_DIR": "/nowhere", "GIT_OBJECT_DIRECTORY": "/nowhere", "GIT_ALLOW_PROTOCOL": "ext"}
         before = dict(regressions.os.environ)
-        self.addCleanup(lambda: (regressions.os.environ.clear(), regressions.os.environ.update(before)))
+        self.addCleanup(regressions.os.environ.update, before)
+        self.addCleanup(regressions.os.environ.clear)
         regressions.os.environ.update(words)
         self.assertEqual(committed_text(str(self.game)), self.source)
 
-    def test_what_takes_long_or_is_too_long_is_left(self):
+    def test_what_takes_long_or_is_too_long_is_left(self) -> None:
         self.write("long.txt", "x" * (regressions.MOST_BYTES + 1))
         self.write("latin.txt", "x")
         (self.room / "latin.txt").write_bytes(b"\xe4")
@@ -205,7 +210,8 @@ class Hostile(InAGitFolder):
         slow = self.write("git", "#!/bin/sh\nsleep 100\n")
         slow.chmod(0o755)
         before, seconds = regressions.os.environ["PATH"], regressions.SECONDS
-        self.addCleanup(lambda: regressions.os.environ.update(PATH=before) or setattr(regressions, "SECONDS", seconds))
+        self.addCleanup(setattr, regressions, "SECONDS", seconds)
+        self.addCleanup(regressions.os.environ.__setitem__, "PATH", before)
         regressions.os.environ["PATH"], regressions.SECONDS = f"{self.room}:{before}", 0.2
         self.assertIsNone(committed_text(str(self.game)))
         regressions.os.environ["PATH"] = f".:{self.room}"

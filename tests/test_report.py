@@ -1,4 +1,6 @@
 """`saxtegun report`: the page is read back, and its levels are those of the lines. web/tests/report looks at it in a browser."""
+from __future__ import annotations
+
 import base64
 import hashlib
 import json
@@ -6,6 +8,7 @@ import os
 import re
 import unittest
 from html.parser import HTMLParser
+from typing import Any, Dict, Iterator, List
 
 from day import EXAMPLE, OnSessions, case, cases_in_rows
 from strangers import LETTERS, NAMES, sessions_and_lines
@@ -18,13 +21,16 @@ PAGE = (TOP / "web/report.html").read_text(encoding="utf-8")
 class Reader(HTMLParser):
     """The elements of a page, and what its scripts hold by their ids."""
 
-    def __init__(self, text):
+    def __init__(self, text: str) -> None:
         super().__init__(convert_charrefs=True)
-        self.tags, self.policy, self.blocks, self.open = [], "", {}, None
+        self.tags: List[Any] = []
+        self.policy = ""
+        self.blocks: Dict[str, str] = {}
+        self.open: Any = None
         self.feed(text)
         self.close()
 
-    def handle_starttag(self, tag, attrs):
+    def handle_starttag(self, tag: str, attrs: Any) -> None:
         words = dict(attrs)
         if tag == "meta" and words.get("http-equiv") == "Content-Security-Policy":
             self.policy = words["content"]
@@ -34,21 +40,21 @@ class Reader(HTMLParser):
         else:
             self.blocks[self.open] = ""
 
-    def handle_endtag(self, tag):
+    def handle_endtag(self, tag: str) -> None:
         self.open = None
 
-    def handle_data(self, data):
+    def handle_data(self, data: str) -> None:
         if self.open is not None:
             self.blocks[self.open] += data
 
-    def json(self, name):
+    def json(self, name: str) -> Any:
         return json.loads(self.blocks[name])
 
 
-def levels_shown(session, letters):
+def levels_shown(session: Any, letters: Any) -> Iterator[List[Any]]:
     """The levels of a session of the page, each as the names in its cells."""
 
-    def unpacked(level):
+    def unpacked(level: Any) -> List[int]:
         return [letters.index(it) if isinstance(it, str) else it for it in level["cells"]]
 
     cells = []
@@ -62,7 +68,7 @@ def levels_shown(session, letters):
         yield [session["labels"][label] for label in cells]
 
 
-def level_in(text):
+def level_in(text: str) -> List[Any]:
     """The names in the cells of a level text that the program wrote."""
     sets, cells = [], []
     for piece in text.replace("\n", "").split(",")[:-1]:
@@ -73,14 +79,15 @@ def level_in(text):
 
 
 class Report(OnSessions):
-    def page(self, *words):
+    def page(self, *words: object) -> Reader:
         answer = run("report", *words)
         self.assertEqual((answer.status, answer.errors), (0, ""))
         return Reader(answer.out)
 
-    def assert_shows(self, page, lines):
+    def assert_shows(self, page: Reader, lines: str) -> None:
         """Every frame of these lines is in the page."""
-        levels, letters = {}, page.json("index")["letters"]
+        levels: Dict[int, List[Any]] = {}
+        letters = page.json("index")["letters"]
         for line in map(json.loads, lines.split("\n")[:-1]):
             if "level" in line:
                 levels.setdefault(line["session"], []).append(level_in(line["level"]))
@@ -88,7 +95,7 @@ class Report(OnSessions):
             with self.subTest(session=number):
                 self.assertEqual(list(levels_shown(page.json(f"session-{number}"), letters)), wanted)
 
-    def test_the_example_is_shown_frame_by_frame(self):
+    def test_the_example_is_shown_frame_by_frame(self) -> None:
         page = self.page(EXAMPLE, self.lines)
         index, stale = page.json("index"), page.json("session-4")
         self.assertEqual([row[1] for row in index["sessions"]], ["passed"] * 4 + ["differs"])
@@ -101,7 +108,7 @@ class Report(OnSessions):
         crate = [it for it in page.json("game-0")["objects"] if it[0] == "crate"]
         self.assertEqual(crate, [["crate", 2, ["#eb8931"], "000000...00...00...000000"]])
 
-    def test_every_case_is_shown(self):
+    def test_every_case_is_shown(self) -> None:
         sessions, lines = cases_in_rows()
         page = self.page(self.write("sessions.json", sessions), self.write("lines", lines), "--order", "rows")
         self.assertEqual(len(page.json("index")["sessions"]), len(json.loads(sessions)))
@@ -112,7 +119,7 @@ class Report(OnSessions):
                 reached = {name for level in levels_shown(session, page.json("index")["letters"]) for names in level for name in names}
                 self.assertEqual(reached - drawn, set())
 
-    def test_a_page_says_where_it_comes_from_and_is_the_same_for_the_same_files(self):
+    def test_a_page_says_where_it_comes_from_and_is_the_same_for_the_same_files(self) -> None:
         page = self.page(EXAMPLE, self.lines, "--date", "26 November <b>")
         content = hashlib.sha256(EXAMPLE.read_bytes()).hexdigest()[:16]
         version = (TOP / "VERSION").read_text().strip()
@@ -120,7 +127,7 @@ class Report(OnSessions):
         self.assertEqual(page.json("index")["origin"], wanted)
         self.assertEqual(run("report", EXAMPLE, self.lines).out, run("report", EXAMPLE, self.lines).out)
 
-    def test_a_session_that_hung_shows_its_input_and_its_group(self):
+    def test_a_session_that_hung_shows_its_input_and_its_group(self) -> None:
         source = "OBJECTS\nBackground\nblack\nPlayer\nwhite\nLEGEND\n. = Background\np = Player\nCOLLISIONLAYERS\nBackground\nPlayer\nRULES\n[ Player ] -> [ > Player ]\n+ [ Player ] -> [ < Player ]\nWINCONDITIONS\nLEVELS\np.\n"
         sessions = self.write("sessions.json", json.dumps([["hung", [source, [3, 1, 1], "background:0,"]]]))
         frames = [{"at": at, "frame": at, "kind": "move" if at else "start", "level": f"background player:0,background:1,{chr(10)}", "session": 0} for at in (0, 1)]
@@ -130,7 +137,7 @@ class Report(OnSessions):
         self.assertIn(" at input 1 (left); it is the group of lines 13 to 14 (loop-limit)", session["told"])
         self.assertEqual([(number, is_here) for number, _, is_here in session["source"]], [(number, number in (13, 14)) for number in range(10, 18)])
 
-    def test_a_recorded_level_that_is_larger_than_any_that_is_played_is_not_shown(self):
+    def test_a_recorded_level_that_is_larger_than_any_that_is_played_is_not_shown(self) -> None:
         source = f"color_palette {'x' * 1000}\nOBJECTS\nBackground .\nblack\nPlayer p\nwhite\nLEGEND\nCOLLISIONLAYERS\nBackground\nPlayer\nRULES\nWINCONDITIONS\nLEVELS\np.\n"
         frame = {"at": 0, "frame": 0, "kind": "start", "level": "background player:0,background:1,\n", "session": 0}
         lines = self.write("lines", "".join(json.dumps(it) + "\n" for it in (frame, {"close": "differs", "frames": 1, "name": "large", "session": 0})))
@@ -140,7 +147,7 @@ class Report(OnSessions):
             self.assertEqual(([caption for caption, _ in session["sides"]], session["told"]), (captions, f"the recorded level has {count} cells, and the one that was reached 2"))
             self.assertEqual(max(map(len, page.json("index")["notes"])), len("a game: ") + 200 + len("..") + len("."))
 
-    def test_a_session_in_another_level_is_reported_as_such(self):
+    def test_a_session_in_another_level_is_reported_as_such(self) -> None:
         lines = self.lines.read_text(encoding="utf-8").split("\n")
         entries = json.loads(EXAMPLE.read_text(encoding="utf-8"))
         # the first session is cut behind its first input, and is still in the first level
@@ -149,12 +156,12 @@ class Report(OnSessions):
         page = self.page(self.write("sessions.json", json.dumps(entries)), self.write("lines", "\n".join([*lines[:2], json.dumps(close), ""])))
         self.assertEqual(page.json("session-0")["told"], "still in level 1, and the recorded level looks like level 2")
 
-    def test_a_refused_source_is_shown_by_its_line_and_its_neighbours(self):
+    def test_a_refused_source_is_shown_by_its_line_and_its_neighbours(self) -> None:
         session = self.page(*case("the-word-random-in-a-rule")).json("session-0")
         self.assertEqual([it[0] for it in session["source"]], list(range(23, 30)))
         self.assertEqual(session["source"][3], [26, "random [ Player ] -> [ Player ]", True])
 
-    def test_lines_that_a_cause_is_about_are_in_the_page_once_for_each_source(self):
+    def test_lines_that_a_cause_is_about_are_in_the_page_once_for_each_source(self) -> None:
         source = json.loads(case("the-word-random-in-a-rule")[0].read_text(encoding="utf-8"))[0][1][0]
         sources = [source, f"(another)\n{source}", source, f"(another)\n{source}", source]
         causes = ["OutsideProfile:26", "OutsideProfile:27", "OutsideProfile:26", "OutsideProfile:27", "OutsideProfile:5"]
@@ -164,7 +171,7 @@ class Report(OnSessions):
         self.assertEqual([it if isinstance(it, int) else [row[0] for row in it] for it in shown], [list(range(23, 30)), list(range(24, 31)), 0, 1, list(range(2, 9))])
         self.assertEqual(shown[0][3], [26, "random [ Player ] -> [ Player ]", True])
 
-    def test_colours_and_sprites_are_read_as_the_language_has_them(self):
+    def test_colours_and_sprites_are_read_as_the_language_has_them(self) -> None:
         source = (
             "color_palette gameboycolour\nbackground_color (not here) #123\nOBJECTS\nBackground\n#AbC transparent DarkGray\n01201\n.....\n00000\n00000\n00000\n"
             "Player (a p) P\nochre\n(x)\nLEGEND\nThing = Background or Player\nCOLLISIONLAYERS\nThing\n, Player\nRULES\nLEVELS\np"
@@ -179,7 +186,7 @@ class Report(OnSessions):
         self.assertIn("its palette gameboycolour is drawn by the colours of arnecolors", notes)
         self.assertIn("its colour ochre is drawn as grey", notes)
 
-    def test_no_script_of_a_game_is_in_the_page(self):
+    def test_no_script_of_a_game_is_in_the_page(self) -> None:
         sessions, lines = sessions_and_lines(NAMES, LETTERS)
         page = self.page(self.write("sessions.json", sessions), self.write("lines", lines))
         self.assertEqual([row[0] for row in page.json("index")["sessions"]][::2], [*NAMES, LETTERS])
@@ -191,11 +198,11 @@ class Report(OnSessions):
             self.assertIn(f"{name}-src 'sha256-{digest}'", page.policy)
         self.assertTrue(page.policy.startswith("default-src 'none'; "))
 
-    def test_the_script_makes_no_elements_of_texts(self):
+    def test_the_script_makes_no_elements_of_texts(self) -> None:
         script = script_of("report.mjs")
         self.assertIsNone(re.search(r"innerHTML|outerHTML|insertAdjacent|document\.write|eval|Function\(|setAttribute\(.on|fetch|XMLHttp|import", script))
 
-    def test_without_lines_the_sessions_are_played(self):
+    def test_without_lines_the_sessions_are_played(self) -> None:
         played = self.write("program", f'#!/bin/sh\n[ "$1 $2" = "--order columns" ] || {{ echo "open-fault" >&2; exit 2; }}\ncat {self.lines}\nexit 1\n')
         played.chmod(0o755)
         os.environ["SAXTEGUN_PROGRAM"], before = str(played), os.environ.get("SAXTEGUN_PROGRAM")

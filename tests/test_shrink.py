@@ -1,13 +1,16 @@
 """`saxtegun shrink`: of a long session on which two small engines part the smallest is left, which was worked out by hand."""
+from __future__ import annotations
+
 import json
 import os
 import unittest
 from pathlib import Path
+from typing import Any, Iterator, List, Sequence, Set, Tuple, Union
 from unittest import mock
 
 from day import OnSessions
 import tool  # puts the package on the path
-from tool import PROGRAM, plays, run
+from tool import PROGRAM, Answer, plays, run
 from saxtegun.lines import Run
 from saxtegun.playing import Engine
 from saxtegun.reductions import STAGES, of_columns, of_inputs, of_levels, of_lines, of_loops, of_objects
@@ -101,7 +104,7 @@ INPUTS = [2, 2, 1, 0, 3, 2, 0, 3, 3, 1, "undo", "undo", 3, 1, "undo", 0, 4]
 ENTRY = Entry(0, "a", "", [], "", 0, {}, False)
 
 
-def lines_left(source):
+def lines_left(source: str) -> List[str]:
     """The lines of a source that aren't empty, with names of one layer in the order of the alphabet."""
     return [" ".join(sorted(it.replace(",", " ").split())) if "," in it else it for it in source.split("\n") if it]
 
@@ -109,23 +112,23 @@ def lines_left(source):
 class OnAYard(OnSessions):
     """Tests on a long session of a yard, with two engines of which the second has a bug."""
 
-    def setUp(self):
+    def setUp(self) -> None:
         super().setUp()
         self.one, self.other = (self.engine(name, has_bug) for name, has_bug in (("one", False), ("other", True)))
         self.sessions = self.write("sessions.json", json.dumps([["a long day in the yard", [SOURCE, INPUTS, "", 1]], ["idle", [SOURCE, [], "", 0]]]))
 
-    def engine(self, name, has_bug):
+    def engine(self, name: str, has_bug: Union[bool, str]) -> Path:
         tests = Path(__file__).resolve().parent
         path = self.write(name, f"#!/usr/bin/env python3\nimport sys\nsys.dont_write_bytecode = True\nsys.path.insert(0, {str(tests)!r})\nfrom stand_in import main\nmain({has_bug})\n")
         path.chmod(0o755)
         return path
 
-    def shrink(self, *words):
+    def shrink(self, *words: object) -> Answer:
         return run("shrink", self.one, self.other, self.sessions, *words)
 
 
 class Shrink(OnAYard):
-    def test_the_smallest_session_on_which_they_part_is_written_as_a_case(self):
+    def test_the_smallest_session_on_which_they_part_is_written_as_a_case(self) -> None:
         answer = self.shrink("a long day*", self.room / "case")
         self.assertEqual((answer.status, answer.errors), (0, ""))
         files = {it.name: it.read_text(encoding="utf-8") for it in (self.room / "case").iterdir()}
@@ -138,19 +141,19 @@ class Shrink(OnAYard):
         self.assertIn("frame 2, after input 1 (undo)\n", answer.out)
         self.assertIn("from 17 inputs and", answer.out)
 
-    def test_programs_that_show_the_same_have_nothing_to_shrink(self):
+    def test_programs_that_show_the_same_have_nothing_to_shrink(self) -> None:
         answer = self.shrink("idle")
         self.assertEqual((answer.status, answer.errors), (1, ""))
         self.assertIn("show the same", answer.out)
 
-    def test_what_can_not_be_shrunk_is_refused(self):
+    def test_what_can_not_be_shrunk_is_refused(self) -> None:
         (self.room / "there").mkdir()
         self.assert_refused(self.shrink("a long day*", self.room / "there"), "is there already")
         self.assert_refused(self.shrink("nobody", self.room / "case"), "has no session named 'nobody'")
         self.assert_refused(run("shrink", self.one, self.room / "none", self.sessions, "idle"), "there is no program at")
         self.assertFalse((self.room / "case").exists())
 
-    def test_a_case_takes_another_name_where_its_own_is_there_meanwhile(self):
+    def test_a_case_takes_another_name_where_its_own_is_there_meanwhile(self) -> None:
         """The second program makes the folder once it is called, as another call would."""
         case = self.room / "case"
         other = self.engine("maker", f"__import__('os').makedirs({str(case)!r}, exist_ok=True) is None")
@@ -160,7 +163,7 @@ class Shrink(OnAYard):
         self.assertEqual((list(case.iterdir()), (self.room / "case-2/status").read_text()), ([], "0\n"))
         self.assertEqual(list(self.room.glob(".saxtegun-*")), [])
 
-    def test_a_case_is_written_over_nothing(self):
+    def test_a_case_is_written_over_nothing(self) -> None:
         """The first names are of a full folder, an empty one, a file and a link to nothing; and into one that was free another writes first."""
         names = [str(self.room / name) for name in ("c", "c-2", "c-3", "c-4", "c-5", "c-6")]
         self.room.joinpath("c").mkdir()
@@ -170,7 +173,7 @@ class Shrink(OnAYard):
         self.room.joinpath("c-4").symlink_to("nothing")
         rename = os.rename
 
-        def late(room, name):
+        def late(room: str, name: str) -> None:
             if name == names[4]:
                 self.write("c-5/strange", "")
             rename(room, name)
@@ -181,14 +184,14 @@ class Shrink(OnAYard):
         self.assertEqual(write_case(f"{self.room}/d/", {"status": b""}), f"{self.room}/d/")
         self.assertEqual(write_case(f"{self.room}/d/", {"status": b""}), f"{self.room}/d-2")
 
-    def test_a_program_that_shows_something_else_each_time_makes_no_case(self):
+    def test_a_program_that_shows_something_else_each_time_makes_no_case(self) -> None:
         """It has the bug in its first call, and then in none."""
         flaky = self.engine("flaky", "(lambda log: log.write('x') and log.tell() == 1)(open(__file__ + '.log', 'a'))")
         answer = run("shrink", self.one, flaky, self.sessions, "a long day*", self.room / "case")
         self.assert_refused(answer, "no longer parts as it did before: a program doesn't show the same each time")
         self.assertFalse((self.room / "case").exists())
 
-    def test_what_tells_no_stages_keeps_no_rules(self):
+    def test_what_tells_no_stages_keeps_no_rules(self) -> None:
         teller = self.write("teller", "#!/bin/sh\necho 'no stages' >&2\nexit 2\n")
         teller.chmod(0o755)
         answer = self.shrink("a long day*", self.room / "case", "--stages", teller, teller)
@@ -199,16 +202,16 @@ class Shrink(OnAYard):
 class Counting(Programs):
     """Programs that part on the sessions whose names begin with x, and count what they play."""
 
-    played = []
+    played: List[int] = []
 
-    def pairs(self, entries):
+    def pairs(self, entries: Sequence[Entry]) -> Iterator[Tuple[Run, Run]]:
         self.played.append(len(entries))
         for it in entries:
             yield Run(0, it.name, "passed", None, []), Run(0, it.name, "differs" if it.name[0] == "x" else "passed", None, [])
 
 
 class First(unittest.TestCase):
-    def test_the_first_that_parts_is_found_by_playing_few_behind_it(self):
+    def test_the_first_that_parts_is_found_by_playing_few_behind_it(self) -> None:
         """Each may take all the time that a session has, where a program hangs."""
         for count, divergence, wanted in ((1000, 0, [1]), (1000, 5, [1, 2, 4]), (5, 5, [1, 2, 2])):
             with self.subTest(divergence):
@@ -218,15 +221,16 @@ class First(unittest.TestCase):
                 self.assertEqual((found is not None, Counting.played), (divergence < count, wanted))
 
 
-    def test_what_each_lets_go_may_be_kept_by_all_together(self):
+    def test_what_each_lets_go_may_be_kept_by_all_together(self) -> None:
         """As where a program doesn't show the same each time."""
         shrinking = Shrinking(Programs(Engine(), Engine()), ENTRY, (), lambda *_: None)
-        for answers, wanted in (([[0, 1], []], {5}), ([[0, 1], [0]], {5, 1}), ([[0, 1], [0, 1]], {5, 1, 2}), ([[], []], {5})):
-            with mock.patch.object(Shrinking, "places_that_part", side_effect=map(iter, answers)), mock.patch("saxtegun.shrinking.fails", return_value=False):
+        kept: List[Tuple[List[List[int]], Set[int]]] = [([[0, 1], []], {5}), ([[0, 1], [0]], {5, 1}), ([[0, 1], [0, 1]], {5, 1, 2}), ([[], []], {5})]
+        for answers, wanted in kept:
+            with mock.patch.object(Shrinking, "places_that_part", side_effect=[iter(it) for it in answers]), mock.patch("saxtegun.shrinking.fails", return_value=False):
                 self.assertEqual(shrinking.gone_with([{1}, {2}], {5}, lambda gone: ENTRY), wanted)
 
 
-    def test_no_stage_is_made_once_its_time_is_over(self):
+    def test_no_stage_is_made_once_its_time_is_over(self) -> None:
         """A stage looks through all of a source, which may be long."""
         stage = mock.Mock(return_value=(0, lambda gone: ENTRY))
         for end, calls in ((-1.0, 0), (float("inf"), 1)):
@@ -237,33 +241,33 @@ class First(unittest.TestCase):
 class Smaller(unittest.TestCase):
     """What each stage leaves out."""
 
-    def without(self, stage, source, *left, **words):
+    def without(self, stage: Any, source: str, *left: int, **words: Any) -> Any:
         count, without = stage(ENTRY._replace(source=source, **words))
         return count, without(set(left))
 
-    def test_inputs_and_levels_go_one_by_one(self):
+    def test_inputs_and_levels_go_one_by_one(self) -> None:
         self.assertEqual(self.without(of_inputs, "", 0, 2, inputs=[1, 2, 3])[1].inputs, [2])
         count, entry = self.without(of_levels, "LEVELS\np\n\nmessage (x\nq\nq\n", 0, 1, index=2)
         self.assertEqual((count, entry.source, entry.index), (3, "LEVELS\n\nq\nq\n", 0))
 
-    def test_the_next_rule_begins_a_group_whose_first_is_gone(self):
+    def test_the_next_rule_begins_a_group_whose_first_is_gone(self) -> None:
         rules = "RULES\nlate [ a ] -> [ ]\n + [ b ] -> [ ]\n+ [ c ] -> [ ]\n[ d ] -> [ ]\n"
         self.assertEqual(self.without(of_lines("rules"), rules, 0)[1].source, "RULES\n   [ b ] -> [ ]\n+ [ c ] -> [ ]\n[ d ] -> [ ]\n")
         self.assertEqual(self.without(of_lines("rules"), rules, 0, 1)[1].source, "RULES\n  [ c ] -> [ ]\n[ d ] -> [ ]\n")
         self.assertEqual(self.without(of_lines("rules"), rules, 1)[1].source, "RULES\nlate [ a ] -> [ ]\n+ [ c ] -> [ ]\n[ d ] -> [ ]\n")
 
-    def test_a_loop_goes_with_both_its_words(self):
+    def test_a_loop_goes_with_both_its_words(self) -> None:
         self.assertEqual(self.without(of_loops, "RULES\nstartLoop\na\nendloop\n", 0), (1, ENTRY._replace(source="RULES\na\n")))
 
-    def test_a_column_goes_from_each_row(self):
+    def test_a_column_goes_from_each_row(self) -> None:
         self.assertEqual(self.without(of_columns, "LEVELS\nabc\nde\n\nf\n", 1), (4, ENTRY._replace(source="LEVELS\nac\nd\n\nf\n")))
 
-    def test_an_object_goes_from_all_sections(self):
+    def test_an_object_goes_from_all_sections(self) -> None:
         source = "OBJECTS\nBackground .\nred\nWall W #\nred\n0\nGem\nred\nLEGEND\n= = Wall\nT = Gem or Wall\n@ = Wall and Gem\nCOLLISIONLAYERS\nBackground\nWall, Gem\nWall\nLEVELS\n.#=\n"
         left = "OBJECTS\nBackground .\nred\nGem\nred\nLEGEND\nT = Gem\n@ = Gem\nCOLLISIONLAYERS\nBackground\nGem\nLEVELS\n...\n"
         self.assertEqual(self.without(of_objects, source, 1)[1].source, left)
 
-    def test_no_stage_fails_on_what_is_no_game(self):
+    def test_no_stage_fails_on_what_is_no_game(self) -> None:
         for source in ("", "LEVELS", "OBJECTS\nx", "LEGEND\n=\n= =\na = a\nCOLLISIONLAYERS\n,\nLEVELS\nmessage\n(", SOURCE[:500]):
             for stage in STAGES:
                 count, without = stage(ENTRY._replace(source=source, inputs=[1]))
@@ -273,7 +277,7 @@ class Smaller(unittest.TestCase):
 
 @plays
 class DayOfShrinking(OnAYard):
-    def test_a_wrapper_that_spoils_undo_is_reported_by_two_inputs(self):
+    def test_a_wrapper_that_spoils_undo_is_reported_by_two_inputs(self) -> None:
         other = self.write("spoilt", f"#!/bin/sh\n{PROGRAM} \"$@\" | sed 's/\"kind\":\"undo\"/\"kind\":\"restart\"/'\nexit 1\n")
         other.chmod(0o755)
         answer = run("shrink", PROGRAM, other, self.sessions, "a long day*", self.room / "case")

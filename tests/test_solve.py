@@ -1,4 +1,6 @@
 """`saxtegun solve`, `saxtegun mend` and `saxtegun test --solvable`, on the example's game, beside a search of these tests' own that knows only how crates are pushed."""
+from __future__ import annotations
+
 import json
 import os
 import shutil
@@ -10,12 +12,13 @@ import unittest
 from argparse import Namespace
 from collections import deque
 from pathlib import Path
+from typing import Any, FrozenSet, List, Optional, Sequence, Tuple
 from unittest import mock
 
 from day import STEPS
 from test_processes import hear_signals
 from test_test import OfAGame
-from tool import TOP, environment, plays, run
+from tool import TOP, Answer, environment, plays, run
 from saxtegun import mending, solving
 from saxtegun.commands import Refused
 from saxtegun.lines import UNANSWERED, Run
@@ -34,15 +37,19 @@ SHORTEST = (33, 16)
 MICROBAN, KNOWN, LARGE = TOP / "tests/microban.txt", (33, 16, 41, 23, 25, 107, 26, 97, 30, 89), 7
 DEAD = "#####\n#*..#\n#P.O#\n#####\n"
 
+Cell = Tuple[int, int]
+# The walls, the targets, the crates and the player.
+Level = Tuple[FrozenSet[Cell], FrozenSet[Cell], FrozenSet[Cell], Cell]
 
-def read(drawing):
+
+def read(drawing: str) -> Level:
     """A level of crates: its walls, its targets, its crates and its player."""
     at = {(x, y): letter for y, row in enumerate(drawing.strip("\n").split("\n")) for x, letter in enumerate(row)}
     places = {letters: frozenset(it for it, letter in at.items() if letter in letters) for letters in ("#", "O@", "*@", "P")}
     return places["#"], places["O@"], places["*@"], min(places["P"])
 
 
-def pushed(level, input):
+def pushed(level: Level, input: int) -> Level:
     """The level behind a press. One push of many, or none."""
     walls, targets, crates, (x, y) = level
     right, down = STEPS[input]
@@ -52,11 +59,11 @@ def pushed(level, input):
     return walls, targets, crates - {to} | {beyond} if to in crates else crates, to
 
 
-def is_won(level):
+def is_won(level: Level) -> bool:
     return level[1] <= level[2]
 
 
-def shortest(level):
+def shortest(level: Level) -> Optional[int]:
     """How many presses win at least; None where none do."""
     seen, left = {level}, deque([(level, 0)])
     while left:
@@ -71,29 +78,29 @@ def shortest(level):
     return None
 
 
-def behind(level, inputs):
+def behind(level: Level, inputs: Sequence[int]) -> Level:
     for it in inputs:
         level = pushed(level, it)
     return level
 
 
-def wins_last(level, inputs):
+def wins_last(level: Level, inputs: Sequence[int]) -> bool:
     """Whether the last of these presses wins, and none before."""
     return [is_won(behind(level, inputs[: count + 1])) for count in range(len(inputs))] == [False] * (len(inputs) - 1) + [True]
 
 
-def numbers_of(line):
+def numbers_of(line: str) -> List[int]:
     return [WORDS.index(it) for it in line.split()]
 
 
 class OfLevels(OfAGame):
     """The example's game, and its two levels as they are drawn."""
 
-    def setUp(self):
+    def setUp(self) -> None:
         super().setUp()
         self.first, self.second = self.source.partition("LEVELS\n=======\n")[2].strip("\n").split("\n\n")
 
-    def with_level(self, number, drawing):
+    def with_level(self, number: int, drawing: str) -> Path:
         """The game with another level in the place of one of its two."""
         levels = [self.first, self.second]
         levels[number] = drawing.strip("\n")
@@ -103,7 +110,7 @@ class OfLevels(OfAGame):
 
 @plays
 class DayOfSolving(OfLevels):
-    def test_each_level_has_a_shortest_solution(self):
+    def test_each_level_has_a_shortest_solution(self) -> None:
         answer = run("solve", self.game)
         lines = answer.out.splitlines()
         self.assertEqual((answer.status, len(lines), lines[-1]), (0, 5, "2 solved, 0 can't be won, 0 not known"))
@@ -113,7 +120,7 @@ class DayOfSolving(OfLevels):
             self.assertEqual((len(inputs), shortest(read(drawing))), (count, count))
             self.assertTrue(wins_last(read(drawing), inputs))
 
-    def test_published_levels_are_won_in_as_few_moves_as_is_known(self):
+    def test_published_levels_are_won_in_as_few_moves_as_is_known(self) -> None:
         letters = str.maketrans({" ": ".", ".": "O", "$": "*", "*": "@", "@": "P"})
         drawings = [it.rstrip("\n").partition("\n")[2].split("\n") for it in MICROBAN.read_text(encoding="utf-8").split("; ")[2:]]
         self.assertEqual(len(drawings), len(KNOWN))
@@ -125,7 +132,7 @@ class DayOfSolving(OfLevels):
                 self.assertEqual(answer.out.splitlines()[0], f"level 1: solved in {count} presses, and in no fewer")
                 self.assertTrue(wins_last(read(drawing), numbers_of(answer.out.splitlines()[1])), number)
 
-    def test_solutions_are_saved_as_recordings_that_pass(self):
+    def test_solutions_are_saved_as_recordings_that_pass(self) -> None:
         saved = self.room / "solved.json"
         self.assertEqual(run("solve", self.game, "--save", saved).status, 0)
         entries = json.loads(saved.read_text(encoding="utf-8"))
@@ -136,7 +143,7 @@ class DayOfSolving(OfLevels):
         self.assertIn("solve: level 2, solved in 16 presses: it is in ", again.errors)
         self.assertEqual(json.loads(saved.read_text(encoding="utf-8")), entries)
 
-    def test_a_level_that_can_not_be_won_and_one_of_which_nothing_is_known(self):
+    def test_a_level_that_can_not_be_won_and_one_of_which_nothing_is_known(self) -> None:
         self.assertIsNone(shortest(read(DEAD)))
         game = self.with_level(1, DEAD)
         answer = run("solve", game, "--level", "2")
@@ -145,7 +152,7 @@ class DayOfSolving(OfLevels):
         self.assertEqual((answer.status, answer.out.splitlines()[-1]), (2, "0 solved, 1 can't be won, 1 not known"))
         self.assertRegex(answer.out, "^level 1: not known: no list of up to [0-9]+ press(es)? wins it, and longer ones lead to more than 10 levels of play, as many as are kept")
 
-    def test_what_can_not_be_searched_is_refused(self):
+    def test_what_can_not_be_searched_is_refused(self) -> None:
         for words, said in (
             (("--level", "3"), "has 2 levels, but no level 3"),
             (("--level", "0"), "must be the number of a level"),
@@ -159,7 +166,7 @@ class DayOfSolving(OfLevels):
         self.assertEqual((answer.status, answer.out), (2, ""))
         self.assertIn("Unknown", answer.errors)
 
-    def test_levels_of_a_suite_must_be_solvable(self):
+    def test_levels_of_a_suite_must_be_solvable(self) -> None:
         answer = run("test", self.game, self.write_entries(self.entries[:4]), "--solvable", "--quiet")
         self.assertEqual(answer.status, 0, answer.out)
         game = self.with_level(1, DEAD)
@@ -189,19 +196,19 @@ class DayOfMending(OfLevels):
     # A press up loses it.
     LOSING = "#####\n#...#\n#.*.#\n#OP.#\n#####"
 
-    def commit(self):
+    def commit(self) -> None:
         if shutil.which("git") is None:
             self.skipTest("there is no git")
         for words in (["init", "--quiet"], ["add", "--all"], ["-c", "user.name=a", "-c", "user.email=a@example", "commit", "--quiet", "--message", "a text"]):
             subprocess.run(["git", "-C", self.room, *words], check=True, stdout=subprocess.DEVNULL)
 
-    def told(self, answer, number):
+    def told(self, answer: Answer, number: int) -> Tuple[str, List[int]]:
         """What is told of a session: how many inputs stay, and the presses that follow."""
         lines = answer.out.splitlines()
         place = next(at for at, it in enumerate(lines) if it.startswith(f"session {number}, "))
         return lines[place].partition(": mended: ")[2], numbers_of(lines[place + 1])
 
-    def test_broken_recordings_are_mended_by_one_call(self):
+    def test_broken_recordings_are_mended_by_one_call(self) -> None:
         self.commit()
         game, before = self.with_level(1, self.WALLED), self.recordings.read_bytes()
         shown = run("mend", game, self.recordings)
@@ -221,15 +228,16 @@ class DayOfMending(OfLevels):
             self.assertTrue(all(shortest(behind(read(drawing), old[skipped:more])) is None for more in range(kept + 1, len(old) + 1)))
         self.assertEqual(run("test", game, self.recordings, "--filter", "*level*", "--solved", "*level*").status, 0)
 
-    def test_the_longest_beginning_stays_from_which_the_level_can_be_won(self):
+    def test_the_longest_beginning_stays_from_which_the_level_can_be_won(self) -> None:
         """Behind presses that lose the level."""
-        lost, inputs = None, self.entries[1][1][1]
+        lost: List[int] = []
+        inputs = self.entries[1][1][1]
         for count in range(len(inputs)):
             for press in STEPS:
                 tried = [*inputs[:count], press, *inputs[count:]]
                 if shortest(behind(read(self.second), tried)) is None and not any(is_won(behind(read(self.second), tried[:it])) for it in range(len(tried) + 1)):
                     lost = tried
-        self.assertIsNotNone(lost)
+        self.assertNotEqual(lost, [])
         kept = max(it for it in range(len(lost) + 1) if shortest(behind(read(self.second), lost[:it])) is not None)
         self.assertLess(kept, len(lost))
         entry = ["lost", ["", lost, self.entries[1][1][2], 1], "solved"]
@@ -243,7 +251,7 @@ class DayOfMending(OfLevels):
         self.assertEqual((name, source, inputs, index, demand), ("lost", "", [*lost[:kept], *presses], 1, "solved"))
         self.assertEqual(run("test", self.game, recordings).status, 0)
 
-    def test_what_was_taken_back_may_win_again(self):
+    def test_what_was_taken_back_may_win_again(self) -> None:
         """A level is lost, and then the press is taken back: all inputs stay."""
         lost = behind(read(self.LOSING), [0])
         self.assertIsNone(shortest(lost))
@@ -256,7 +264,7 @@ class DayOfMending(OfLevels):
         self.assertTrue(wins_last(read(self.LOSING), presses))
         self.assertEqual(run("test", game, recordings).status, 0)
 
-    def test_a_recording_that_is_to_win_no_level_is_mended_only_by_name(self):
+    def test_a_recording_that_is_to_win_no_level_is_mended_only_by_name(self) -> None:
         answer = run("mend", self.game, self.recordings, "--in-place")
         self.assertEqual((answer.status, json.loads(self.recordings.read_text(encoding="utf-8"))), (1, self.entries))
         self.assertIn("session 4, a recording that has gone stale: differs: not mended: whether it is to win a level isn't known: --only NAME has it mended", answer.out)
@@ -267,7 +275,7 @@ class DayOfMending(OfLevels):
         self.assertTrue(wins_last(read(self.first), entries[4][1][1]))
         self.assertEqual(run("test", self.game, self.recordings).status, 0)
 
-    def test_what_can_not_be_mended_stays(self):
+    def test_what_can_not_be_mended_stays(self) -> None:
         self.commit()
         answer = run("mend", self.with_level(1, DEAD), self.recordings, "--in-place")
         self.assertEqual((answer.status, json.loads(self.recordings.read_text(encoding="utf-8"))), (1, self.entries))
@@ -304,14 +312,14 @@ call()
 class DayOfSearchesThatAreLeft(OfLevels):
     """What is found before a search is ended is kept."""
 
-    def command(self, most, *words, **streams):
+    def command(self, most: int, *words: object, **streams: Any) -> subprocess.Popen[bytes]:
         folder = self.room / "temp"
         folder.mkdir(exist_ok=True)
         command = [sys.executable, "-B", "-c", ASKED, str(TOP / "python"), str(most), str(self.room / "number"), *map(str, words)]
         streams = {"stdout": subprocess.DEVNULL, "stderr": subprocess.PIPE, **streams}
         return subprocess.Popen(command, cwd=self.room, env={**environment(), "TMPDIR": str(folder)}, stdin=subprocess.DEVNULL, preexec_fn=hear_signals, **streams)
 
-    def end(self, ran, number):
+    def end(self, ran: subprocess.Popen[bytes], number: int) -> None:
         """Ends the command as it waits for a solution."""
         for _ in range(6000):
             if (self.room / "number").exists() and (self.room / "number").read_text().strip():
@@ -327,7 +335,7 @@ class DayOfSearchesThatAreLeft(OfLevels):
         (self.room / "number").unlink()
         self.assertEqual([*(self.room / "temp").iterdir(), *self.room.glob(".saxtegun-*")], [])
 
-    def test_a_signal_lets_what_is_mended_be_written(self):
+    def test_a_signal_lets_what_is_mended_be_written(self) -> None:
         game = self.with_level(1, DayOfMending.WALLED)
         for number in (signal.SIGTERM, signal.SIGHUP, signal.SIGINT):
             recordings = self.write_entries(self.entries)
@@ -338,14 +346,14 @@ class DayOfSearchesThatAreLeft(OfLevels):
                 self.assertTrue(wins_last(read(DayOfMending.WALLED), entries[0][1][1][SHORTEST[0] :]))
                 self.assertEqual(run("test", game, recordings, "--filter", "both*", "--solved", "both*").status, 0)
 
-    def test_a_signal_leaves_what_is_saved(self):
+    def test_a_signal_leaves_what_is_saved(self) -> None:
         for number in (signal.SIGTERM, signal.SIGHUP, signal.SIGINT):
             saved = self.room / f"saved {int(number)}.json"
             with self.subTest(number), self.command(1, "solve", self.game, "--save", saved) as ran:
                 self.end(ran, number)
                 self.assertEqual([name for name, _ in json.loads(saved.read_text(encoding="utf-8"))], ["level 1, solved in 33 presses"])
 
-    def test_what_is_found_is_kept_where_nobody_reads_of_it(self):
+    def test_what_is_found_is_kept_where_nobody_reads_of_it(self) -> None:
         saved, recordings = self.room / "saved.json", self.recordings
         game = self.with_level(1, DayOfMending.WALLED)
         for words in (("solve", self.game, "--level", 1, "--save", saved), ("mend", game, recordings, "--only", "*level*", "--in-place")):
@@ -360,7 +368,7 @@ class DayOfSearchesThatAreLeft(OfLevels):
         self.assertNotEqual(entries[0], self.entries[0])
         self.assertEqual(entries[1:], self.entries[1:])
 
-    def test_what_is_read_is_not_written_to(self):
+    def test_what_is_read_is_not_written_to(self) -> None:
         for words, file in ((("solve", self.game), self.game), (("mend", self.game, self.recordings), self.recordings), (("solve", self.game, "--save", self.recordings), self.recordings)):
             before = file.read_bytes()
             with open(file, "ab") as output, self.subTest(words[0]), self.command(9, *words, stdout=output) as ran:
@@ -368,7 +376,7 @@ class DayOfSearchesThatAreLeft(OfLevels):
                 self.assertEqual((ran.returncode, file.read_bytes()), (2, before))
                 self.assertIn(b"which is read", errors)
 
-    def test_a_game_that_does_not_begin_takes_no_longer_than_there_is_time(self):
+    def test_a_game_that_does_not_begin_takes_no_longer_than_there_is_time(self) -> None:
         program = self.write("program", "#!/bin/sh\nexec sleep 1000\n")
         program.chmod(0o755)
         for words in (("solve", self.game), ("mend", self.game, self.recordings, "--timeout", 1, "--only", "both*")):
@@ -406,10 +414,10 @@ LEVELS
 p.
 """
 
-    def ticking(self):
+    def ticking(self) -> Path:
         return self.write("game.txt", f"realtime_interval 1\n{self.source}")
 
-    def test_a_game_with_a_clock_is_solved_by_its_ticks_as_recorded(self):
+    def test_a_game_with_a_clock_is_solved_by_its_ticks_as_recorded(self) -> None:
         game, saved = self.ticking(), self.room / "saved.json"
         answer = run("solve", game, "--level", 2)
         self.assertEqual((answer.status, answer.out), (2, ""))
@@ -419,7 +427,7 @@ p.
         self.assertIn("played without realtime_interval: ticks as recorded", answer.errors)
         self.assertEqual(run("test", game, saved, "--solved", "*", "--ticks-as-recorded").status, 0)
 
-    def test_a_game_with_a_clock_is_solvable_and_mended_by_its_ticks_as_recorded(self):
+    def test_a_game_with_a_clock_is_solvable_and_mended_by_its_ticks_as_recorded(self) -> None:
         game, recordings = self.ticking(), self.write_entries([["lost", ["", [], self.entries[1][1][2], 1], "solved"]])
         self.assertEqual(run("mend", game, recordings, "--in-place").status, 2)
         answer = run("test", game, recordings, "--solvable", "--quiet")
@@ -430,7 +438,7 @@ p.
         answer = run("test", game, recordings, "--solvable", "--ticks-as-recorded", "--quiet")
         self.assertEqual((answer.status, answer.out.splitlines()[-1]), (0, "1 session: 1 passed, 0 differ, 0 stopped, 0 refused; 1 solved, 0 solved in part, 0 not solved; played without realtime_interval: ticks as recorded"))
 
-    def test_a_key_that_is_switched_off_solves_nothing(self):
+    def test_a_key_that_is_switched_off_solves_nothing(self) -> None:
         recordings = self.write_entries([["none", ["", [], "", 0], "solved"]])
         self.assertEqual(run("solve", self.write("game.txt", self.ACTION)).out, "level 1: solved in 1 press, and in no fewer\n    action\n1 solved, 0 can't be won, 0 not known\n")
         game, saved = self.write("game.txt", f"noaction\n{self.ACTION}"), self.room / "saved.json"
@@ -446,7 +454,7 @@ p.
         # where the fewest presses have none such it counts for nothing
         self.assertEqual(run("solve", self.write("game.txt", f"noaction\n{self.source}"), "--level", 2).status, 0)
 
-    def test_sessions_that_are_not_answered_leave_levels_that_are(self):
+    def test_sessions_that_are_not_answered_leave_levels_that_are(self) -> None:
         """A program that hears of no session named slow."""
         program = self.write("program", f"#!/bin/sh\nfor it; do :; done\ngrep -q '\"slow\"' \"$it\" && exec sleep 1000\nexec '{environment()['SAXTEGUN_PROGRAM']}' \"$@\"\n")
         program.chmod(0o755)
@@ -463,7 +471,7 @@ p.
 
 
 class AnswersOfASolver(unittest.TestCase):
-    def test_a_line_is_an_answer(self):
+    def test_a_line_is_an_answer(self) -> None:
         for text, wanted in (
             ({"solved": [0, 1, 2, 3, 4]}, Solved([0, 1, 2, 3, 4])),
             ({"unsolvable": True}, Unsolvable()),
@@ -474,12 +482,12 @@ class AnswersOfASolver(unittest.TestCase):
         ):
             self.assertEqual(answer_in(json.dumps({"session": 0, "solution": text}).encode()), wanted)
 
-    def test_another_line_is_none(self):
+    def test_another_line_is_none(self) -> None:
         for text in (b"", b"{}", b"[]", b'{"solution":{}}', b'{"solution":{"solved":[5]}}', b'{"solution":{"solved":[true]}}', b'{"solution":{"solved":[0],"over":true}}', b'{"solution":{"other":1}}', b'{"solution":{"outOfBounds":{"levels":Infinity,"inputs":1}}}', b"\xff", b"[" * 10_000):
             with self.assertRaises(Refused, msg=text[:60]):
                 answer_in(text)
 
-    def test_a_solver_that_fails_or_does_not_end_is_told(self):
+    def test_a_solver_that_fails_or_does_not_end_is_told(self) -> None:
         entry = Entry(0, "a", "title a\n", [], "", 0, {}, False)
         for script, said in (("exit 3", "it ended with status 3"), ("echo no", "no answer"), ("echo read-fault >&2; exit 2", "read-fault")):
             with mock.patch.object(solving, "solver_words", lambda: ["/bin/sh", "-c", script]), self.assertRaises(Refused) as caught:
@@ -491,11 +499,11 @@ class AnswersOfASolver(unittest.TestCase):
         with mock.patch.object(solving, "solver_words", lambda: ["/bin/sh", "-c", "sleep 60"]):
             self.assertEqual(solving.solution_of(entry, Bounds(1, 0.2)), Unasked("not answered in 0.2 s"))
 
-    def test_a_solver_that_there_is_no_room_to_ask_is_told(self):
+    def test_a_solver_that_there_is_no_room_to_ask_is_told(self) -> None:
         with mock.patch.object(solving.tempfile, "TemporaryFile", side_effect=OSError(28, "No space left on device")):
             self.assertRaisesRegex(Refused, "can't be asked for a solution: No space left", solving.solution_of, Entry(0, "a", "title a\n", [], "", 0, {}, False), Bounds(1))
 
-    def test_a_program_that_hangs_over_what_was_found_is_told(self):
+    def test_a_program_that_hangs_over_what_was_found_is_told(self) -> None:
         """And no other program than the engine that was asked is blamed for it; all that is saved is played in a time."""
         run_of = Run(0, "a", UNANSWERED, "not answered in 60 s", [])
         with mock.patch.object(mending, "runs_of", lambda *_: [run_of]):
@@ -505,21 +513,27 @@ class AnswersOfASolver(unittest.TestCase):
             self.assertRaisesRegex(Refused, "enough", solve_verb.main, given)
         self.assertEqual(guarded.call_args[0][1].seconds, solving.SECONDS)
 
-    def test_the_levels_that_are_kept_have_room(self):
+    def test_the_levels_that_are_kept_have_room(self) -> None:
         """Where their number is named, no bytes bound them."""
         self.assertEqual((Bounds().words, Bounds(7).words), (("1000000", "268435456"), ("7", str(2**62))))
 
-    def test_a_solver_that_fails_leaves_the_answers_of_what_was_played(self):
+    def test_a_solver_that_fails_leaves_the_answers_of_what_was_played(self) -> None:
         """Of each level it isn't known then."""
         source = (Path(__file__).parent.parent / "examples/day/game.txt").read_text(encoding="utf-8")
         with mock.patch.object(solving, "solver_words", lambda: ["/bin/sh", "-c", "exit 3"]):
             levels = levels_not_won(GameText("game.txt", source), Bounds(1))
         self.assertEqual([(it.name, it.close, it.sentence) for it in levels], [(f"game.txt: level {it}", "not known", "the engine can't be asked for a solution: it ended with status 3") for it in (1, 2)])
 
-    def test_no_beginning_is_written_out_once_the_time_is_over(self):
+    def test_no_beginning_is_written_out_once_the_time_is_over(self) -> None:
         """Of a session that may have very many."""
         entry = Entry(0, "a", "title a\n", ["undo"] * 60_000, "", 0, {}, False)
-        mender, asked = Mender(Sessions("a", "", [entry]), Engine(), Bounds(1, end=0)), []
-        with mock.patch.object(mending, "solution_of", lambda entry, bounds: asked.append(len(entry.inputs)) or Unasked(solving.LATE)):
+        mender = Mender(Sessions("a", "", [entry]), Engine(), Bounds(1, end=0))
+        asked: List[int] = []
+
+        def unasked(entry: Entry, bounds: Bounds) -> Unasked:
+            asked.append(len(entry.inputs))
+            return Unasked(solving.LATE)
+
+        with mock.patch.object(mending, "solution_of", unasked):
             answer = mender.longest(entry, Standing(0, 0, 60_000, False))
         self.assertEqual((answer, asked), ((Unasked(solving.LATE), 0), [60_000]))

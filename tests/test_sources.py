@@ -1,6 +1,9 @@
 """How sources are read for pictures, held against the program's answers that were worked out by hand: on all sources of conformance/."""
+from __future__ import annotations
+
 import json
 import unittest
+from typing import Any, Callable, FrozenSet, Iterator, List, Optional, Tuple
 
 import tool  # puts the package on the path
 from tool import CASES
@@ -8,8 +11,8 @@ from saxtegun.descriptions import description_of, expect
 from saxtegun.games import Game, game_of
 from saxtegun.levels import Labels, in_rows, read_cells, width_of
 from saxtegun.levelsets import drawn_start, entries_of_levels, first_level
-from saxtegun.lines import runs_in
-from saxtegun.sessions import read_sessions
+from saxtegun.lines import Run, runs_in
+from saxtegun.sessions import Entry, read_sessions
 
 # The faults of a source that name a line, by the sections in which they may.
 SECTIONS = {
@@ -20,14 +23,14 @@ SECTIONS = {
 }
 
 
-def sessions_of_cases(change=lambda entry: [entry.source]):
+def sessions_of_cases(change: Callable[[Entry], List[str]] = lambda entry: [entry.source]) -> List[Any]:
     """Each session of the cases that are played, with its run and the order: the name of the case, the entry, the run, the order."""
     them = list(sessions_of_played_cases())
     expect(source for _, entry, _, _ in them for source in change(entry))
     return them
 
 
-def sessions_of_played_cases():
+def sessions_of_played_cases() -> Iterator[Tuple[str, Entry, Run, str]]:
     for case in sorted(CASES.iterdir()):
         if (case / "status").read_text().strip() == "2":
             continue
@@ -37,19 +40,19 @@ def sessions_of_played_cases():
             yield case.name, sessions.entries[run.number], run, order
 
 
-def beginnings(entry):
+def beginnings(entry: Entry) -> List[str]:
     """Beginnings of a source of different lengths."""
     return [entry.source[:cut] for cut in range(0, len(entry.source), max(1, len(entry.source) // 7))]
 
 
-def cells_of(text):
+def cells_of(text: str) -> Optional[List[FrozenSet[str]]]:
     labels = Labels()
     cells = read_cells(text, labels)
     return None if cells is None else [frozenset(labels.names[it]) for it in cells]
 
 
 class Sources(unittest.TestCase):
-    def test_the_first_frame_is_the_level_that_the_letters_draw(self):
+    def test_the_first_frame_is_the_level_that_the_letters_draw(self) -> None:
         seen = 0
         for name, entry, run, order in sessions_of_cases():
             cells = cells_of(run.frames[0].level) if run.frames else None
@@ -59,7 +62,7 @@ class Sources(unittest.TestCase):
                     self.assertEqual(drawn_start(entry, order), tuple(cells))
         self.assertGreater(seen, 150)
 
-    def test_every_object_of_a_frame_is_one_that_is_drawn_on_its_layer(self):
+    def test_every_object_of_a_frame_is_one_that_is_drawn_on_its_layer(self) -> None:
         for name, entry, run, _ in sessions_of_cases():
             layers = {it.name: it.layer for it in game_of(entry.source).objects}
             for cell in {cell for frame in run.frames for cell in cells_of(frame.level) or []}:
@@ -67,7 +70,7 @@ class Sources(unittest.TestCase):
                     self.assertEqual(cell - set(layers), set())
                     self.assertEqual(len({layers[it] for it in cell}), len(cell), "no two of a cell share a layer")
 
-    def test_a_level_drawn_by_its_letters_is_the_level_again(self):
+    def test_a_level_drawn_by_its_letters_is_the_level_again(self) -> None:
         for name, entry, run, order in sessions_of_cases():
             game = game_of(entry.source)
             layers = {it.name: it.layer for it in game.objects}
@@ -83,14 +86,14 @@ class Sources(unittest.TestCase):
                             standing = {layers[it]: it for it in game.members(letter.lower())}
                             self.assertEqual(set(labels.names[label]) - game.grounds, set(standing.values()) - game.grounds)
 
-    def test_a_level_is_loaded_for_each_win_and_no_more_than_there_are(self):
+    def test_a_level_is_loaded_for_each_win_and_no_more_than_there_are(self) -> None:
         for name, entry, run, _ in sessions_of_cases():
             if run.frames:
                 with self.subTest(name):
                     loads = sum(it.kind == "load" for it in run.frames)
                     self.assertLessEqual(first_level(entry) + loads, sum(1 for it in entries_of_levels(entry.source) if it.rows))
 
-    def test_the_line_of_a_fault_stands_in_a_section_that_can_have_it(self):
+    def test_the_line_of_a_fault_stands_in_a_section_that_can_have_it(self) -> None:
         seen = set()
         for name, entry, run, _ in sessions_of_cases():
             code, _, number = (run.cause or "").partition(":")
@@ -101,7 +104,7 @@ class Sources(unittest.TestCase):
                     self.assertTrue(found and found[0] in SECTIONS[code], found)
         self.assertGreater(len(seen), 12)
 
-    def test_a_source_that_is_refused_is_read_as_far_as_it_goes(self):
+    def test_a_source_that_is_refused_is_read_as_far_as_it_goes(self) -> None:
         for name, entry, run, _ in sessions_of_cases(beginnings):
             for source in beginnings(entry):
                 with self.subTest(name):

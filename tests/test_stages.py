@@ -1,12 +1,15 @@
 """The cases of conformance/stages, each worked out by hand, on what tells stages here."""
+from __future__ import annotations
+
 import json
 import os
 import subprocess
 import unittest
+from typing import Any, Dict, Iterable, Iterator, List, Mapping, Sequence, Tuple
 from unittest import mock
 
 from day import cases_in_rows
-from tool import TOP
+from tool import TOP, Tests
 from saxtegun import programs
 from saxtegun.commands import Refused
 
@@ -15,7 +18,7 @@ MOST_INPUTS = 12
 CASES = sorted((TOP / "conformance/stages").glob("*.json"))
 
 
-def what_tells_stages():
+def what_tells_stages() -> Tuple[List[str], Dict[str, str]]:
     """How what tells stages is called here, and in which environment; nothing where there is none, or only one of before there were firings, or where no
     program is to play: ./check says so by SAXTEGUN_PROGRAM=none, as long as it proves those that will."""
     if os.environ.get("SAXTEGUN_PROGRAM") == "none":
@@ -33,16 +36,16 @@ def what_tells_stages():
 STAGES, ENVIRONMENT = what_tells_stages()
 
 
-def tells_stages(tests):
+def tells_stages(tests: Tests) -> Tests:
     """Marks tests that ask for stages: they are left out where nothing tells these. Their names begin with Day, as those of tests that play."""
     return unittest.skipUnless(STAGES, "nothing here tells stages, or no program is to play")(tests)
 
 
-def compact(line):
+def compact(line: Any) -> str:
     return json.dumps(line, sort_keys=True, separators=(",", ":"), ensure_ascii=False) + "\n"
 
 
-def shown(lines, is_press):
+def shown(lines: Iterable[Any], is_press: bool) -> Iterator[str]:
     """The levels that the ends of steps show."""
     for end in (it for it in lines if it.get("stage") == "end"):
         is_cancelled = "cancel" in end["commands"]
@@ -54,7 +57,7 @@ def shown(lines, is_press):
 class OnCases(unittest.TestCase):
     """Holds what tells stages to the cases."""
 
-    def hold_to_cases(self, words, names):
+    def hold_to_cases(self, words: Sequence[str], names: Mapping[str, str]) -> None:
         self.assertGreaterEqual(len(CASES), 20)
         for path in CASES:
             with self.subTest(path.stem):
@@ -67,13 +70,14 @@ class OnCases(unittest.TestCase):
 
 @tells_stages
 class DayOfStages(OnCases):
-    def test_each_case_is_told_as_it_was_worked_out(self):
+    def test_each_case_is_told_as_it_was_worked_out(self) -> None:
         self.hold_to_cases(STAGES, ENVIRONMENT)
 
-    def test_the_ends_of_steps_are_the_frames_of_all_cases(self):
+    def test_the_ends_of_steps_are_the_frames_of_all_cases(self) -> None:
         """A press shows the level of its end, and so does a tick that isn't idle; but a restart that it gives is shown in its place."""
         text, lines = cases_in_rows()
-        entries, frames = json.loads(text), {}
+        entries = json.loads(text)
+        frames: Dict[Tuple[int, int], List[str]] = {}
         for line in map(json.loads, lines.splitlines()):
             if line.get("kind") in ("move", "tick"):
                 frames.setdefault((line["session"], line["at"]), []).append(line["level"])

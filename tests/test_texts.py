@@ -1,11 +1,15 @@
 """Over which text a session is played: where it brings one of its own that isn't the one at hand, each answer says so, and no answer is green by it."""
+from __future__ import annotations
+
 import json
 import re
 import subprocess
 import sys
 import unittest
 from difflib import get_close_matches
+from pathlib import Path
 from random import Random
+from typing import Any, Callable, List, Sequence, Tuple
 
 from day import OnSessions
 from test_test import RULE, OfAGame
@@ -20,24 +24,24 @@ STUCK = "[ > Player | Crate ] -> [ Player | Crate ]"
 class OfTwoTexts(OfAGame):
     """Tests where a recording of the game has its own text, and another follows the game."""
 
-    def setUp(self):
+    def setUp(self) -> None:
         super().setUp()
         name, body = self.entries[0]
-        self.own = [f"own {name}", [self.source, *body[1:]]]
+        self.own: List[Any] = [f"own {name}", [self.source, *body[1:]]]
         self.mixed = self.write_entries([self.entries[0], self.own], "mixed.json")
 
-    def remark(self, path, word="1 session has"):
+    def remark(self, path: Path, word: str = "1 session has") -> str:
         return f"{path}: {word} another text than {self.game} ("
 
-    def remedy(self, path, it="it"):
+    def remedy(self, path: Path, it: str = "it") -> str:
         return f"`saxtegun source {self.game} {path} --follow --in-place` makes {it} follow {self.game}\n"
 
 
 class Remedies(unittest.TestCase):
-    def remedy(self, *sources, game="title A\n"):
+    def remedy(self, *sources: str, game: str = "title A\n") -> Any:
         return remedy("s.json", [Entry(it, "a", text, [], "", 0, {}, False) for it, text in enumerate(sources)], GameText("game.txt", game))
 
-    def test_no_call_is_proposed_that_takes_the_text_of_another_game_away(self):
+    def test_no_call_is_proposed_that_takes_the_text_of_another_game_away(self) -> None:
         call = "`saxtegun source game.txt s.json --follow --in-place`"
         self.assertEqual(self.remedy("title A\n\n", "title A\nrun\n"), f"{call} makes them follow game.txt")
         self.assertEqual(self.remedy("title B\n"), "by its title it is of another game")
@@ -51,12 +55,12 @@ class Remedies(unittest.TestCase):
 
 @plays
 class DayOfTexts(OfTwoTexts):
-    def test_the_same_text_is_no_other(self):
+    def test_the_same_text_is_no_other(self) -> None:
         self.game.write_bytes(self.source.replace("\n", "\r\n").encode() + b"\r\n\r\n")
         answer = run("test", self.game, self.mixed)
         self.assertEqual((answer.status, "another text" in answer.out), (0, False))
 
-    def test_a_text_that_its_end_or_its_line_ends_make_too_long_is_another(self):
+    def test_a_text_that_its_end_or_its_line_ends_make_too_long_is_another(self) -> None:
         """It is refused, so it is no text over which a recording passes, and none that it may follow."""
         longer = "(c)\n" * 210_000
         for own, text in ((self.source, self.source + "\n" * 2**20), (longer + self.source, (longer + self.source).replace("\n", "\r\n"))):
@@ -72,14 +76,14 @@ class DayOfTexts(OfTwoTexts):
             self.assertEqual((answer.status, json.loads((self.room / "new.json").read_text())[0][1][0]), (0, own))
             self.assertIn(self.remark(self.room / "new.json"), answer.errors)
 
-    def test_what_passes_over_both_texts_is_green_with_a_remark(self):
+    def test_what_passes_over_both_texts_is_green_with_a_remark(self) -> None:
         self.write("game.txt", self.source + "\nmessage the end\n")
         answer = run("test", self.game, self.mixed)
         self.assertEqual(answer.status, 0)
         self.assertIn(self.remark(self.mixed), answer.out)
         self.assertIn(self.remedy(self.mixed), answer.out)
 
-    def test_what_passes_over_its_own_text_alone_is_red(self):
+    def test_what_passes_over_its_own_text_alone_is_red(self) -> None:
         self.with_rule(STUCK)
         alone = self.write_entries([self.own, self.own], "alone.json")
         answer = run("test", self.game, alone)
@@ -90,10 +94,10 @@ class DayOfTexts(OfTwoTexts):
         self.assertIn(self.remark(alone, "2 sessions have"), answer.out)
         self.assertIn(self.remedy(alone, "them"), answer.out)
 
-    def test_a_report_lists_what_failed_over_the_game_alone(self):
+    def test_a_report_lists_what_failed_over_the_game_alone(self) -> None:
         """The first passes over both texts, the others over their own; the last two must be solved, over both and over the game."""
         self.with_rule(STUCK)
-        quiet = ["quiet", [self.source, [], self.entries[3][1][2]]]
+        quiet: List[Any] = ["quiet", [self.source, [], self.entries[3][1][2]]]
         start = [it for it in self.lines.read_text(encoding="utf-8").splitlines() if '"session":0}' in it][0]
         quiet[1][2] = json.loads(start)["level"]
         suite = self.write_entries([quiet, self.own, [*quiet, "solved"], ["follows", ["", *quiet[1][1:]], "solved"]], "suite.json")
@@ -107,7 +111,7 @@ class DayOfTexts(OfTwoTexts):
         self.assertIn(f'"told":"passed: over its own text, but over {self.game} no longer solved: not solved"', text)
         self.assertIn('"told":"passed: no longer solved: not solved"', text)
 
-    def test_the_remedy_makes_them_follow(self):
+    def test_the_remedy_makes_them_follow(self) -> None:
         self.with_rule(STUCK)
         self.assertEqual(run("source", self.game, self.mixed, "--follow", "--in-place").status, 0)
         self.assertEqual([it[1][0] for it in json.loads(self.mixed.read_text(encoding="utf-8"))], ["", ""])
@@ -115,7 +119,7 @@ class DayOfTexts(OfTwoTexts):
         self.assertEqual((answer.status, "another text" in answer.out), (1, False))
         self.assertIn("2 sessions: 0 passed, 2 differ", answer.out)
 
-    def test_every_verb_with_a_game_says_it(self):
+    def test_every_verb_with_a_game_says_it(self) -> None:
         self.with_rule(STUCK)
         console = self.write("console.txt", json.dumps(self.own))
         calls = [
@@ -127,51 +131,53 @@ class DayOfTexts(OfTwoTexts):
             with self.subTest(words[0]):
                 self.assertIn(self.remark(self.mixed), run(*words).errors)
 
-    def test_an_added_recording_follows_the_text_at_hand(self):
+    def test_an_added_recording_follows_the_text_at_hand(self) -> None:
         new = self.room / "new.json"
         answer = run("add", new, "--game", self.game, stdin=json.dumps(self.own).encode())
         self.assertEqual((answer.status, json.loads(new.read_text(encoding="utf-8"))[0][1][0]), (0, ""))
         self.with_rule(STUCK)
         self.assertEqual(run("test", self.game, new).status, 1)
 
-    def test_a_forgotten_text_is_called_that(self):
+    def test_a_forgotten_text_is_called_that(self) -> None:
         for verb in ("test", "explain", "accept"):
             answer = run(verb, self.recordings)
             self.assertIn("which stands for a game's, and no game's text is named", answer.out + answer.errors)
             self.assertNotIn("a section that must be there", answer.out + answer.errors)
 
-    def test_explaining_and_lines_take_the_text(self):
+    def test_explaining_and_lines_take_the_text(self) -> None:
         self.assertEqual(run("explain", self.recordings, "--game", self.game).out, run("explain", TOP / "examples/block-pushing.json").out)
         self.assertEqual(run("lines", self.recordings, "--game", self.game).out, run("lines", TOP / "examples/block-pushing.json").out)
 
 
 @plays
 class DayOfDemands(OfAGame):
-    def test_a_pattern_that_fits_nothing_is_no_demand(self):
+    def test_a_pattern_that_fits_nothing_is_no_demand(self) -> None:
         for words in (("--solved", "lvel*"), ("--solved", "half*", "--solved", "lvel*"), ("--filter", "half*", "--filter", "lvel*")):
             self.assert_refused(run("test", self.game, self.recordings, *words), f"{words[-2]} fits no session (lvel*)")
 
-    def test_a_demand_with_a_slip_is_refused(self):
+    def test_a_demand_with_a_slip_is_refused(self) -> None:
         suite = self.write_entries([[*self.entries[0], "slved"]])
         self.assert_refused(run("test", self.game, suite), "session 0, line 1: its further element 'slved' is nearly 'solved', and would demand nothing")
         self.assertEqual(run("test", self.game, self.write_entries([[*self.entries[0], "by hand"]])).status, 0)
 
 
 class Demands(unittest.TestCase):
-    def test_what_is_meant_to_demand_and_does_not_is_refused(self):
+    def test_what_is_meant_to_demand_and_does_not_is_refused(self) -> None:
         body = ["", [], ""]
         for it in ("solved", "Solved", ["solved"]):
             for within in ([None, it], [None, "1716.5", it]):
                 self.assertEqual(fault_of(["a", [*body, *within]]), "its second list holds 'solved' or nearly that, which would demand nothing there: it stands behind that list")
         for it in ("slved", "Solved", "solve", "solevd", "soved", "xsolved", "must be solved", "to be solved", "SOLVED NOW", "\u2713solved", "solved " * 1000):
             self.assertEqual(fault_of(["a", body, 1, it]), f"its further element {cut(it)!r} is nearly 'solved', and would demand nothing")
-        for it in (["solved"], {"solved": True}, {"must": "be Solved"}, [[{"a": [1, "solved"]}]]):
-            told = "a list" if isinstance(it, list) else "an object"
-            self.assertEqual(fault_of(["a", body, it]), f"its further element that is {told} holds 'solved', and would demand nothing")
-        for it in ("solved", "by hand", "", "so", "salad", "1716.5", "love", "told you", True, None, 0, [], {}, [["slved"]], {"by": ["hand"]}):
-            self.assertIsNone(fault_of(["a", body, it]), it)
+        demands: List[Any] = [["solved"], {"solved": True}, {"must": "be Solved"}, [[{"a": [1, "solved"]}]]]
+        for demand in demands:
+            told = "a list" if isinstance(demand, list) else "an object"
+            self.assertEqual(fault_of(["a", body, demand]), f"its further element that is {told} holds 'solved', and would demand nothing")
+        ignored: List[Any] = ["solved", "by hand", "", "so", "salad", "1716.5", "love", "told you", True, None, 0, [], {}, [["slved"]], {"by": ["hand"]}]
+        for element in ignored:
+            self.assertIsNone(fault_of(["a", body, element]), element)
 
-    def test_what_is_no_json_for_the_program_is_refused_where_it_is_ignored_too(self):
+    def test_what_is_no_json_for_the_program_is_refused_where_it_is_ignored_too(self) -> None:
         """Two lists stand around what follows the body, and three around what follows the index; a member is read though another has its name."""
         half, deep = "a text of it holds half a letter", "its lists and objects are more than 127 deep"
         for text, what in (
@@ -187,7 +193,7 @@ class Demands(unittest.TestCase):
         self.assertEqual(len(sessions_in("s.json", f'[["a",["",[],""],{deepest}]]').entries), 1)
         self.assertRaisesRegex(Refused, deep, sessions_in, "s.json", f'[["a",["",[],"",0,{deepest}]]]')
 
-    def test_what_is_nearly_the_word_is_so_by_its_letters_in_their_order(self):
+    def test_what_is_nearly_the_word_is_so_by_its_letters_in_their_order(self) -> None:
         """What difflib finds so alike, and not much else."""
         tried = Random(0)
         for _ in range(20_000):
@@ -199,24 +205,24 @@ class Demands(unittest.TestCase):
 class Believed(OnSessions):
     """A program that lies, or says nothing."""
 
-    def program(self, lines, status=0):
+    def program(self, lines: Sequence[str], status: int = 0) -> Path:
         file = self.write("program", f"#!/bin/sh\ncat <<'END'\n{lines}END\nexit {status}\n")
         file.chmod(0o755)
         return file
 
-    def test_a_close_that_its_level_denies_is_not_believed(self):
+    def test_a_close_that_its_level_denies_is_not_believed(self) -> None:
         lying = self.lines.read_text(encoding="utf-8").replace('"close":"differs"', '"close":"passed"')
         for verb in ("test", "explain", "accept"):
             answer = run(verb, TOP / "examples/block-pushing.json", "--program", self.program(lying))
             self.assert_refused(answer, "what the program wrote, line ")
             self.assertIn("session 4 is closed as passed, and its last level says otherwise", answer.errors)
 
-    def test_a_program_that_says_nothing_has_not_played(self):
+    def test_a_program_that_says_nothing_has_not_played(self) -> None:
         for verb in ("test", "explain", "accept", "lines"):
             answer = run(verb, TOP / "examples/block-pushing.json", "--program", self.program(""))
             self.assertEqual((answer.status, answer.out), (2, ""))
 
-    def test_lines_that_end_early_are_no_success(self):
+    def test_lines_that_end_early_are_no_success(self) -> None:
         lines = self.lines.read_text(encoding="utf-8").splitlines(keepends=True)
         answer = run("lines", TOP / "examples/block-pushing.json", "--program", self.program("".join(lines[:-18])))
         self.assertEqual(answer.status, 2)
@@ -235,13 +241,13 @@ exit 1
 class Meanwhile(OnSessions):
     """Where another command changes the file while one plays."""
 
-    def setUp(self):
+    def setUp(self) -> None:
         super().setUp()
         self.suite = self.write("suite.json", (TOP / "examples/block-pushing.json").read_text(encoding="utf-8"))
         self.program = self.write("program", WAITS.format(room=self.room, lines=self.lines))
         self.program.chmod(0o755)
 
-    def beside(self, *words, change):
+    def beside(self, *words: object, change: Callable[[], object]) -> Tuple[int, str]:
         """The answer of a call while whose play something is changed."""
         command = [sys.executable, TOP / "saxtegun", *words, "--program", self.program]
         with subprocess.Popen(list(map(str, command)), stdin=subprocess.DEVNULL, stdout=subprocess.PIPE, stderr=subprocess.PIPE, env=environment()) as ran:
@@ -252,20 +258,20 @@ class Meanwhile(OnSessions):
             errors = ran.communicate()[1].decode()
         return ran.returncode, errors
 
-    def test_accepting_refuses_to_overwrite(self):
+    def test_accepting_refuses_to_overwrite(self) -> None:
         more = '[["other", ["", [], ""]]]'
         status, errors = self.beside("accept", self.suite, "--in-place", change=lambda: self.suite.write_text(more, encoding="utf-8"))
         self.assertEqual((status, self.suite.read_text(encoding="utf-8")), (2, more))
         self.assertIn("suite.json was changed since it was read: call this again", errors)
 
-    def test_adding_keeps_what_another_has_added(self):
+    def test_adding_keeps_what_another_has_added(self) -> None:
         entries = json.loads(self.suite.read_text(encoding="utf-8"))
         console = self.write("console.txt", json.dumps(entries))
         new = self.write("new.json", "[]")
         status, errors = self.beside("add", new, console, "--anyway", change=lambda: new.write_text('[["other", ["", [], ""]]]', encoding="utf-8"))
         self.assertEqual((status, [it[0] for it in json.loads(new.read_text(encoding="utf-8"))]), (0, ["other", *(it[0] for it in entries)]), errors)
 
-    def test_a_place_that_can_not_be_written_is_told_before_the_play(self):
+    def test_a_place_that_can_not_be_written_is_told_before_the_play(self) -> None:
         for words in (("test", self.suite, "--report", self.room / "no/where"), ("add", self.room / "no/where.json", self.suite)):
             answer = run(*words, "--program", self.program)
             self.assertEqual((answer.status, (self.room / "plays").exists()), (2, False))
@@ -274,7 +280,7 @@ class Meanwhile(OnSessions):
 
 @plays
 class DayOfManyHands(OfAGame):
-    def test_six_who_add_at_once_add_six(self):
+    def test_six_who_add_at_once_add_six(self) -> None:
         new = self.room / "new.json"
         whole = json.loads((TOP / "examples/block-pushing.json").read_text(encoding="utf-8"))[0]
         ran = []

@@ -1,4 +1,6 @@
 """Games with a clock: refused by name, and played by the ticks that were recorded where that is asked for, which each answer says."""
+from __future__ import annotations
+
 import json
 import unittest
 
@@ -38,7 +40,7 @@ END = "background player:0,background:1,1,1,background crate:2,\n"
 
 
 class Clocks(unittest.TestCase):
-    def test_the_line_stays_as_an_empty_one(self):
+    def test_the_line_stays_as_an_empty_one(self) -> None:
         for line, left in (("realtime_interval 0.5", ""), ("REALTIME_INTERVAL 1 (a", ""), ("  (c) realtime_interval", "  (c) "), ("realtime_intervals 1", None), ("author realtime_interval", None)):
             source = f"title a\n{line}\nnoundo\nOBJECTS\nrealtime_interval 3\n"
             self.assertEqual(without_clock(source), source if left is None else source.replace(line, left, 1), line)
@@ -46,17 +48,17 @@ class Clocks(unittest.TestCase):
 
 @plays
 class DayOfTicks(OnSessions):
-    def setUp(self):
+    def setUp(self) -> None:
         super().setUp()
         self.game = self.write("game.txt", GAME)
         self.suite = self.write("r.json", json.dumps([["a tick", ["", ["tick"], END, 0]]]))
 
-    def test_without_the_word_the_fault_names_it(self):
+    def test_without_the_word_the_fault_names_it(self) -> None:
         for words in (("test", self.game, self.suite), ("explain", self.suite, "--game", self.game)):
             self.assertIn(REMEDY, run(*words).out)
         self.assertIn(REMEDY, run("play", self.game).errors)
 
-    def test_the_ticks_are_played_and_each_answer_says_so(self):
+    def test_the_ticks_are_played_and_each_answer_says_so(self) -> None:
         answer = run("test", self.game, self.suite, "--ticks-as-recorded", "--markdown", self.room / "m.md", "--report", self.room / "p.html")
         self.assertEqual((answer.status, answer.out.splitlines()[0], answer.errors), (0, "passed, not solved: a tick", f"saxtegun: {TOLD}\n"))
         self.assertTrue(answer.out.endswith(f"; {TOLD}\n"))
@@ -68,7 +70,7 @@ class DayOfTicks(OnSessions):
         for words in (("accept", self.suite, "--game", self.game), ("coverage", self.game, self.suite), ("report", self.suite, "--game", self.game)):
             self.assertIn(f"saxtegun: {TOLD}\n", run(*words, "--ticks-as-recorded").errors)
 
-    def test_what_is_played_and_added_keeps_the_text_as_it_is(self):
+    def test_what_is_played_and_added_keeps_the_text_as_it_is(self) -> None:
         suite = self.room / "new.json"
         self.assertEqual(run("play", self.game, "--save", "mine", suite, "--ticks-as-recorded", stdin=b"t").errors.splitlines()[0], f"saxtegun: {TOLD}")
         entry = json.loads(suite.read_text(encoding="utf-8"))[0]
@@ -79,13 +81,13 @@ class DayOfTicks(OnSessions):
         self.assertEqual(run("add", added, own, "--ticks-as-recorded").status, 0)
         self.assertEqual(json.loads(added.read_text(encoding="utf-8"))[0][1][0], GAME)
 
-    def test_a_fault_behind_the_line_keeps_its_line(self):
+    def test_a_fault_behind_the_line_keeps_its_line(self) -> None:
         self.game.write_text(GAME.replace("| Crate ]", "| Crate"), encoding="utf-8")
         answer = run("test", self.game, self.suite, "--ticks-as-recorded")
         self.assertIn("line 20 is no rule: the row `[ | crate` has no `]` (BadRule:20)", answer.out)
         self.assertIn(f"    {self.game}:20: right [", answer.out)
 
-    def test_a_game_without_a_clock_is_played_as_ever(self):
+    def test_a_game_without_a_clock_is_played_as_ever(self) -> None:
         self.game.write_text(GAME.replace("realtime_interval 0.5", ""), encoding="utf-8")
         answer = run("test", self.game, self.suite, "--ticks-as-recorded")
         self.assertEqual((answer.status, TOLD in answer.out + answer.errors), (0, False))

@@ -1,8 +1,11 @@
 """dev/try: which cases it lays out, over a stand-in for `rt` that says how it was called and what it was given."""
+from __future__ import annotations
+
 import os
 import subprocess
 import sys
 import unittest
+from typing import Any
 
 from tool import TOP, InARoom
 
@@ -16,7 +19,7 @@ PUSHES = [it.name for it in (TOP / "conformance/cases").glob("push-*")]
 
 
 class Try(InARoom):
-    def tried(self, *words):
+    def tried(self, *words: str) -> Any:
         """What dev/try answers: its status, how it called, the names of the cases that it laid out, and what it says."""
         rt = self.room / "bin/rt"
         rt.parent.mkdir(exist_ok=True)
@@ -27,24 +30,24 @@ class Try(InARoom):
         call, *files = ran.stdout.splitlines() or [""]
         return ran.returncode, call, [it for it in files if "." not in it], ran.stderr
 
-    def test_cases_by_name(self):
+    def test_cases_by_name(self) -> None:
         status, call, names, said = self.tried("push-*")
         self.assertEqual((status, call, names), (5, "pz_replayer try --seconds 120 --cases", sorted(PUSHES)))
         self.assertRegex(said, rf"^dev/try: {len(PUSHES)} of [0-9]+ cases, unproved\n$")
 
-    def test_a_rule_has_the_cases_that_name_it(self):
+    def test_a_rule_has_the_cases_that_name_it(self) -> None:
         self.assertEqual(self.tried("play.over")[2], ["all-inputs-show-over-after-the-end"])
 
-    def test_a_crate_has_the_cases_of_its_tower(self):
+    def test_a_crate_has_the_cases_of_its_tower(self) -> None:
         names = self.tried("pz_turn")[2]
         self.assertIn("a-loop-of-as-many-passes-as-are-allowed", names)
         self.assertNotIn("a-heading-that-is-repeated", names)
         self.assertIn("a-heading-that-is-repeated", self.tried("pz_names")[2])
 
-    def test_a_crate_below_the_towers_has_all(self):
+    def test_a_crate_below_the_towers_has_all(self) -> None:
         self.assertEqual(self.tried("pz_base")[2], self.tried()[2])
 
-    def test_what_is_neither_is_reported(self):
+    def test_what_is_neither_is_reported(self) -> None:
         status, call, names, said = self.tried("pushes")
         self.assertEqual((status, call, names, said), (2, "", [], "dev/try: there is no crate, no rule and no case named 'pushes'\n"))
 

@@ -1,4 +1,6 @@
 """The reader of a stranger's archive: it reads what the maker of releases writes, and whatever else there is ends it soon."""
+from __future__ import annotations
+
 import gzip
 import io
 import random
@@ -8,6 +10,7 @@ import unittest
 import zlib
 from pathlib import Path
 from time import monotonic
+from typing import IO, Any, Tuple, cast
 
 TOP = Path(__file__).resolve().parent.parent
 sys.path.insert(0, str(TOP / "dev"))
@@ -24,7 +27,7 @@ SECONDS = 5
 END = bytes(2 * HEADER)
 
 
-def read(content):
+def read(content: bytes) -> Tuple[Any, float]:
     """What reading a file gives, None where it is refused, and how many seconds that takes."""
     begin = monotonic()
     try:
@@ -35,15 +38,15 @@ def read(content):
 
 
 class Unpacking(unittest.TestCase):
-    def soon(self, content):
+    def soon(self, content: bytes) -> Any:
         found, seconds = read(content)
         self.assertLess(seconds, SECONDS)
         return found
 
-    def test_what_the_maker_writes_is_read(self):
+    def test_what_the_maker_writes_is_read(self) -> None:
         self.assertEqual(contents_of(PACKED), Contents(READ))
 
-    def test_what_no_release_has_ends_the_reading_behind_what_stands_before(self):
+    def test_what_no_release_has_ends_the_reading_behind_what_stands_before(self) -> None:
         for way, blocks in stranger("x/y").items():
             with self.subTest(way):
                 found = self.soon(with_blocks(PACKED, blocks))
@@ -51,7 +54,7 @@ class Unpacking(unittest.TestCase):
                 self.assertRegex(found.strange, "^at byte [0-9]+ of what it unpacks to ")
                 self.assertEqual(self.soon(gzip.compress(blocks + END, 1)).files, {})
 
-    def test_each_byte_of_a_header_that_is_another_ends_the_reading_or_is_read_as_another(self):
+    def test_each_byte_of_a_header_that_is_another_ends_the_reading_or_is_read_as_another(self) -> None:
         raw = bytes(gzip.decompress(PACKED))
         for at in range(HEADER):
             for changed in (raw[at] ^ 1, 0xFF):
@@ -60,14 +63,14 @@ class Unpacking(unittest.TestCase):
                 with self.subTest(at=at, changed=changed):
                     self.assertRegex(contents_in(other).strange, "^at byte 0 ")
 
-    def test_a_forged_archive_shows_no_other_file_of_ours(self):
+    def test_a_forged_archive_shows_no_other_file_of_ours(self) -> None:
         for way, content in forged(PACKED, "x/a").items():
             with self.subTest(way):
                 found = self.soon(content)
                 self.assertEqual({name: found.files.get(name) for name in READ}, READ)
                 self.assertEqual(found.strange == "", way in ("a folder for all", "another compression"), found.strange)
 
-    def test_what_is_compressed_is_taken_once_and_whole(self):
+    def test_what_is_compressed_is_taken_once_and_whole(self) -> None:
         for rest in (b"more", gzip.compress(b"more"), b"\0", b"\x1f\x8b"):
             self.assertEqual(contents_of(PACKED + rest), Contents(READ, "bytes stand behind the end of what is compressed"))
         for cut in (1, 8, 9, 20, len(PACKED) - 3):
@@ -76,7 +79,7 @@ class Unpacking(unittest.TestCase):
         with self.assertRaisesRegex(Broken, "incorrect data check"):
             contents_of(PACKED[:-8] + b"sums" + PACKED[-4:])
 
-    def test_what_it_unpacks_to_is_what_gzip_does(self):
+    def test_what_it_unpacks_to_is_what_gzip_does(self) -> None:
         """Also where the pieces end within what is compressed, and where nothing can be compressed."""
         chance = random.Random(9)
         for size in (0, 1, 2**16 - 30, 2**16, 2**20 + 7):
@@ -85,7 +88,7 @@ class Unpacking(unittest.TestCase):
                     raw, is_all = inflated(gzip.compress(content, level))
                     self.assertTrue(is_all and raw == content, (size, level))
 
-    def test_no_bomb_is_unpacked(self):
+    def test_no_bomb_is_unpacked(self) -> None:
         package = ar_of([part_named(b"debian-binary", b"2.0\n"), part_named(b"control.tar.gz", PACKED), part_named(b"data.tar.gz", PACKED)])
         self.assertEqual(contents_of_package(package).files, {**READ, **{f"DEBIAN/{name}": file for name, file in READ.items()}})
         for way, content in bombs(package).items():
@@ -94,13 +97,13 @@ class Unpacking(unittest.TestCase):
                 self.assertTrue(found is None or found.strange, way)
         self.assertTrue(self.soon(gzip.compress(zeros(40), 9)).strange)
 
-    def test_members_are_no_more_than_a_release_may_have(self):
+    def test_members_are_no_more_than_a_release_may_have(self) -> None:
         some = b"".join(folder(f"x/{it}/") for it in range(MOST_MEMBERS))
         self.assertEqual(self.soon(gzip.compress(some + END)), Contents({}))
         self.assertIn("more than 4096 files and folders", self.soon(gzip.compress(some + member("x/y") + END)).strange)
         self.assertIn("more than 4096 files and folders", self.soon(gzip.compress(some * 20 + END)).strange)
 
-    def test_the_parts_of_a_package_stand_at_their_places(self):
+    def test_the_parts_of_a_package_stand_at_their_places(self) -> None:
         parts = [part_named(b"debian-binary", b"2.0\n"), part_named(b"control.tar.gz", PACKED), part_named(b"data.tar.gz", PACKED)]
         good = ar_of(parts)
         for other in (parts[:2], parts[::-1], [parts[0], *parts], [parts[0], part_named(b"_extra", EVIL), *parts[1:]]):
@@ -110,7 +113,7 @@ class Unpacking(unittest.TestCase):
         for rest in (b"\n", ar_of(parts)[8:], bytes(60)):
             self.assertEqual(self.soon(good + rest).strange, "bytes stand behind its last part")
 
-    def test_no_mutated_archive_is_read_for_long_or_raises(self):
+    def test_no_mutated_archive_is_read_for_long_or_raises(self) -> None:
         """Of the packed bytes, and of those that they unpack to, some are others, are doubled or left out."""
         chance = random.Random(10)
         raw, others = gzip.decompress(PACKED), list(kinds("x/k").values())
@@ -124,10 +127,10 @@ class Unpacking(unittest.TestCase):
             with self.subTest(turn):
                 self.soon(gzip.compress(bytes(given), 1) if is_raw else bytes(given))
 
-    def test_the_sum_of_a_header_is_tested_as_any_tar_does(self):
+    def test_the_sum_of_a_header_is_tested_as_any_tar_does(self) -> None:
         """What is read is what Python's own reader sees."""
         with tarfile.open(fileobj=io.BytesIO(PACKED)) as tar:
-            seen = {it.name: File(tar.extractfile(it).read(), it.mode == 0o755) for it in tar}
+            seen = {it.name: File(cast(IO[bytes], tar.extractfile(it)).read(), it.mode == 0o755) for it in tar}
         self.assertEqual(contents_of(PACKED).files, seen)
         self.assertEqual(zlib.decompress(PACKED, 31), bytes(inflated(PACKED)[0]))
 

@@ -1,4 +1,6 @@
 """Runs a tool as its user does, where it is wanted on a small repository of its own."""
+from __future__ import annotations
+
 import os
 import shutil
 import subprocess
@@ -6,33 +8,42 @@ import sys
 import tempfile
 import unittest
 from pathlib import Path
+from typing import TYPE_CHECKING, Any, Callable, Dict, List, Optional, TypeVar, Union
 
 TOP = Path(__file__).resolve().parent.parent
 sys.path.insert(0, str(TOP / "python"))
 CASES = TOP / "conformance" / "cases"
+Tests = TypeVar("Tests", bound=Callable[..., Any])
 PROGRAM = Path(os.environ.get("SAXTEGUN_PROGRAM") or TOP / "crates/pz_replayer/out/pz_replayer")
+
+
+# What is mixed into a test case is one to mypy.
+if TYPE_CHECKING:
+    MixedIn = unittest.TestCase
+else:
+    MixedIn = object
 
 
 class Answer:
     """What a tool wrote, and its exit status."""
 
-    def __init__(self, ran):
+    def __init__(self, ran: subprocess.CompletedProcess[bytes]) -> None:
         self.out, self.errors, self.status = ran.stdout.decode(), ran.stderr.decode(), ran.returncode
 
 
-def plays(tests):
+def plays(tests: Tests) -> Tests:
     """Marks tests that play: they are left out where the program is not there. Their names begin with Day, by which ./check finds them."""
     return unittest.skipUnless(os.access(PROGRAM, os.X_OK), "the program is not built, and SAXTEGUN_PROGRAM names none")(tests)
 
 
-def environment():
+def environment() -> Dict[str, str]:
     """The environment of a tool: it plays with the program of these tests, and knows of no CI."""
     return {"SAXTEGUN_PROGRAM": str(PROGRAM), **{name: value for name, value in os.environ.items() if name != "CI"}}
 
 
-def run(tool, *words, stdin=b"", cwd=None):
+def run(tool: object, *words: object, stdin: bytes = b"", cwd: Optional[Path] = None) -> Answer:
     """Runs a verb of `./saxtegun`, or the tool at a path, with these words."""
-    command = [tool] if isinstance(tool, Path) else [TOP / "saxtegun", tool]
+    command: List[Union[str, Path]] = [tool] if isinstance(tool, Path) else [TOP / "saxtegun", str(tool)]
     return Answer(subprocess.run([sys.executable, *command, *map(str, words)], input=stdin, stdout=subprocess.PIPE, stderr=subprocess.PIPE, env=environment(), cwd=cwd))
 
 
@@ -55,7 +66,7 @@ pub fn same(number: u32) -> u32
 class InARoom(unittest.TestCase):
     """Tests a tool in a room of its own, a folder that is there for one test."""
 
-    def setUp(self):
+    def setUp(self) -> None:
         room = tempfile.TemporaryDirectory()
         self.addCleanup(room.cleanup)
         self.room = Path(room.name)
@@ -64,7 +75,7 @@ class InARoom(unittest.TestCase):
 class OnSmallCrates(InARoom):
     """Tests a tool on a repository of small crates."""
 
-    def found(self, name, crates):
+    def found(self, name: str, crates: str) -> None:
         """Writes the repository: its crates.txt, each crate that it names, and the tool with what it imports."""
         self.write("crates.txt", crates)
         self.write("HANDLES", "Handles allowed: none.\n")
@@ -75,7 +86,7 @@ class OnSmallCrates(InARoom):
         for file in (name, "crates.py", "proving.py", "rules.py"):
             shutil.copy(TOP / "dev" / file, self.tool.parent)
 
-    def write(self, path, text):
+    def write(self, path: str, text: str) -> Path:
         file = self.room / path
         file.parent.mkdir(parents=True, exist_ok=True)
         file.write_text(text, encoding="utf-8")

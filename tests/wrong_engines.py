@@ -4,9 +4,12 @@
     from wrong_engines import main
     main("crash")
 """
+from __future__ import annotations
+
 import json
 import sys
 import time
+from typing import Any
 
 import engine_by_the_book as book
 
@@ -16,37 +19,37 @@ class Session(book.Session):
 
     last = None
 
-    def take(self, given):
+    def take(self, given: Any) -> None:
         if given == "undo" and not self.past:
             self.undo_of_nothing()
         super().take(given)
         self.last = given
 
-    def undo_of_nothing(self):
+    def undo_of_nothing(self) -> None:
         pass
 
 
 class Crashing(Session):
-    def undo_of_nothing(self):
+    def undo_of_nothing(self) -> None:
         sys.stdout.flush()
         raise ValueError(f"no level at {self.at}")
 
 
 class Hanging(Session):
-    def undo_of_nothing(self):
+    def undo_of_nothing(self) -> None:
         sys.stdout.flush()
         time.sleep(600)
 
 
 class Saying(Session):
-    def undo_of_nothing(self):
+    def undo_of_nothing(self) -> None:
         print("debug: nothing to take back, \x1b[2J", self.at)
 
 
 class Restarting(Session):
     """A restart leaves the level as it is behind an undo that left one level to take back. So two presses less one undo meet it, and three less two."""
 
-    def restart(self):
+    def restart(self) -> bool:
         if self.last == "undo" and len(self.past) == 1:
             self.target = book.copy_of(self.level)
         return super().restart()
@@ -55,9 +58,9 @@ class Restarting(Session):
 KINDS = {"none": Session, "crash": Crashing, "hang": Hanging, "say": Saying, "restart": Restarting}
 
 
-def main(kind, holds_back=False):
+def main(kind: str, holds_back: bool = False) -> None:
     """Plays the sessions file that the last word names. `holds_back`: no line is written before all are played."""
-    book.Session = KINDS[kind]
+    book.Session = KINDS[kind]  # type: ignore[misc]  # a class in the place of another
     order = sys.argv[sys.argv.index("--order") + 1] if "--order" in sys.argv else "columns"
     with open(sys.argv[-1], encoding="utf-8") as file:
         entries = json.load(file)

@@ -1,5 +1,8 @@
 """Texts of somebody who wants to run a script in a page, to ask something of a network, or to break a page; and a suite that has each in five places."""
+from __future__ import annotations
+
 import json
+from typing import Any, Dict, List, Optional, Tuple
 
 HACK = "window.hacked=1"
 PAYLOADS = [
@@ -13,18 +16,19 @@ PAYLOADS = [
 REFUSED = "BadRule:13"
 
 
-def source_of(payload):
+def source_of(payload: str) -> str:
     """A game with a payload as its title, its palette, a colour, an object and a line that is no rule (line 13 is that)."""
     word = payload.replace(" ", "/")
     return (f"title {payload}\ncolor_palette {payload}\nOBJECTS\nBackground\nurl({word})\nPlayer\nwhite\nLEGEND\nCOLLISIONLAYERS\nBackground\nPlayer\nRULES\n{payload}\nWINCONDITIONS\nLEVELS\n"
             "p.\n")
 
 
-def hostile_suite():
+def hostile_suite() -> Tuple[str, str]:
     """A sessions file with its lines: for each payload a session whose level can be read, one whose level can't, and one that is refused."""
-    entries, lines = [], []
+    entries: List[Any] = []
+    lines: List[Dict[str, Any]] = []
 
-    def add(payload, level, close, cause=None):
+    def add(payload: str, level: Optional[str], close: str, cause: Optional[str] = None) -> None:
         number = len(entries)
         entries.append([payload, [source_of(payload), [3], "background:0,0,"]])
         kinds = ("start", "move") if level is not None else ()
