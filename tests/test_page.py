@@ -129,13 +129,13 @@ class Page(InARoom):
         self.assertEqual((answer.status, answer.errors), (1, "dev/page: modules share one scope, and two declare a name: paceOf in animating.mjs and saying.mjs, load in saxtegun.mjs and saying.mjs\n"))
         self.assertFalse((self.room / "page.html").exists())
 
-    def test_what_tells_types_is_left_out_and_no_other_comment(self):
+    def test_what_tells_types_is_left_out_and_no_other_comment(self) -> None:
         script = Elements(self.built()[0]).texts["script"]
         self.assertNotRegex(script, r"@(?:ts-check|type|typedef|param|template|returns)\b")
         self.assertIn("// Elements of a page. What came from games goes into them as text alone.\n", script)
         self.assertIn("// As many workers as leave the page a processor.\n", script)
 
-    def test_only_comments_that_tell_types_are_left_out(self):
+    def test_only_comments_that_tell_types_are_left_out(self) -> None:
         text = '''// @ts-check
 // Words.
 /** @typedef {{ one: string }} One */

@@ -8,7 +8,7 @@ import subprocess
 import tempfile
 import unittest
 from pathlib import Path
-from typing import List, Union
+from typing import Dict, List, Union
 
 from tool import TOP
 
@@ -75,11 +75,11 @@ KINDS = {"button": "Button", "canvas": "Canvas", "details": "Details", "form": "
 
 class TypesOfScripts(unittest.TestCase):
     @unittest.skipUnless(shutil.which("tsc"), "tsc is not there")
-    def test_the_types_of_the_modules_hold(self):
+    def test_the_types_of_the_modules_hold(self) -> None:
         ran = subprocess.run(["tsc", "--pretty", "false", "--project", TOP], cwd=TOP, stdout=subprocess.PIPE, stderr=subprocess.STDOUT)
         self.assertEqual((ran.returncode, ran.stdout.decode()), (0, ""))
 
-    def test_each_module_asks_an_editor_for_the_check(self):
+    def test_each_module_asks_an_editor_for_the_check(self) -> None:
         self.assertTrue(MODULES)
         for module in MODULES:
             with self.subTest(module.name):
@@ -87,8 +87,8 @@ class TypesOfScripts(unittest.TestCase):
                 self.assertRegex(text, r"\A(?:#!.*\n)?// @ts-check\n")
                 self.assertNotRegex(text, LEFT_ALONE)
 
-    def test_the_kinds_of_elements_are_those_of_the_pages(self):
-        found = {}
+    def test_the_kinds_of_elements_are_those_of_the_pages(self) -> None:
+        found: Dict[str, str] = {}
         for page in ("report.html", "playground.html"):
             for tag, name in re.findall(r'<([a-z0-9]+)\b[^>]*? id="([a-z0-9-]+)"', (TOP / "web" / page).read_text(encoding="utf-8")):
                 found[name] = tag
