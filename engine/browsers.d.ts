@@ -5,12 +5,6 @@ interface Array<T> {
   findLastIndex(is: (it: T, place: number) => unknown): number;
 }
 
-/** What AbortSignal has beside what it makes. */
-interface AbortSignals {
-  abort(): AbortSignal;
-  timeout(milliseconds: number): AbortSignal;
-}
-
 /** What is there in a worker alone, and how one posts: without an origin. */
 declare const WorkerGlobalScope: unknown;
 

@@ -4,7 +4,8 @@
 import { withOtherFile, withRecordings } from "./filing.mjs";
 import { handing } from "./handing.mjs";
 import { keptOf } from "./kept-work.mjs";
-import { Refusal, SessionFile } from "./session-file.mjs";
+import { readingRuns } from "./lines.mjs";
+import { MOST_SESSIONS, Refusal, SessionFile } from "./session-file.mjs";
 import { rowsOf } from "./suite.mjs";
 import { Clocks } from "./ticks.mjs";
 import { beginning } from "./work.mjs";
@@ -12,7 +13,6 @@ import { beginning } from "./work.mjs";
 const LONG = 65_536; // bytes of a file that is read so: none of fewer takes long
 const MOST_OF_A_STEP = 4000; // milliseconds that the worker may give no word
 const OFTEN = 200; // milliseconds after which a word is given
-const ENDED = /** @type {typeof AbortSignal & AbortSignals} */ (AbortSignal).abort();
 const NAMED = { nameOf: ({ name }) => name || "a recording" }; // names from the texts themselves are read in steps
 
 // What the page does at once with what was read of a file, in a state with this text and this file.
@@ -21,27 +21,36 @@ async function taken({ kind, found, skipped, bytes }, { name, text, former }) {
   const state = { ...beginning(text), file: former && new SessionFile(former.name, former.bytes) };
   const next = kind === "recordings" ? withRecordings(state, found, skipped, NAMED) : kind === "sessions" ? withOtherFile(state, new SessionFile(name, bytes)) : state, { file } = next;
   if (file !== null) {
-    await new Clocks().read(file.entries.map(({ source }) => source), ENDED);
+    const ended = new AbortController();
+    ended.abort();
+    await new Clocks().read(file.entries.map(({ source }) => source), ended.signal);
     file.partsOver(next.text, (source) => source);
   }
   rowsOf(next);
   keptOf(next, false);
 }
 
-// Does what the page does with a file, until it is played; between two steps live() is called. One that is refused here is refused there.
+// What some work comes to, where live() is called now and then between two of its steps.
+function through(work, live) {
+  let told = performance.now(), step = work.next();
+  while (!step.done) {
+    if (performance.now() - told > OFTEN) {
+      live();
+      told = performance.now();
+    }
+    step = work.next();
+  }
+  live();
+  return step.value;
+}
+
+// Does what the page does with a file, until it is played. What is read in steps there is read in steps here, between which live() is called. One that is refused
+// here is refused there.
 export async function rehearse(request, live) {
   try {
-    const work = handing(request.name, request.bytes);
-    let told = performance.now(), step = work.next();
-    while (!step.done) {
-      if (performance.now() - told > OFTEN) {
-        live();
-        told = performance.now();
-      }
-      step = work.next();
-    }
-    live();
-    await taken(step.value, request);
+    const read = through(handing(request.name, request.bytes), live);
+    if (read.kind === "lines") through(readingRuns(read.text, MOST_SESSIONS), live);
+    else await taken(read, request);
   } catch (error) {
     if (!(error instanceof Refusal)) throw error;
   }

@@ -15,7 +15,8 @@ export const newName = () => `${FIRST} ${Date.now().toString(36)} ${Math.random(
 export function isFree(name, patience = 0) {
   if (!navigator.locks) return true;
   return new Promise((settle) => {
-    const options = patience > 0 ? { signal: /** @type {typeof AbortSignal & AbortSignals} */ (AbortSignal).timeout(patience) } : { ifAvailable: true };
+    const late = new AbortController(), options = patience > 0 ? { signal: late.signal } : { ifAvailable: true };
+    if (patience > 0) setTimeout(() => late.abort(), patience);
     const take = (lock) => {
       settle(lock !== null);
       return lock === null ? undefined : new Promise((release) => releases.set(name, release));

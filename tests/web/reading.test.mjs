@@ -288,6 +288,9 @@ it("a file is read in a rehearsal to its end, whatever it is", async () => {
   let words = 0;
   await rehearse({ name: "file", bytes: bytesOf(sessions), text: GAME, former }, () => { words += 1; });
   assert.equal(words, 1);
+  // lines are read to their end too, which is another step
+  await rehearse({ name: "lines", bytes: bytesOf('{"close":"passed","frames":0,"name":"one","session":0}\n'), text: GAME, former }, () => { words += 1; });
+  assert.equal(words, 3);
   await assert.rejects(rehearse({ name: "file", bytes: null, text: GAME, former: null }, () => {}), TypeError);
 });
 
