@@ -2,6 +2,7 @@
 // How a game looks, of what the engine has read of its text: objects with their colours, sprites and layers. The twin of python/saxtegun/games.py, but that
 // nothing is drawn of a text that is refused: it has no layers here.
 import { descriptionOf, settingsOf } from "./descriptions.mjs";
+import { firstsOf } from "./text-map.mjs";
 import { fold, shortened } from "./texts.mjs";
 
 const PALETTE = new Map(Object.entries({
@@ -21,13 +22,6 @@ const MOST_LEVELS = 1024; // to choose from: no game that is played has more ent
 const UNTITLED = "a game";
 const LIKE_A_CELL = /^[0-9]+,/; // what a name begins with that reads in a level text as a cell, and what stands behind it
 
-// A map in which the first of two with one key stays.
-function firsts(pairs) {
-  const map = new Map();
-  for (const [key, value] of pairs) if (!map.has(key)) map.set(key, value);
-  return map;
-}
-
 // The title that a text has last.
 export const titleOf = (source) => shortened(settingsOf(source).findLast(({ keyword }) => keyword === "title")?.value ?? UNTITLED);
 
@@ -43,9 +37,9 @@ export class Game {
     settings.forEach((setting) => this.readColours(setting));
     this.objects = told.objects.map((it) => ({ name: fold(it.names[0]), colours: this.coloursOf(it), sprite: this.spriteOf(it), layer: it.layer ?? null }));
     this.isReadBack = !this.objects.some(({ name }) => LIKE_A_CELL.test(name));
-    this.layers = new Map(this.objects.map(({ name, layer }) => [name, layer]));
-    this.firstNames = firsts(told.objects.flatMap(({ names }) => names.map((name) => [fold(name), fold(names[0])])));
-    this.definitions = firsts(told.legend.map((it) => [fold(it.left[0]), it]));
+    this.layers = firstsOf(this.objects.map(({ name, layer }) => [name, layer]));
+    this.firstNames = firstsOf(told.objects.flatMap(({ names }) => names.map((name) => [fold(name), fold(names[0])])));
+    this.definitions = firstsOf(told.legend.map((it) => [fold(it.left[0]), it]));
   }
 
   readColours({ keyword, value }) {

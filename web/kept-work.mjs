@@ -4,7 +4,7 @@ import { keyOfValue, lackingOf, withNote } from "./notes.mjs";
 import { packed, takePack, unpacked } from "./packing.mjs";
 import { lastLost, lostNow, remembering, withTexts } from "./past.mjs";
 import { MOST_INPUTS, SessionFile } from "./session-file.mjs";
-import { hasManyLists, whyNoField } from "./texts.mjs";
+import { whyNoField } from "./texts.mjs";
 import { beginning, besideField } from "./work.mjs";
 /** @typedef {import("./state").State} State */
 
@@ -54,7 +54,7 @@ function queueFrom(queue) {
 function fileFrom(value) {
   if (!value) return null;
   const bytes = unpacked(value);
-  wanted(isText(value.name) && bytes instanceof Uint8Array && !hasManyLists(new TextDecoder().decode(bytes)));
+  wanted(isText(value.name) && bytes instanceof Uint8Array);
   return takePack(new SessionFile(value.name, bytes), value);
 }
 

@@ -1,6 +1,7 @@
 // @ts-check
 // Level texts, read as docs/sessions.md has them: cells as labels of sets of names. The twin of python/saxtegun/levels.py.
-import { fold, salted } from "./texts.mjs";
+import { TextMap } from "./text-map.mjs";
+import { fold } from "./texts.mjs";
 
 const MOST_DIGITS = 9; // more cells than any level has
 export const MOST_OF_A_LEVEL = 2 ** 21; // letters of a level's text that the page reads, for which it takes half a second; levels for people have some thousand
@@ -9,22 +10,21 @@ export const MOST_OF_A_LEVEL = 2 ** 21; // letters of a level's text that the pa
 export class Labels {
   constructor() {
     this.names = [];
-    this.byNames = new Map();
-    this.byText = new Map();
+    this.byNames = new TextMap();
+    this.byText = new TextMap();
   }
 
   // The number of the set of names that a text spells.
   of(text) {
-    const spelled = salted(text);
-    if (!this.byText.has(spelled)) {
-      const all = text.split(" ").filter(Boolean).map(fold).sort(), names = all.filter((name, place) => name !== all[place - 1]), key = salted(names.join(" "));
+    if (!this.byText.has(text)) {
+      const all = text.split(" ").filter(Boolean).map(fold).sort(), names = all.filter((name, place) => name !== all[place - 1]), key = names.join(" ");
       if (!this.byNames.has(key)) {
         this.byNames.set(key, this.names.length);
         this.names.push(names);
       }
-      this.byText.set(spelled, this.byNames.get(key));
+      this.byText.set(text, this.byNames.get(key));
     }
-    return this.byText.get(spelled);
+    return this.byText.get(text);
   }
 }
 

@@ -1,12 +1,14 @@
 // @ts-check
 // A sessions file as the browser keeps it: where many sessions have one text, that stands there once. Each byte comes back.
+import { TextMap } from "./text-map.mjs";
+
 const LEAST = 65_536; // bytes of a file that is packed
 
 const packs = new WeakMap();
 const reading = new TextDecoder("utf-8", { ignoreBOM: true });
 
 function packOf(file) {
-  const { name, bytes } = file, texts = [], numbers = new Map(), pieces = [];
+  const { name, bytes } = file, texts = [], numbers = new TextMap(), pieces = [];
   if (bytes.length < LEAST) return { name, bytes };
   const spans = [...file.sourceSpans()], own = spans.reduce((sum, [begin, end]) => sum + end - begin, 0);
   if (2 * own <= bytes.length) return { name, bytes };

@@ -1,5 +1,7 @@
 // @ts-check
 // What can be put back: texts, recordings, names and sessions files that something else took the place of. The newest stands last.
+import { firstsOf } from "./text-map.mjs";
+
 /** @typedef {import("./state").State} State */
 
 export const MOST_PAST = 60;
@@ -97,7 +99,7 @@ const textOfEntry = ({ name, source, inputs, level, index, rest = [] }) => JSON.
 /** @param {State} before @param {State} after */
 function isFileLost(before, after) {
   if (before.file === null || before.file === after.file || !(before.isUnsaved || after.isUnsaved)) return false;
-  const there = new Set((after.file?.entries ?? []).map(textOfEntry));
+  const there = firstsOf((after.file?.entries ?? []).map((entry) => [textOfEntry(entry), true]));
   return before.file.entries.some((entry) => !there.has(textOfEntry(entry))) && !after.past.some((it) => it.file === before.file);
 }
 

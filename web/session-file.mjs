@@ -2,6 +2,7 @@
 // A sessions file as docs/sessions.md has it: its entries, and its bytes, of which a change leaves all else letter by letter. The twin of
 // python/saxtegun/sessions.py.
 import { elementsOf } from "../engine/saxtegun.mjs";
+import { TextMap } from "./text-map.mjs";
 
 /** @typedef {[number, number]} Span */
 /** @typedef {{ name: string, source: string, inputs: import("../engine/saxtegun").Session["inputs"], level: string, index: number, rest?: unknown[] }} Entry */
@@ -179,7 +180,7 @@ const sizeOf = (text) => new TextEncoder().encode(text).length;
 class PlayedTexts {
   constructor(played) {
     this.played = played;
-    this.known = new Map();
+    this.known = new TextMap();
   }
 
   // A text as it is played: { isSame, json, size }, where `isSame` is whether it stays as it is.

@@ -57,9 +57,3 @@ export function hasManyLists(text) {
   }
   return false;
 }
-
-// Letters of chance, which nobody who writes a text knows.
-const CHANCE = Array.from({ length: 8 }, () => String.fromCharCode(97 + 26 * Math.random())).join("");
-
-// The key of a stranger's text in a map: a browser takes long for many texts that were chosen to stand at one place of its maps.
-export const salted = (text) => CHANCE + text;

@@ -284,13 +284,18 @@ it("a file is read in a rehearsal to its end, whatever it is", async () => {
   for (const bytes of [bytesOf(sessions), bytesOf(`printed: ${recorded}`), bytesOf(GAME), bytesOf('{"session": 0}\n'), bytesOf(Array(65_537).fill(["", ["", [], ""]])), new Uint8Array([255, 216, 255])]) {
     for (const before of [null, former]) await rehearse({ name: "file", bytes, text: GAME, former: before }, () => {});
   }
-  // once it is read a word is given, and what is no refusal is thrown
+  // before each of the steps a word is given, as of the lines of another engine, where that takes long; and what is no refusal is thrown
   let words = 0;
-  await rehearse({ name: "file", bytes: bytesOf(sessions), text: GAME, former }, () => { words += 1; });
-  assert.equal(words, 1);
-  // lines are read to their end too, which is another step
-  await rehearse({ name: "lines", bytes: bytesOf('{"close":"passed","frames":0,"name":"one","session":0}\n'), text: GAME, former }, () => { words += 1; });
-  assert.equal(words, 3);
+  const long = `(${"x".repeat(70_000)})\n${GAME}`;
+  await rehearse({ name: "file", bytes: bytesOf([["one", [long, [0], ""]], ["two", [long, [1], ""]], ["three", ["", [2], ""]]]), text: GAME, former }, () => { words += 1; }, Infinity);
+  assert.equal(words, 2);
+  words = 0;
+  const lines = Array.from({ length: 3 }, (_, session) => `{"close":"passed","frames":0,"name":"one","session":${session}}\n`).join("");
+  await rehearse({ name: "lines", bytes: bytesOf(lines), text: GAME, former }, () => { words += 1; }, -1);
+  assert.ok(words >= 3);
+  const given = words;
+  await rehearse({ name: "lines", bytes: bytesOf(lines), text: GAME, former }, () => { words += 1; }, Infinity);
+  assert.equal(words, given + 1);
   await assert.rejects(rehearse({ name: "file", bytes: null, text: GAME, former: null }, () => {}), TypeError);
 });
 
@@ -317,6 +322,9 @@ test("a worker that reads a file to its end says so, one that gives no word for 
   const workers = [], begin = () => workers[workers.push(new Reading()) - 1], read = readerIn(begin, "the module", 50), stopping = new AbortController();
   const whole = read("a file", signal), silent = read("another", signal), broken = read("a third", signal), stopped = read("a fourth", stopping.signal);
   assert.deepEqual(workers[0].asked, [{ module: "the module" }, { file: "a file" }]);
+  // until its first word a worker has longer, since it has to begin
+  t.mock.timers.tick(29_000);
+  workers.slice(0, 2).forEach((worker) => worker.tell(false));
   for (let word = 0; word < 4; word += 1) {
     t.mock.timers.tick(20);
     workers[0].tell(false);
