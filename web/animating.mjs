@@ -39,7 +39,6 @@ export class Animation {
   // Begins where a key was played, and ends where anything else was done.
   /** @param {State} state */
   follow(state) {
-    /** @param {State} state */
     const isNew = state.played !== this.played;
     if (!isNew && this.scenes.length > 0 && scenesOf(state).length === 0) this.end();
     if (!isNew) return;

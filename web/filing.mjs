@@ -22,7 +22,6 @@ const withFile = (state, file, more) => remembering(state, { ...state, file, isU
 /** @param {State} state */
 export function accepted(state, numbers) {
   if (numbers.length === 0) return state;
-  /** @param {State} state */
   const file = state.file.withLevels(numbers.map((number) => [number, state.seen.get(number).reached]));
   const isUnsolved = numbers.some((number) => isSolvedWanted(file.entries[number]) && !state.seen.get(number).isSolved), demanded = isUnsolved ? "; not all are solved that must be" : "";
   return withFile(state, file, { saved: `${plural(numbers.length, "recorded level")} changed${demanded}` });
@@ -38,7 +37,6 @@ const nameOf = (state) => state.work.name || NAMELESS;
 // The number of the session that has the name which is written, or -1. Of several with that name it is the one that is open.
 /** @param {State} state */
 export function namesakeOf(state) {
-  /** @param {State} state */
   const entries = state.file?.entries ?? [], name = nameOf(state), { opened } = state.work;
   return entries[opened]?.name === name ? opened : entries.findIndex((entry) => entry.name === name);
 }
@@ -48,7 +46,6 @@ export function namesakeOf(state) {
 export function savedAs(state, number = null) {
   if (!isSavable(state) || state.order !== RECORDED_ORDER) return state;
   const { own, inputs, index } = state.work, entry = { name: nameOf(state), source: own ?? "", inputs, level: framesOf(state).at(-1).level, index };
-  /** @param {State} state */
   const former = state.file ?? SessionFile.empty(RECORDINGS), file = number === null ? former.with(entry) : former.withReplaced(number, entry);
   const opened = number ?? file.entries.length - 1;
   const next = withFile({ ...state, work: { ...state.work, opened: null } }, file, { work: { ...state.work, opened }, looked: null });
@@ -59,7 +56,6 @@ export function savedAs(state, number = null) {
 // Whether what is at hand is what was, or goes on with it.
 /** @param {State} state */
 function isSameAtHand(state, asked) {
-  /** @param {State} state */
   const isSame = state.file === asked.file && sourceOf(state) === sourceOf(asked) && ["index", "name", "opened"].every((it) => state.work[it] === asked.work[it]);
   return isSame && isBeginningOf(asked.work.inputs, state.work.inputs);
 }
@@ -67,7 +63,6 @@ function isSameAtHand(state, asked) {
 // Whether the open session is what was to be saved, as where that was asked for twice.
 /** @param {State} state */
 function isSavedAlready(state, asked) {
-  /** @param {State} state */
   const entry = state.file?.entries[state.work.opened], { index, inputs } = asked.work;
   return entry !== undefined && nameOf(state) === nameOf(asked) && entry.name === nameOf(asked) && entry.index === index && (entry.source || state.text) === sourceOf(asked) && isSameList(entry.inputs, inputs);
 }
@@ -88,7 +83,6 @@ export function removed(state) {
 // Lets the sessions that have another text follow the one at hand.
 /** @param {State} state */
 export function followed(state) {
-  /** @param {State} state */
   const numbers = state.file.entries.map((_, number) => number).filter((number) => isOther(state, number));
   const { work } = state, isOpenOther = work.opened !== null && numbers.includes(work.opened);
   const next = withFile(state, state.file.withoutSources(numbers), { seen: new Map(), work: isOpenOther ? { ...work, own: null } : work });
@@ -99,7 +93,6 @@ export function followed(state) {
 /** @param {State} state */
 export function withOtherFile(state, file, isUnsaved = false) {
   const work = { ...state.work, opened: null }, own = file === null ? null : theOneText(file);
-  /** @param {State} state */
   const isUntouched = state.text.trim() === "" || state.text === state.example;
   const taken = own !== null && isUntouched && work.own === null ? { text: own } : {};
   const next = { ...state, ...taken, file, work, isUnsaved, suite: null, good: null, seen: new Map(), comparison: null, isHeld: false, isNew: file !== null, tab: "sessions", told: null, saved: "", since: null };
@@ -112,7 +105,6 @@ export function withOtherFile(state, file, isUnsaved = false) {
 export function withRecordings(state, recordings, skipped = [], titles = undefined) {
   if (recordings.length > 4 * MOST_SESSIONS) throw new Refusal(`there are ${recordings.length.toLocaleString("en")} recordings: more than 65,536 sessions have no room here`);
   const one = theOneText({ entries: recordings }), isUntouched = state.text.trim() === "" || state.text === state.example;
-  /** @param {State} state */
   const text = state.file === null && isUntouched ? one ?? state.text : state.text, former = state.file ?? SessionFile.empty(RECORDINGS);
   const found = toAdd(recordings, former.entries, text, titles);
   if (former.entries.length + found.added.length > MOST_SESSIONS) throw new Refusal(`with them ${former.name} would have more than 65,536 sessions`);

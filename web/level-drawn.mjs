@@ -24,11 +24,9 @@ export class LevelDrawn {
   // The frame that is looked at, beside what it is compared with: the recorded level at the end, or another engine's frame.
   /** @param {State} state */
   comparedWith(state) {
-    /** @param {State} state */
     const parting = state.comparison?.partings[state.work.opened] ?? null;
     if (sessionOf(state) === null || runsOfNow(state) === null || !isPlayed(state)) return null;
     if (parting === null) return differenceOf(state) && { text: differenceOf(state).recorded, caption: "recorded" };
-    /** @param {State} state */
     const other = state.comparison.others[state.work.opened].frames[shownOf(state)];
     return other === undefined ? null : { text: other.level, caption: `the other engine's frame ${shownOf(state)}`, isOfEngines: true };
   }

@@ -41,7 +41,6 @@ function sessionTold(state) {
   const { opened, inputs } = state.work, run = runsOfNow(state)?.[opened] ?? null, parting = state.comparison?.partings[opened] ?? null;
   if (run === null) return null;
   if (parting !== null) return { text: `Diverges at ${partingTold(parting, runWithFrames(state.suite, opened), state.comparison.others[opened], inputs)}.`, close: "differs" };
-  /** @param {State} state */
   const clock = state.isTicked && hasClock(sourceOf(state)) ? ` Played ${WITHOUT_CLOCK}.` : "";
   if (run.isUnsolved) return { text: `Passed: the last level is the recorded one. But it must be solved, and isn't.${clock}`, close: "failed" };
   if (run.close === "passed") return { text: `Passed: the last level is the recorded one.${clock}`, close: "passed" };
@@ -154,7 +153,6 @@ export function tabTold(state) {
 /** @param {State} state */
 function suiteTold(state, runs) {
   const failures = failuresOf(state), unsolved = failures.filter(({ isUnsolved }) => isUnsolved).length, broken = failures.length - unsolved, took = `${plural(runs.length, "session")} in ${(state.suite.milliseconds / 1000).toFixed(1)} s`;
-  /** @param {State} state */
   const clocks = state.isTicked ? clocksOf(state) : 0, behind = clocks > 0 ? ` ${clocks} ${clocks === 1 ? "was" : "were"} played ${WITHOUT_CLOCK}.` : "";
   if (runs.length === 0) return { text: "The file has no session.", close: null };
   const failed = [[broken, "did not pass"], [unsolved, UNSOLVED]].filter(([count]) => count > 0).map((it) => it.join(" ")).join(", ");

@@ -115,7 +115,6 @@ function answeredKey(state, asked, { frames: more, cause, isSolved }) {
   const queue = messages.length > 0 ? [] : waiting;
   const told = isSolved ? "Solved: all levels are won." : isNext ? "The next level." : null;
   // who went to another frame since the key was pressed looks at that
-  /** @param {State} state */
   const looked = state.looked === key.looked ? null : state.looked;
   return remembering(state, { ...state, queue, work, looked, messages, played: { ...asked, frames, cause, isSolved }, told: told && { text: told, close: null } });
 }

@@ -71,7 +71,6 @@ export function stagesTold(state) {
 function neverTold(state) {
   const never = linesNeverActed(state);
   if (never.length === 0) return "Each line of rules acted, by itself or with its group or loop.";
-  /** @param {State} state */
   const where = state.work.own === null ? "(grey)" : `in this recording's own text: ${rangesTold(never)}`;
   return `${plural(never.length, "line")} of rules never acted ${where}.`;
 }

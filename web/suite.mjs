@@ -216,7 +216,6 @@ export function seeing(state) {
 // Whether a session was seen as it differs now.
 /** @param {State} state */
 export function isSeen(state, number) {
-  /** @param {State} state */
   const seen = state.seen.get(number);
   return seen !== undefined && runsOfNow(state)?.[number].close === "differs" && state.file.entries[number].level === seen.recorded;
 }

@@ -181,12 +181,10 @@ export function besideField({ text, work = workOn(text), ...more }) {
 // Puts back what was lost last.
 /** @param {State} state */
 export function putBack(state) {
-  /** @param {State} state */
   const last = state.past.at(-1);
   if (last === undefined) return state;
   const why = last.text === undefined ? null : whyNoField(last.text), { past, ...lost } = why === null ? { ...last, past: [] } : besideField(last);
   const { text = state.text, work = state.work, file = state.file, isUnsaved = state.isUnsaved } = lost;
-  /** @param {State} state */
   const below = state.past.slice(0, -1), open = { ...work, opened: stillOpened(work, file, text) }, told = why && { text: noFieldTold("The text that was put back", why), close: null };
   const next = { ...state, text, work: open, file, isUnsaved, past: [...(why === null ? below : leavingText(below, last.text)), ...lostNow(past, state.past)], looked: null, queue: [], ...AFRESH, told };
   return behindAll(state, next);
