@@ -51,17 +51,17 @@ function queueFrom(queue) {
   return queue.slice(0, MOST_INPUTS).map(({ input, behind, looked }) => ({ input, behind, looked }));
 }
 
-function fileFrom(value) {
+function fileFrom(value, read = (name, bytes) => new SessionFile(name, bytes)) {
   if (!value) return null;
   const bytes = unpacked(value);
   wanted(isText(value.name) && bytes instanceof Uint8Array);
-  return takePack(new SessionFile(value.name, bytes), value);
+  return takePack(read(value.name, bytes), value);
 }
 
 function lostFrom(value) {
   const { text, work, file, isUnsaved, number } = value;
   wanted(text === undefined || isText(text));
-  const lost = { ...(isWhole(number) ? { number } : {}), ...(isText(text) ? { text } : {}), ...(work ? { work: workFrom(work, null) } : {}), ...(file ? { file: fileFrom(file), isUnsaved: Boolean(isUnsaved) } : {}) };
+  const lost = { ...(isWhole(number) ? { number } : {}), ...(isText(text) ? { text } : {}), ...(work ? { work: workFrom(work, null) } : {}), ...(file ? { file: fileFrom(file, SessionFile.kept), isUnsaved: Boolean(isUnsaved) } : {}) };
   keptLosses.set(lost, value);
   return lost;
 }

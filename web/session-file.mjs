@@ -221,24 +221,49 @@ class Part {
   }
 }
 
+// The entries of a file.
+/** @type {(name: string, bytes: Uint8Array) => Entry[]} */
+function entriesIn(name, bytes) {
+  let values = null;
+  try {
+    values = JSON.parse(textOf(bytes, name));
+  } catch (error) {
+    if (error instanceof Refusal) throw error;
+    throw new Refusal(`${name} is no JSON list of sessions: ${error.message}`);
+  }
+  if (!Array.isArray(values)) throw new Refusal(`${name} is no JSON list of sessions`);
+  try {
+    return values.map(entryOf);
+  } catch (error) {
+    throw error instanceof Refusal ? new Refusal(`${name}, ${error.message}`) : error;
+  }
+}
+
+// The same, or none where they can't be read.
+function entriesOrNone(name, bytes) {
+  try {
+    return entriesIn(name, bytes);
+  } catch (error) {
+    if (error instanceof Refusal) return [];
+    throw error;
+  }
+}
+
 export class SessionFile {
-  constructor(name, bytes) {
+  constructor(name, bytes, entries = entriesIn(name, bytes)) {
     this.name = name;
     this.bytes = bytes;
-    let values = null;
-    try {
-      values = JSON.parse(textOf(bytes, name));
-    } catch (error) {
-      if (error instanceof Refusal) throw error;
-      throw new Refusal(`${name} is no JSON list of sessions: ${error.message}`);
-    }
-    if (!Array.isArray(values)) throw new Refusal(`${name} is no JSON list of sessions`);
-    try {
-      /** @type {Entry[]} */
-      this.entries = values.map(entryOf);
-    } catch (error) {
-      throw error instanceof Refusal ? new Refusal(`${name}, ${error.message}`) : error;
-    }
+    this.read = entries;
+  }
+
+  // A file that was kept, which is read once its sessions are asked for: many may have been. It has none where they can't be read.
+  static kept(name, bytes) {
+    return new SessionFile(name, bytes, null);
+  }
+
+  get entries() {
+    if (this.read === null) this.read = entriesOrNone(this.name, this.bytes);
+    return this.read;
   }
 
   static empty(name) {

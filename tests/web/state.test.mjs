@@ -440,6 +440,16 @@ it("all is there at the next visit: text, inputs, name, the file and what can be
   assert.deepEqual(bench.state.work.inputs, [1]);
 });
 
+it("a file that can be put back is read once it is, and has no sessions where it can't be read", async () => {
+  const { kept } = await withPush(), bytes = new TextEncoder().encode('[["one",["",[1],"background:0,"]]]');
+  for (const [wanted, written] of [[["one"], bytes], [[], new Uint8Array([1])]]) {
+    const state = stateFrom({ ...kept, past: [{ file: { name: "f.json", bytes: written }, isUnsaved: true }] }, GAME);
+    assert.equal(state.past[0].file.read, null);
+    const back = putBack(state);
+    assert.deepEqual([back.file.name, back.file.bytes, back.file.entries.map(({ name }) => name)], ["f.json", written, wanted]);
+  }
+});
+
 it("what can't be read, or has another version, leaves a page that works", async () => {
   const { kept } = await withPush();
   const strange = [null, 1, "", {}, [], { version: 3 }, { ...kept, version: 9 }, { ...kept, text: 5 }, { ...kept, work: null }, { ...kept, work: { ...kept.work, inputs: [9] } }, { ...kept, past: 3 },
