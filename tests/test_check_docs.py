@@ -138,7 +138,7 @@ class OfTheBook(OnOneRule):
             [
                 "# The rule book",
                 "## Numbers (docs/language.md)",
-                "### number.same",
+                "### number.same, docs/language.md:5",
                 "A number is itself. It stays so.",
                 "Definition `same`, crates/pz_one/specs/Lib.antt:6",
                 "    -- the number\n    -- itself\n    abbrev pub same : ℕ → ℕ\n    same n = n",
@@ -157,10 +157,10 @@ class OfTheBook(OnOneRule):
         )
 
     def test_words_choose_by_what_they_begin_and_by_the_id_first(self) -> None:
-        self.write("docs/sessions.md", "# Files\n\nThe same numbers. <sub>file.numbers</sub>\n\nAny number stays. <sub>file.same</sub>\n")
-        for words, wanted in ((("same",), ["number.same", "file.same", "file.numbers"]), (("FILE", "number"), ["file.numbers", "file.same"]), (("umbers",), [])):
+        self.write("docs/sessions.md", "# Files\n\nThe same numbers. <sub>file.numbers</sub>\n\nAny number stays, and a `large_number`. <sub>file.same</sub>\n")
+        for words, wanted in ((("same",), ["number.same", "file.same", "file.numbers"]), (("FILE", "number"), ["file.numbers", "file.same"]), (("large", "number"), ["file.same"]), (("`",), ["file.same"]), (("umbers",), [])):
             with self.subTest(words):
-                self.assertEqual([it[4:] for it in run(self.book, *words).out.splitlines() if it.startswith("### ")], wanted)
+                self.assertEqual([it[4:].partition(",")[0] for it in run(self.book, *words).out.splitlines() if it.startswith("### ")], wanted)
 
     def test_words_that_no_rule_has(self) -> None:
         answer = run(self.book, "number", "nobody")
