@@ -223,7 +223,7 @@ class Part {
 
 // The entries of a file.
 /** @type {(name: string, bytes: Uint8Array) => Entry[]} */
-function entriesIn(name, bytes) {
+function sessionsIn(name, bytes) {
   let values = null;
   try {
     values = JSON.parse(textOf(bytes, name));
@@ -240,9 +240,9 @@ function entriesIn(name, bytes) {
 }
 
 // The same, or none where they can't be read.
-function entriesOrNone(name, bytes) {
+function sessionsOrNone(name, bytes) {
   try {
-    return entriesIn(name, bytes);
+    return sessionsIn(name, bytes);
   } catch (error) {
     if (error instanceof Refusal) return [];
     throw error;
@@ -250,7 +250,7 @@ function entriesOrNone(name, bytes) {
 }
 
 export class SessionFile {
-  constructor(name, bytes, entries = entriesIn(name, bytes)) {
+  constructor(name, bytes, entries = sessionsIn(name, bytes)) {
     this.name = name;
     this.bytes = bytes;
     this.read = entries;
@@ -262,7 +262,7 @@ export class SessionFile {
   }
 
   get entries() {
-    if (this.read === null) this.read = entriesOrNone(this.name, this.bytes);
+    if (this.read === null) this.read = sessionsOrNone(this.name, this.bytes);
     return this.read;
   }
 
