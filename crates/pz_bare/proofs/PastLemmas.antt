@@ -2,7 +2,7 @@
 use Rattle.std.proofs.Common.{◌≡◌, List, [], ◌∷◌, ◌++◌, Option, Some, None, map, reverse, refl, ap, sym, ◌∙◌, subst}
 use Rattle.std.specs.Bool.{⊤}
 use Rattle.std.proofs.lemmas.List.{map-append, reverse-append}
-use Rattle.pz_sheet.specs.Changes.{changes_seen, restored}
+use Rattle.pz_sheet.specs.Changes.{changes_seen, with_cells_back}
 use Rattle.pz_sheet.specs.Grid.{Grid, BareState, SameSize}
 use Rattle.pz_bare.specs.declared.older.Older.{Older}
 use Rattle.pz_bare.specs.declared.older.Older.TheVariants.{Small, Middle, Large, Whole}
@@ -18,9 +18,9 @@ ways_fewer before now way last newest e is ways =
 
 -- what a way leads back to follows from what it keeps
 abbrev given_by : Kept → Grid → Grid
-given_by (Some changes, rest) grid = restored (changes_seen grid changes) grid
-given_by (None, (Some changes, rest)) grid = restored (changes_seen grid changes) grid
-given_by (None, (None, (Some changes, rest))) grid = restored (changes_seen grid changes) grid
+given_by (Some changes, rest) grid = with_cells_back (changes_seen grid changes) grid
+given_by (None, (Some changes, rest)) grid = with_cells_back (changes_seen grid changes) grid
+given_by (None, (None, (Some changes, rest))) grid = with_cells_back (changes_seen grid changes) grid
 given_by (None, (None, (None, Some level))) grid = level
 given_by (None, (None, (None, None))) grid = grid
 

@@ -12,7 +12,7 @@ use Rattle.pz_game.specs.declared.level.LevelEntry.TheVariants.{Message, Level}
 use Rattle.pz_cells.specs.declared.piece.Piece.{Piece}
 use Rattle.pz_cells.specs.Cell.{still_piece}
 use Rattle.pz_sheet.specs.Grid.{Grid, place_at}
-use Rattle.pz_sheet.specs.Loading.{drawn, filled}
+use Rattle.pz_sheet.specs.Loading.{drawn_level, with_piece_everywhere}
 
 -- the first element that is there
 abbrev pub first_of : {X : Type 0} → List (Option X) → Option X
@@ -29,7 +29,7 @@ first_on grid layer = first_of (map (first_in_column grid layer) (range_with_len
 
 -- load.background: the level with a background in each cell; `object` is the background's first, and `layer` is its layer
 abbrev pub with_background : ℕ → ℕ → Grid → Grid
-with_background layer object grid = filled layer (unwrap_or (first_on grid layer) (still_piece object)) grid
+with_background layer object grid = with_piece_everywhere layer (unwrap_or (first_on grid layer) (still_piece object)) grid
 
 -- a message draws nothing
 abbrev pub drawing_of : LevelEntry → Drawing
@@ -37,8 +37,8 @@ drawing_of Message = record { width = 0; height = 0; cells = [] }
 drawing_of (Level drawing) = drawing
 
 abbrev pub loaded_from : GameParts → Drawing → Grid
-loaded_from game drawing = with_background (slice_index game.layers (background_of game)) (background_of game) (drawn game drawing)
+loaded_from game drawing = with_background (slice_index game.layers (background_of game)) (background_of game) (drawn_level game drawing)
 
 -- the level of the entry of this number
-abbrev pub loaded : GameParts → ℕ → Grid
-loaded game index = loaded_from game (drawing_of (entry_at game index))
+abbrev pub level_of_entry : GameParts → ℕ → Grid
+level_of_entry game index = loaded_from game (drawing_of (entry_at game index))

@@ -1,16 +1,16 @@
 -- The past: the way back from each level to the one before it, and what a past is to its callers.
 use Rattle.std.specs.Prelude.{◌≡◌, ℕ, ◌≤◌, List, [], ◌∷◌, Option, Some, None, All, ⊤, length}
 use Rattle.pz_sheet.specs.declared.changes.Change.{Change}
-use Rattle.pz_sheet.specs.Changes.{changed_cells, changes_seen, IsChangeOf, restored}
+use Rattle.pz_sheet.specs.Changes.{changed_cells, changes_seen, IsChangeOf, with_cells_back}
 use Rattle.pz_sheet.specs.Grid.{Grid, BareState, SameSize}
 use Rattle.pz_bare.specs.declared.older.Older.{Older}
 use Rattle.pz_bare.specs.declared.older.Older.TheVariants.{Small, Middle, Large, Whole}
 
 -- the level to which a way leads back from this one
 abbrev pub given_back : Older → Grid → Grid
-given_back (Small changes) grid = restored (changes_seen grid changes.items) grid
-given_back (Middle changes) grid = restored (changes_seen grid changes.items) grid
-given_back (Large changes) grid = restored (changes_seen grid changes.items) grid
+given_back (Small changes) grid = with_cells_back (changes_seen grid changes.items) grid
+given_back (Middle changes) grid = with_cells_back (changes_seen grid changes.items) grid
+given_back (Large changes) grid = with_cells_back (changes_seen grid changes.items) grid
 given_back (Whole level) grid = level.value.grid
 
 -- what a way keeps, wherever its memory lies: changes of one, two or four words a cell, or the whole older level

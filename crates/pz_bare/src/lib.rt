@@ -9,11 +9,11 @@ ghost use Rattle.pz_game.specs.declared.pattern.Item.{Item};
 ghost use Rattle.pz_game.specs.Pattern.{AreOf, AsksAmong, IsRowOf};
 ghost use Rattle.pz_cells.specs.Cell.{moving_piece, still_piece};
 ghost use Rattle.pz_sheet.specs.Grid.{IsLawful, IsOnMap, place_at};
-ghost use Rattle.pz_sheet.specs.Movement.{carried, stilled, IsStillAt, AreStill, AreColumnsStill};
+ghost use Rattle.pz_sheet.specs.Movement.{with_piece_moved, still_level, IsStillAt, AreStill, AreColumnsStill};
 ghost use Rattle.pz_sheet.specs.Presence.{is_in, cell_of, holds_both, holds_if};
 ghost use Rattle.pz_sheet.specs.Line.{line_count};
 ghost use Rattle.pz_sheet.specs.Marks.{AreMarksOf};
-ghost use Rattle.pz_sheet.specs.Pushing.{pushed};
+ghost use Rattle.pz_sheet.specs.Pushing.{pushed_level};
 ghost use Rattle.pz_sheet.specs.Rewriting.{with_rewritten, changes};
 ghost use Rattle.pz_sheet.specs.Searching.{HoldsSomewhere};
 ghost use Rattle.pz_sheet.specs.Standing.{standing_at, stands};
@@ -200,7 +200,7 @@ impl BareLevel {
         requires goal_on_map { IsOnMap self.old.grid next_x next_y }
         requires there { place_at self.old.grid x y mover.layer ≡ Some (moving_piece mover) }
         requires free { place_at self.old.grid next_x next_y mover.layer ≡ None }
-        ensures carried { self.new.grid ≡ carried self.old.grid x y mover next_x next_y }
+        ensures carried { self.new.grid ≡ with_piece_moved self.old.grid x y mover next_x next_y }
         ensures there { place_at self.new.grid next_x next_y mover.layer ≡ Some (still_piece mover.object) }
     {
         match &mut *self.sheet {
@@ -253,7 +253,7 @@ impl BareLevel {
 
     /// Gives a direction to each of these objects in the level.
     pub fn push_all(&mut self, players: &[usize], dir: Dir)
-        ensures pushed { self.new.grid ≡ pushed players.now dir self.old.grid }
+        ensures pushed { self.new.grid ≡ pushed_level players.now dir self.old.grid }
         ensures lawful { IsLawful self.new.grid }
     {
         match &mut *self.sheet {
@@ -305,7 +305,7 @@ impl BareLevel {
 
     /// Stills every piece.
     pub fn still_all(&mut self)
-        ensures stilled { self.new.grid ≡ stilled self.old.grid }
+        ensures stilled { self.new.grid ≡ still_level self.old.grid }
         ensures lawful { IsLawful self.new.grid }
     {
         match &mut *self.sheet {

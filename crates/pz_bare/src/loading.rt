@@ -5,9 +5,9 @@ ghost use Rattle.pz_game.specs.Level.{is_playable, entry_at};
 ghost use Rattle.pz_game.specs.Game.{background_of};
 ghost use Rattle.pz_cells.specs.Cell.{IsOnLayer};
 ghost use Rattle.pz_sheet.specs.Grid.{IsLawful};
-ghost use Rattle.pz_sheet.specs.Loading.{IsRoomFor, drawn};
+ghost use Rattle.pz_sheet.specs.Loading.{IsRoomFor, drawn_level};
 ghost use Rattle.pz_bare.specs.AnySheet.{state_in, IsFitting};
-ghost use Rattle.pz_bare.specs.Loading.{first_in_column, first_on, with_background, loaded_from, loaded};
+ghost use Rattle.pz_bare.specs.Loading.{first_in_column, first_on, with_background, loaded_from, level_of_entry};
 
 use crate::{AnySheet, BareLevel};
 use pz_cells::piece::Piece;
@@ -21,7 +21,7 @@ impl BareLevel {
     /// Rules `load.glyphs`, `load.background`.
     pub fn load(alloc: Global, game: &Game, index: usize) -> Result<BareLevel, AllocError>
         requires { is_playable (entry_at game.now index) ≡ true }
-        ensures loaded { IfOk result (λ bare. bare.grid ≡ loaded game.now index) }
+        ensures loaded { IfOk result (λ bare. bare.grid ≡ level_of_entry game.now index) }
         ensures lawful { IfOk result (λ bare. IsLawful bare.grid) }
     {
         match &game.levels()[index] {

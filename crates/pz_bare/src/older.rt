@@ -2,7 +2,7 @@
 
 ghost use Rattle.std.specs.Prelude.{◌≡◌, IfOk, OnOk, OnErr, All, map};
 ghost use Rattle.pz_bare.specs.Past.{given_back, kept_in, Leads, IsFor};
-ghost use Rattle.pz_sheet.specs.Changes.{changes_seen, IsChangeOf, restored};
+ghost use Rattle.pz_sheet.specs.Changes.{changes_seen, IsChangeOf, with_cells_back};
 ghost use Rattle.pz_sheet.specs.Grid.{SameSize};
 
 use crate::{AnySheet, BareLevel};
@@ -73,7 +73,7 @@ impl BareLevel {
     fn take_small(&mut self, changes: &[Change<1>])
         requires room { IsFor 128 25 self.old.grid }
         requires of_level { All (IsChangeOf self.old.grid) changes.now }
-        ensures { self.new.grid ≡ restored (changes_seen self.old.grid changes.now) self.old.grid }
+        ensures { self.new.grid ≡ with_cells_back (changes_seen self.old.grid changes.now) self.old.grid }
     {
         match &mut *self.sheet {
             AnySheet::Small(sheet) => sheet.take_changes(changes),
@@ -84,7 +84,7 @@ impl BareLevel {
     fn take_middle(&mut self, changes: &[Change<2>])
         requires room { (IsFor 128 25 self.old.grid → ⊥) × IsFor 256 50 self.old.grid }
         requires of_level { All (IsChangeOf self.old.grid) changes.now }
-        ensures { self.new.grid ≡ restored (changes_seen self.old.grid changes.now) self.old.grid }
+        ensures { self.new.grid ≡ with_cells_back (changes_seen self.old.grid changes.now) self.old.grid }
     {
         match &mut *self.sheet {
             AnySheet::Middle(sheet) => sheet.take_changes(changes),
@@ -95,7 +95,7 @@ impl BareLevel {
     fn take_large(&mut self, changes: &[Change<4>])
         requires room { IsFor 256 50 self.old.grid → ⊥ }
         requires of_level { All (IsChangeOf self.old.grid) changes.now }
-        ensures { self.new.grid ≡ restored (changes_seen self.old.grid changes.now) self.old.grid }
+        ensures { self.new.grid ≡ with_cells_back (changes_seen self.old.grid changes.now) self.old.grid }
     {
         match &mut *self.sheet {
             AnySheet::Large(sheet) => sheet.take_changes(changes),

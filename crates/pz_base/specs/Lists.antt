@@ -13,11 +13,11 @@ firsts same [] = []
 firsts same (x ∷ xs) = x ∷ filter (λ y. not (same x y)) (firsts same xs)
 
 -- the kept elements, with one more at the end unless one of them is the same
-abbrev pub added : {X : Type 0} → (X → X → Bool) → List X → X → List X
-added same kept x = if list_any (λ other. same other x) kept then kept else kept ++ x ∷ []
+abbrev pub with_new : {X : Type 0} → (X → X → Bool) → List X → X → List X
+with_new same kept x = if list_any (λ other. same other x) kept then kept else kept ++ x ∷ []
 
 abbrev pub added_all : {X : Type 0} → (X → X → Bool) → List X → List X → List X
-added_all same kept xs = fold (added same) kept xs
+added_all same kept xs = fold (with_new same) kept xs
 
 -- the product of numbers
 abbrev pub product_of : List ℕ → ℕ

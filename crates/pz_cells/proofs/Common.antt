@@ -11,9 +11,9 @@ pub use Rattle.pz_cells.specs.Cell.{IsOnLayer, empty_cell, still_piece, still_pl
 pub use Rattle.pz_cells.specs.Differing.{AreAlikeBetween, Differ}
 pub use Rattle.pz_cells.specs.Drawing.{filled_cell, glyph_cell, with_object}
 pub use Rattle.pz_cells.specs.Layering.{IsLayering, Layering}
-pub use Rattle.pz_cells.specs.Lists.{AreAlike, AreMapped, HeadNowhere, IsSound, IsStilled, seen}
+pub use Rattle.pz_cells.specs.Lists.{AreAlike, AreMapped, HeadNowhere, IsSound, IsStilled, pieces_of_cell}
 pub use Rattle.pz_cells.specs.Rewrites.{ends, is_displaced}
-pub use Rattle.pz_cells.specs.Rewriting.{heading_of, kept, new_heading, replaced, rewritten_cell, rewritten_place}
+pub use Rattle.pz_cells.specs.Rewriting.{heading_of, kept, new_heading, piece_after, rewritten_cell, rewritten_place}
 pub use Rattle.pz_cells.specs.Sameness.{same_cell, same_place}
 pub use Rattle.pz_cells.specs.Shown.{AreLawful, Changes, IsSetOf, Shows, cell_of, piece_with, place_of, stands_on}
 pub use Rattle.pz_cells.specs.Standing.{standing}

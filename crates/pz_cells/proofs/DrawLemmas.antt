@@ -1,5 +1,5 @@
 -- Cells that are drawn and filled.
-use Rattle.pz_cells.proofs.Common.{fold, drop, at_drop_more, range_with_len, true, arith, ◌≡◌, ℕ, ◌+◌, ◌<◌, List, [], ◌∷◌, ◌++◌, map, take, Option, None, false, length, get_or, sym, ◌∙◌, replicate, common_steps, glyph_objects, map_more, member, heads, flag, Cell, Piece, empty_cell, cell_of, Shows, AreLawful, Layering, seen, IsSound, All}
+use Rattle.pz_cells.proofs.Common.{fold, drop, at_drop_more, range_with_len, true, arith, ◌≡◌, ℕ, ◌+◌, ◌<◌, List, [], ◌∷◌, ◌++◌, map, take, Option, None, false, length, get_or, sym, ◌∙◌, replicate, common_steps, glyph_objects, map_more, member, heads, flag, Cell, Piece, empty_cell, cell_of, Shows, AreLawful, Layering, pieces_of_cell, IsSound, All}
 use Rattle.std.proofs.lemmas.Option.{slice_get-get_or}
 use Rattle.std.proofs.lemmas.List.{map_push}
 use Rattle.std.proofs.lemmas.List.FromFn.{length-range_with_len}
@@ -26,12 +26,12 @@ seen_empty depth layers n =
 -- one more cell of a glyph
 pub record AreGlyphs {N : ℕ} (layering : Layering) (f : ℕ → List (Option Piece)) (numbers : List ℕ) (cells : List (Cell N)) : Type 0 where
   pub sound : All (IsSound layering) cells
-  pub cells_are : map (seen layering) cells ≡ map f numbers
+  pub cells_are : map (pieces_of_cell layering) cells ≡ map f numbers
 
-pub glyphs_more : {N : ℕ} (layering : Layering) (f : ℕ → List (Option Piece)) (numbers : List ℕ) (index d : ℕ) (cells now : List (Cell N)) (cell : Cell N) → index < length numbers → AreGlyphs layering f (take index numbers) cells → IsSound layering cell → seen layering cell ≡ f (get_or numbers index d) → now ≡ cells ++ cell ∷ [] → AreGlyphs layering f (take (index + 1) numbers) now
+pub glyphs_more : {N : ℕ} (layering : Layering) (f : ℕ → List (Option Piece)) (numbers : List ℕ) (index d : ℕ) (cells now : List (Cell N)) (cell : Cell N) → index < length numbers → AreGlyphs layering f (take index numbers) cells → IsSound layering cell → pieces_of_cell layering cell ≡ f (get_or numbers index d) → now ≡ cells ++ cell ∷ [] → AreGlyphs layering f (take (index + 1) numbers) now
 glyphs_more layering f numbers index d cells now cell within are sound e is = record {
   sound = All-same (IsSound layering) now (cells ++ cell ∷ []) is (All-push (IsSound layering) cells cell are.sound sound);
-  cells_are = grind (arith, is, map_push (seen layering) cells cell, are.cells_are, e, map_more f numbers index d within);
+  cells_are = grind (arith, is, map_push (pieces_of_cell layering) cells cell, are.cells_are, e, map_more f numbers index d within);
 }
 
 -- a glyph's objects, as they are read

@@ -1,5 +1,5 @@
 -- Lists of cells in words, changed one by one.
-use Rattle.pz_cells.proofs.Common.{inl, inr, ◌^◌, get_or-set_same, get_or-set_other, length-set, range_with_len, ◌≢◌, ◌≡◌, ℕ, ◌+◌, ◌*◌, ◌<◌, ◌≤◌, List, [], Option, Bool, true, false, map, set, length, get_or, sym, ◌∙◌, subst, arith, cases_eq, get_or_default, length-map, get_or-map, ext_get_or, member, Dir, heads, flag, Cell, Piece, still_place, place_of, cell_of, Shows, AreLawful, Layering, seen, IsSound, AreMapped, All}
+use Rattle.pz_cells.proofs.Common.{inl, inr, ◌^◌, get_or-set_same, get_or-set_other, length-set, range_with_len, ◌≢◌, ◌≡◌, ℕ, ◌+◌, ◌*◌, ◌<◌, ◌≤◌, List, [], Option, Bool, true, false, map, set, length, get_or, sym, ◌∙◌, subst, arith, cases_eq, get_or_default, length-map, get_or-map, ext_get_or, member, Dir, heads, flag, Cell, Piece, still_place, place_of, cell_of, Shows, AreLawful, Layering, pieces_of_cell, IsSound, AreMapped, All}
 use prog.Memory.{up}
 use Rattle.std.proofs.lemmas.Simd.{map-map}
 use Rattle.pz_cells.proofs.PlaceLemmas.{cell_shown, lawful_from_shows}
@@ -54,12 +54,12 @@ walked_more Turns old now index cell new within w is turns = record {
 
 -- a cell is changed as a function says of what is seen of it
 abbrev pub Turns : {N : ℕ} → Layering → (List (Option Piece) → List (Option Piece)) → Cell N → Cell N → Type 0
-Turns layering f cell new = IsSound layering new × (seen layering new ≡ f (seen layering cell))
+Turns layering f cell new = IsSound layering new × (pieces_of_cell layering new ≡ f (pieces_of_cell layering cell))
 
 pub walked_all : {N : ℕ} (layering : Layering) (f : List (Option Piece) → List (Option Piece)) (old now : List (Cell N)) → ((k : ℕ) (cell : Cell N) → k < length old → Turns layering f (get_or old k cell) (get_or now k cell)) → length now ≡ length old → AreMapped layering f old now
 walked_all {N} layering f old now turned long = record {
   sound = λ k cell within. (turned k cell (omega (arith, within, long))).0;
-  cells = ext_get_or [] (map (seen layering) now) (map f (map (seen layering) old)) (grind (arith, long, length-map now (seen layering), length-map old (seen layering), length-map (map (seen layering) old) f)) (λ k within.
-      let low : k < length old = omega (arith, within, length-map now (seen layering), long) in
-      grind (arith, (turned k (no_cell N) low).1, get_or-map (seen layering) now k (no_cell N) [], get_or-map f (map (seen layering) old) k [] [], get_or-map (seen layering) old k (no_cell N) [] low, low, long, length-map old (seen layering)));
+  cells = ext_get_or [] (map (pieces_of_cell layering) now) (map f (map (pieces_of_cell layering) old)) (grind (arith, long, length-map now (pieces_of_cell layering), length-map old (pieces_of_cell layering), length-map (map (pieces_of_cell layering) old) f)) (λ k within.
+      let low : k < length old = omega (arith, within, length-map now (pieces_of_cell layering), long) in
+      grind (arith, (turned k (no_cell N) low).1, get_or-map (pieces_of_cell layering) now k (no_cell N) [], get_or-map f (map (pieces_of_cell layering) old) k [] [], get_or-map (pieces_of_cell layering) old k (no_cell N) [] low, low, long, length-map old (pieces_of_cell layering)));
 }

@@ -1,5 +1,5 @@
 -- What a rewriting does to the sets of a cell.
-use Rattle.pz_cells.proofs.Common.{IfSome, map, find, option_map, piece_with, first_of, range_with_len, ◌≡◌, ℕ, ◌<◌, List, Option, Some, None, Bool, true, false, cond, not, ◌&&◌, ◌||◌, length, get_or, arith, ap, sym, ◌∙◌, refl, nat_eq, All, is_some, ◌↔◌, or_right, or_parts, length-map-range_with_len, member, Piece, Dir, Word, Item, AreOf, standing, same_cell, is_toward, flag, heads, IsProper, place_of, cell_of, Shows, AreLawful, each_number, names, placed_on, tells_of, tells_movement, heading_of, new_heading, kept, replaced, rewritten_place, rewritten_cell, Masks, toward, begins, settles, AreMasksOf, ends, is_displaced}
+use Rattle.pz_cells.proofs.Common.{IfSome, map, find, option_map, piece_with, first_of, range_with_len, ◌≡◌, ℕ, ◌<◌, List, Option, Some, None, Bool, true, false, cond, not, ◌&&◌, ◌||◌, length, get_or, arith, ap, sym, ◌∙◌, refl, nat_eq, All, is_some, ◌↔◌, or_right, or_parts, length-map-range_with_len, member, Piece, Dir, Word, Item, AreOf, standing, same_cell, is_toward, flag, heads, IsProper, place_of, cell_of, Shows, AreLawful, each_number, names, placed_on, tells_of, tells_movement, heading_of, new_heading, kept, piece_after, rewritten_place, rewritten_cell, Masks, toward, begins, settles, AreMasksOf, ends, is_displaced}
 use Rattle.pz_cells.proofs.SameLemmas.{same_cell_is, same_cell_self}
 use Rattle.pz_cells.proofs.PlaceLemmas.{lawful_from_shows, cell_shown}
 use Rattle.pz_game.specs.Items.{names_object, forbids_object}
@@ -99,7 +99,7 @@ module _ (layers : List ℕ) (left right : List Item) (l r : Masks) (objects mov
     )
     by_here e (Some piece) shown = by_test e piece shown (is_removed left right piece.object) refl
 
-    by_placed : (found : Option Item) → placed_on layer right ≡ found → Shows layers (member objects_new) (heads movement_new layer) layer (replaced found (tells_of layer left) left right here)
+    by_placed : (found : Option Item) → placed_on layer right ≡ found → Shows layers (member objects_new) (heads movement_new layer) layer (piece_after found (tells_of layer left) left right here)
     by_placed None e = by_here e here shown
     by_placed (Some item) e =
         let is = placed_is layers layer right item w.are e in (
@@ -126,22 +126,22 @@ module _ (layers : List ℕ) (left right : List Item) (l r : Masks) (objects mov
   mid_proper number high = grind (arith, w.is_mid number, w.lawful.proper number high, w.mr.proper_headed number high)
 
   -- whether the cell changed
-  pub changed_by : (depth : ℕ) (moved replaced : Bool) → All (λ layer. layer < depth) layers → IsProper movement_new → ((moved ≡ false) ↔ ((number : ℕ) → member mid number ≡ member movement number)) → ((replaced ≡ false) ↔ ((number : ℕ) → member objects_new number ≡ member objects number))
-      → (moved || replaced) ≡ not (same_cell (rewritten_cell left right (cell_of depth layers objects movement)) (cell_of depth layers objects movement))
-  changed_by depth moved replaced low proper is_moved is_replaced =
-      decided (moved || replaced) (rewritten_cell left right (cell_of depth layers objects movement)) (cell_of depth layers objects movement) forth back where
+  pub changed_by : (depth : ℕ) (moved piece_after : Bool) → All (λ layer. layer < depth) layers → IsProper movement_new → ((moved ≡ false) ↔ ((number : ℕ) → member mid number ≡ member movement number)) → ((piece_after ≡ false) ↔ ((number : ℕ) → member objects_new number ≡ member objects number))
+      → (moved || piece_after) ≡ not (same_cell (rewritten_cell left right (cell_of depth layers objects movement)) (cell_of depth layers objects movement))
+  changed_by depth moved piece_after low proper is_moved is_replaced =
+      decided (moved || piece_after) (rewritten_cell left right (cell_of depth layers objects movement)) (cell_of depth layers objects movement) forth back where
         settled : ((object : ℕ) → member objects_new object ≡ member objects object) → (layer : ℕ) (dir : Dir) → heads movement_new layer dir ≡ heads mid layer dir
         settled same layer dir = w.others layer dir (λ object g on. grind (arith, g, w.is_new object, w.lawful.of_game object, same object, placed_here object))
 
-        forth : (moved || replaced) ≡ false → rewritten_cell left right (cell_of depth layers objects movement) ≡ cell_of depth layers objects movement
+        forth : (moved || piece_after) ≡ false → rewritten_cell left right (cell_of depth layers objects movement) ≡ cell_of depth layers objects movement
         forth n =
-            let parts = or_parts moved replaced n in
+            let parts = or_parts moved piece_after n in
             let same = is_replaced.0 parts.1 in
             sym (cell_rewritten depth low) ∙ cell_alike depth layers objects movement objects_new movement_new same (λ layer dir. settled same layer dir ∙ is_moved.0 parts.0 (flag layer dir))
 
-        back : rewritten_cell left right (cell_of depth layers objects movement) ≡ cell_of depth layers objects movement → (moved || replaced) ≡ false
+        back : rewritten_cell left right (cell_of depth layers objects movement) ≡ cell_of depth layers objects movement → (moved || piece_after) ≡ false
         back h =
             let lawful_new = lawful_rewritten proper in
             let same = objects_alike depth layers objects movement objects_new movement_new low w.lawful lawful_new (cell_rewritten depth low ∙ h) in
             let heads_same = heads_alike depth layers objects movement objects_new movement_new low w.lawful lawful_new (cell_rewritten depth low ∙ h) in
-            ap (λ b. b || replaced) (is_moved.1 (each_number (λ mine theirs. mine ≡ theirs) mid movement mid_proper w.lawful.proper refl (λ layer dir. sym (settled same layer dir) ∙ heads_same layer dir))) ∙ is_replaced.1 same
+            ap (λ b. b || piece_after) (is_moved.1 (each_number (λ mine theirs. mine ≡ theirs) mid movement mid_proper w.lawful.proper refl (λ layer dir. sym (settled same layer dir) ∙ heads_same layer dir))) ∙ is_replaced.1 same

@@ -8,8 +8,8 @@ use Rattle.pz_cells.specs.Cell.{still_place}
 use Rattle.pz_cells.specs.Layering.{Layering}
 
 -- a cell, seen by layers
-abbrev pub seen : {N : ℕ} → Layering → Cell N → List (Option Piece)
-seen layering cell = cell_of layering.depth layering.layers cell.objects cell.movement
+abbrev pub pieces_of_cell : {N : ℕ} → Layering → Cell N → List (Option Piece)
+pieces_of_cell layering cell = cell_of layering.depth layering.layers cell.objects cell.movement
 
 -- the words of a cell are of these layers
 abbrev pub IsSound : {N : ℕ} → Layering → Cell N → Type 0
@@ -22,7 +22,7 @@ HeadNowhere {N} cells = (index : ℕ) (cell : Cell N) (number : ℕ) → index <
 -- a cell of these layers, in which the same stands as in another, and nothing heads anywhere
 pub record IsStilled {N : ℕ} (layering : Layering) (cell new : Cell N) : Type 0 where
   pub sound : IsSound layering new
-  pub seen_still : seen layering new ≡ map still_place (seen layering cell)
+  pub seen_still : pieces_of_cell layering new ≡ map still_place (pieces_of_cell layering cell)
   pub nowhere : (number : ℕ) → member new.movement number ≡ false
   pub objects : new.objects ≡ cell.objects
 
@@ -33,7 +33,7 @@ HaveSameObjects {N} old new = (index : ℕ) (cell : Cell N) → (slice_index_or 
 -- cells that, seen by layers, are made from old ones by a function, one by one
 pub record AreMapped {N : ℕ} (layering : Layering) (f : List (Option Piece) → List (Option Piece)) (old new : List (Cell N)) : Type 0 where
   pub sound : All (IsSound layering) new
-  pub cells : map (seen layering) new ≡ map f (map (seen layering) old)
+  pub cells : map (pieces_of_cell layering) new ≡ map f (map (pieces_of_cell layering) old)
 
 -- the words of two cells have the same numbers
 abbrev pub AreAlike : {N : ℕ} → Cell N → Cell N → Type 0

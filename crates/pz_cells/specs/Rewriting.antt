@@ -27,13 +27,13 @@ abbrev pub kept : List Item → List Item → Option Piece → Option Piece
 kept left right None = None
 kept left right (Some piece) = if names_object piece.object left || forbids_object piece.object right then None else Some piece
 
-abbrev pub replaced : Option Item → Bool → List Item → List Item → Option Piece → Option Piece
-replaced None told left right here = kept left right here
-replaced (Some item) told left right here = Some (record { object = item.object; heading = new_heading item.word told here })
+abbrev pub piece_after : Option Item → Bool → List Item → List Item → Option Piece → Option Piece
+piece_after None told left right here = kept left right here
+piece_after (Some item) told left right here = Some (record { object = item.object; heading = new_heading item.word told here })
 
 -- match.placed: what stands on a layer after the rewriting
 abbrev pub rewritten_place : List Item → List Item → ℕ → Option Piece → Option Piece
-rewritten_place left right layer here = replaced (placed_on layer right) (tells_of layer left) left right here
+rewritten_place left right layer here = piece_after (placed_on layer right) (tells_of layer left) left right here
 
 -- a cell, rewritten from a left cell of a rule to its right cell
 abbrev pub rewritten_cell : List Item → List Item → List (Option Piece) → List (Option Piece)

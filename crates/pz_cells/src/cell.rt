@@ -5,7 +5,7 @@ ghost use Rattle.pz_sets.specs.Sets.{IsWithin, member};
 ghost use Rattle.pz_cells.specs.Cell.{IsOnLayer, moving_piece, still_piece};
 ghost use Rattle.pz_cells.specs.Layering.{IsLayering};
 ghost use Rattle.pz_cells.specs.Shown.{AreLawful, Changes};
-ghost use Rattle.pz_cells.specs.Lists.{seen, IsSound};
+ghost use Rattle.pz_cells.specs.Lists.{pieces_of_cell, IsSound};
 
 use crate::layers::Layers;
 use crate::piece::{Mover, Piece};
@@ -63,7 +63,7 @@ impl<const N: usize> Cell<N> {
     pub fn place(&self, layers: &Layers<N>, layer: usize) -> Option<Piece>
         requires low { layer < layers.now.depth }
         requires sound { IsSound layers.now self.now }
-        ensures { result ≡ slice_index_or (seen layers.now self.now) layer None }
+        ensures { result ≡ slice_index_or (pieces_of_cell layers.now self.now) layer None }
     {
         match words::first_common(&self.objects, layers.objects_of(layer)) {
             None => None,
@@ -80,9 +80,9 @@ impl<const N: usize> Cell<N> {
     /// Takes away a piece that heads somewhere.
     pub fn take_away(&mut self, layers: &Layers<N>, mover: Mover)
         requires sound { IsSound layers.now self.old }
-        requires there { slice_index_or (seen layers.now self.old) mover.layer None ≡ Some (moving_piece mover) }
+        requires there { slice_index_or (pieces_of_cell layers.now self.old) mover.layer None ≡ Some (moving_piece mover) }
         ensures sound { IsSound layers.now self.new }
-        ensures cell { seen layers.now self.new ≡ slice_set (seen layers.now self.old) mover.layer None }
+        ensures cell { pieces_of_cell layers.now self.new ≡ slice_set (pieces_of_cell layers.now self.old) mover.layer None }
         ensures movement { IsWithin self.new.movement self.old.movement }
         ensures objects { (object : ℕ) →
             member self.new.objects object ≡ (not (nat_eq object mover.object) && member self.old.objects object) }
@@ -97,11 +97,11 @@ impl<const N: usize> Cell<N> {
     /// Puts an object, still, on its layer, where nothing stands.
     pub fn land(&mut self, layers: &Layers<N>, layer: usize, object: u16)
         requires sound { IsSound layers.now self.old }
-        requires free { slice_index_or (seen layers.now self.old) layer None ≡ None }
+        requires free { slice_index_or (pieces_of_cell layers.now self.old) layer None ≡ None }
         requires on_layer { IsOnLayer layers.now.layers layer (Some (still_piece object)) }
         ensures sound { IsSound layers.now self.new }
-        ensures cell { seen layers.now self.new ≡
-            slice_set (seen layers.now self.old) layer (Some (still_piece object)) }
+        ensures cell { pieces_of_cell layers.now self.new ≡
+            slice_set (pieces_of_cell layers.now self.old) layer (Some (still_piece object)) }
         ensures movement { self.new.movement ≡ self.old.movement }
         ensures objects { (other : ℕ) →
             member self.new.objects other ≡ (nat_eq other object || member self.old.objects other) }
@@ -118,7 +118,7 @@ impl<const N: usize> Cell<N> {
         requires sound { IsSound layers.now self.old }
         requires on_layer { IsOnLayer layers.now.layers layer place }
         ensures sound { IsSound layers.now self.new }
-        ensures cell { seen layers.now self.new ≡ slice_set (seen layers.now self.old) layer place }
+        ensures cell { pieces_of_cell layers.now self.new ≡ slice_set (pieces_of_cell layers.now self.old) layer place }
     {
         lift(&mut self.objects, &mut self.movement, layers, layer);
         if let Some(piece) = place {

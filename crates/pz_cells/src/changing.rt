@@ -4,7 +4,7 @@ ghost use Rattle.std.specs.Prelude.{◌≡◌, ℕ, ◌<◌, true, false, map, s
 ghost use Rattle.pz_sets.specs.Sets.{member};
 ghost use Rattle.pz_cells.specs.Cell.{IsOnLayer, empty_cell, still_place};
 ghost use Rattle.pz_cells.specs.Drawing.{filled_cell};
-ghost use Rattle.pz_cells.specs.Lists.{seen, IsSound, Becomes};
+ghost use Rattle.pz_cells.specs.Lists.{pieces_of_cell, IsSound, Becomes};
 
 use crate::cell::Cell;
 use crate::layers::Layers;
@@ -16,7 +16,7 @@ impl<const N: usize> Cell<N> {
     /// A cell where nothing stands.
     pub fn empty(layers: &Layers<N>) -> Cell<N>
         ensures sound { IsSound layers.now result }
-        ensures cell { seen layers.now result ≡ empty_cell layers.now.depth }
+        ensures cell { pieces_of_cell layers.now result ≡ empty_cell layers.now.depth }
     {
         Cell {
             objects: [0; N],
@@ -28,7 +28,7 @@ impl<const N: usize> Cell<N> {
     pub fn still_all(&mut self, layers: &Layers<N>)
         requires sound { IsSound layers.now self.old }
         ensures sound { IsSound layers.now self.new }
-        ensures cell { seen layers.now self.new ≡ map still_place (seen layers.now self.old) }
+        ensures cell { pieces_of_cell layers.now self.new ≡ map still_place (pieces_of_cell layers.now self.old) }
         ensures none { (number : ℕ) → member self.new.movement number ≡ false }
         ensures objects { self.new.objects ≡ self.old.objects }
     {
@@ -57,7 +57,7 @@ impl<const N: usize> Cell<N> {
         requires sound { IsSound layers.now self.old }
         requires on_layer { IsOnLayer layers.now.layers layer (Some piece) }
         ensures sound { IsSound layers.now self.new }
-        ensures cell { seen layers.now self.new ≡ filled_cell layer piece (seen layers.now self.old) }
+        ensures cell { pieces_of_cell layers.now self.new ≡ filled_cell layer piece (pieces_of_cell layers.now self.old) }
     {
         if self.place(layers, layer).is_some() {
             return;

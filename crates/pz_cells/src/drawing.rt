@@ -4,7 +4,7 @@ ghost use Rattle.std.specs.Prelude.{◌≡◌, ◌<◌, IfOk, All, length, map, 
 ghost use Rattle.pz_cells.specs.Cell.{IsOnLayer};
 ghost use Rattle.pz_cells.specs.Drawing.{glyph_cell, filled_cell};
 ghost use Rattle.pz_cells.specs.Layering.{layering_of};
-ghost use Rattle.pz_cells.specs.Lists.{seen, IsSound, AreMapped};
+ghost use Rattle.pz_cells.specs.Lists.{pieces_of_cell, IsSound, AreMapped};
 
 use crate::cell::Cell;
 use crate::layers::Layers;
@@ -22,7 +22,7 @@ pub fn glyph_cells<const N: usize>(
     requires of_game { layers.now ≡ layering_of game.now }
     requires numbers { All (λ number. number < length game.now.values) numbers.now }
     ensures sound { IfOk result (λ cells. All (IsSound layers.now) cells.items) }
-    ensures cells { IfOk result (λ cells. map (seen layers.now) cells.items ≡ map (glyph_cell game.now) numbers.now) }
+    ensures cells { IfOk result (λ cells. map (pieces_of_cell layers.now) cells.items ≡ map (glyph_cell game.now) numbers.now) }
 {
     // (brings the proof the law of the layers)
     let _ = layers.depth();
@@ -39,7 +39,7 @@ fn glyph_cell<const N: usize>(game: &Game, layers: &Layers<N>, number: usize) ->
     requires of_game { layers.now ≡ layering_of game.now }
     requires number { number < length game.now.values }
     ensures sound { IsSound layers.now result }
-    ensures cell { seen layers.now result ≡ glyph_cell game.now number }
+    ensures cell { pieces_of_cell layers.now result ≡ glyph_cell game.now number }
 {
     let mut cell = Cell::empty(layers);
     for object in game.values()[number].members.items() {

@@ -4,7 +4,7 @@ ghost use Rattle.std.specs.Prelude.{◌≡◌, ℕ, ◌/◌, ◌<◌, ◌↔◌,
 ghost use Rattle.pz_sets.specs.Sets.{member, IsWithin, AreApart};
 ghost use Rattle.pz_game.specs.Pattern.{AreOf};
 ghost use Rattle.pz_cells.specs.Pattern.{pattern_holds};
-ghost use Rattle.pz_cells.specs.Lists.{seen, IsSound};
+ghost use Rattle.pz_cells.specs.Lists.{pieces_of_cell, IsSound};
 
 use crate::cell::Cell;
 use crate::layers::Layers;
@@ -26,7 +26,7 @@ impl<const N: usize> Cell<N> {
     pub fn holds(&self, layers: &Layers<N>, pattern: &Pattern) -> bool
         requires of_game { AreOf layers.now.layers pattern.now }
         requires sound { IsSound layers.now self.now }
-        ensures { result ≡ pattern_holds (seen layers.now self.now) pattern.now }
+        ensures { result ≡ pattern_holds (pieces_of_cell layers.now self.now) pattern.now }
     {
         let movement = self.movement_words(layers);
         let masks = pattern.masks();

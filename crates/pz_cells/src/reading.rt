@@ -4,7 +4,7 @@ ghost use Rattle.std.specs.Prelude.{◌≡◌, ℕ, ◌%◌, ◌<◌, ◌↔◌,
 ghost use Rattle.pz_sets.specs.Sets.{member, AreSame};
 ghost use Rattle.pz_game.specs.Headings.{dir_bit, flag, heading_in};
 ghost use Rattle.pz_cells.specs.Cell.{IsNextMover};
-ghost use Rattle.pz_cells.specs.Lists.{seen, IsSound};
+ghost use Rattle.pz_cells.specs.Lists.{pieces_of_cell, IsSound};
 
 use crate::cell::Cell;
 use crate::layers::Layers;
@@ -39,7 +39,7 @@ impl<const N: usize> Cell<N> {
     /// The first piece that heads somewhere, on a layer from `from` on.
     pub fn next_mover(&self, layers: &Layers<N>, from: usize) -> Option<Mover>
         requires sound { IsSound layers.now self.now }
-        ensures { IsNextMover (seen layers.now self.now) from result }
+        ensures { IsNextMover (pieces_of_cell layers.now self.now) from result }
     {
         if from >= layers.depth() {
             return None;

@@ -7,7 +7,7 @@ ghost use Rattle.pz_game.specs.Headings.{heads, IsProper};
 ghost use Rattle.pz_game.specs.Pattern.{AreOf};
 ghost use Rattle.pz_cells.specs.Rewriting.{rewritten_cell};
 ghost use Rattle.pz_cells.specs.Sameness.{same_cell};
-ghost use Rattle.pz_cells.specs.Lists.{seen, IsSound};
+ghost use Rattle.pz_cells.specs.Lists.{pieces_of_cell, IsSound};
 
 use crate::cell::Cell;
 use crate::layers::Layers;
@@ -50,9 +50,9 @@ impl<const N: usize> Cell<N> {
         requires right_of { AreOf layers.now.layers right.now }
         requires sound { IsSound layers.now self.old }
         ensures sound { IsSound layers.now self.new }
-        ensures cell { seen layers.now self.new ≡ rewritten_cell left.now right.now (seen layers.now self.old) }
+        ensures cell { pieces_of_cell layers.now self.new ≡ rewritten_cell left.now right.now (pieces_of_cell layers.now self.old) }
         ensures changed { result ≡
-            not (same_cell (rewritten_cell left.now right.now (seen layers.now self.old)) (seen layers.now self.old)) }
+            not (same_cell (rewritten_cell left.now right.now (pieces_of_cell layers.now self.old)) (pieces_of_cell layers.now self.old)) }
     {
         let was = left.masks();
         let is = right.masks();

@@ -13,7 +13,7 @@ use Rattle.pz_rules.specs.Drafts.{program_of}
 use Rattle.pz_source.specs.Layers.{layer_lines}
 use Rattle.pz_source.specs.Reading.{source_of}
 use Rattle.pz_text.specs.Check.{too_long}
-use Rattle.pz_text.specs.Cutting.{cut}
+use Rattle.pz_text.specs.Cutting.{lines_of_text}
 use Rattle.pz_text.specs.Section.{lines_in}
 use Rattle.pz_text.specs.declared.line.Line.{Line}
 use Rattle.pz_text.specs.declared.line.Section.TheVariants as section
@@ -71,7 +71,7 @@ source_tokens lines read = object (first_members lines read ++ last_members line
 
 -- the lines of a source; of one that is too long none are told
 abbrev pub lines_of : List ℕ → List Line
-lines_of source = if is_some (too_long source) then [] else cut (chars source)
+lines_of source = if is_some (too_long source) then [] else lines_of_text (chars source)
 
 unfoldable pub tokens_of : List ℕ → List Token
 tokens_of source = source_tokens (lines_of source) (reading_of source)

@@ -18,7 +18,7 @@ use Rattle.pz_names.specs.declared.name_line.NameLine.{NameLine}
 use Rattle.pz_names.specs.declared.objects.Paragraph.{Paragraph}
 use Rattle.pz_source.specs.Levels.{entries_of, is_message}
 use Rattle.pz_source.specs.Rules.{rule_words}
-use Rattle.pz_text.specs.Characters.{trimmed}
+use Rattle.pz_text.specs.Characters.{trimmed_text}
 use Rattle.pz_text.specs.Words.{names_of, words}
 use Rattle.pz_text.specs.declared.line.Line.{Line}
 use Rattle.pz_text.specs.declared.line.Section.{Section}
@@ -51,7 +51,7 @@ keyword_end (c ∷ cs) = if is_whitespace c then 0 else keyword_end cs + 1
 abbrev pub prelude_tokens : Line → List Token
 prelude_tokens line =
     if is_blank line then []
-    else array (numeral line.number ++ (text (take (keyword_end line.text) line.text) ++ text (trimmed (drop (keyword_end line.text) line.text))))
+    else array (numeral line.number ++ (text (take (keyword_end line.text) line.text) ++ text (trimmed_text (drop (keyword_end line.text) line.text))))
 
 -- the lines of a section from the one of this number on
 abbrev pub lines_from : ℕ → List Line → List Line
@@ -154,7 +154,7 @@ win_tokens line =
 abbrev pub entry_tokens : List Line → List Token
 entry_tokens [] = []
 entry_tokens (first ∷ rest) =
-    if is_message first then object (line_member first.number ++ key (codes "message") ∷ text (trimmed (drop 7 first.text)))
+    if is_message first then object (line_member first.number ++ key (codes "message") ∷ text (trimmed_text (drop 7 first.text)))
     else object (line_member first.number ++ key (codes "rows") ∷ texts_array (map (λ row. row.text) (first ∷ rest)))
 
 abbrev pub levels_array : List Line → List Token

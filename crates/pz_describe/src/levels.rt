@@ -1,7 +1,7 @@
 //! The entries of LEVELS.
 
 ghost use Rattle.std.specs.Prelude.{◌++◌, ◌∷◌, ◌≡◌, OnOk, codes, drop, flat_map, map};
-ghost use Rattle.pz_text.specs.Characters.{trimmed};
+ghost use Rattle.pz_text.specs.Characters.{trimmed_text};
 ghost use Rattle.json.specs.Token.{key};
 ghost use Rattle.pz_describe.specs.Sections.{entry_tokens, levels_array};
 
@@ -14,7 +14,7 @@ use std::alloc::{AllocError, Global};
 
 /// What stands behind the word of a message.
 fn message_text(line: &[char]) -> &[char]
-    ensures { result.now ≡ trimmed (drop 7 line.now) }
+    ensures { result.now ≡ trimmed_text (drop 7 line.now) }
 {
     trimmed(&line[line.len().min(7)..])
 }

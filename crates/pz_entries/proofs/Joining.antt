@@ -6,7 +6,7 @@ use Rattle.std.specs.Ordering.{nat_cmp, match_ordering, ordering_reverse}
 use Rattle.std.specs.Cmp.Lexicographic.{slice_cmp}
 use Rattle.std.specs.BTreeSet.{insert_key}
 use Rattle.std.specs.List.{slice_split, list_all}
-use Rattle.pz_base.specs.Name.{folded}
+use Rattle.pz_base.specs.Name.{lower_case}
 use Rattle.std.proofs.lemmas.Cmp.{nat_list_cmp_total}
 use Rattle.std.proofs.lemmas.List.{append_assoc, append-nil}
 use Rattle.std.proofs.lemmas.List.Elements.{All-nil, All-cons}
@@ -20,7 +20,7 @@ use Rattle.pz_entries.specs.Names.{with_word, name_set, is_space}
 pub record IsGameName (name : List ℕ) : Type 0 where
   pub some : 0 < length name
   pub one_word : list_all (λ b. not (is_space b)) name ≡ true
-  pub is_folded : folded name ≡ name
+  pub is_folded : lower_case name ≡ name
 
 abbrev pub AreGameNames : List (List ℕ) → Type 0
 AreGameNames [] = Unit {0}

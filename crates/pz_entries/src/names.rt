@@ -1,7 +1,7 @@
 //! The names of a text, which spaces separate.
 
 ghost use Rattle.std.specs.Prelude.{◌≡◌, map, IfOk, OnOk};
-ghost use Rattle.pz_base.specs.Name.{folded};
+ghost use Rattle.pz_base.specs.Name.{lower_case};
 ghost use Rattle.pz_record.specs.CellNames.{with_name};
 ghost use Rattle.pz_entries.specs.Names.{with_word, name_set};
 
@@ -12,7 +12,7 @@ use std::collections::BTreeSet;
 
 /// The name with its ASCII letters in lower case.
 fn folded_name(alloc: Global, name: &[u8]) -> Result<Vec<u8>, AllocError>
-    ensures { IfOk result (λ lower. lower.items ≡ folded name.now) }
+    ensures { IfOk result (λ lower. lower.items ≡ lower_case name.now) }
 {
     name.iter()
         .map(|byte| byte.to_ascii_lowercase())

@@ -11,8 +11,8 @@ use Rattle.pz_grammar.specs.declared.rule.Phrase.{Phrase}
 use Rattle.pz_grammar.specs.declared.rule.Cell.{Cell}
 use Rattle.pz_grammar.specs.declared.rule.Cell.TheVariants as cell
 use Rattle.pz_grammar.specs.declared.rule.Rule.{Rule}
-use Rattle.pz_grammar.specs.Written.{phrase_tokens, cell_tokens, cells_tokens, rows_tokens, joined_tokens, has_cells, has_rows, is_prefix, is_whole, written, IsWritten, IsNoRule}
-use Rattle.pz_grammar.specs.Parsed.{Seen, with_phrase, with_gap, with_bar, with_close, with_open, end, outside, inside, commands_of, begins_joined, after_joined, prefixes_of, after_prefixes, with_commands, with_right, with_rows, with_left, parsed}
+use Rattle.pz_grammar.specs.Written.{phrase_tokens, cell_tokens, cells_tokens, rows_tokens, joined_tokens, has_cells, has_rows, is_prefix, is_whole, tokens_of_rule, IsWritten, IsNoRule}
+use Rattle.pz_grammar.specs.Parsed.{Seen, with_phrase, with_gap, with_bar, with_close, with_open, end, outside, inside, commands_of, begins_joined, after_joined, prefixes_of, after_prefixes, with_commands, with_right, with_rows, with_left, rule_of_tokens}
 use Rattle.pz_grammar.proofs.Sound.{sound}
 
 complete-phrase : (lead : Option (Lead Class)) (name : Option ℕ) (ps : List Phrase) (ts : List Token) (cells : List Cell) (s : Seen)
@@ -99,8 +99,8 @@ put_right j ps left right o cs e = ap (with_right j ps left) e ∙ ap (with_comm
 
 complete-rule : (j : Bool) (ps : List Token) (left right : List (List Cell)) (cs : List Command)
     → list_all is_prefix ps ≡ true → has_rows left ≡ true → list_all has_cells left ≡ true → list_all has_cells right ≡ true
-    → parsed (joined_tokens j ++ (ps ++ (rows_tokens left ++ token.Arrow ∷ (rows_tokens right ++ map token.Command cs)))) ≡ Some (record { is_joined = j; prefixes = ps; left = left; right = right; commands = cs })
-unfolding parsed outside
+    → rule_of_tokens (joined_tokens j ++ (ps ++ (rows_tokens left ++ token.Arrow ∷ (rows_tokens right ++ map token.Command cs)))) ≡ Some (record { is_joined = j; prefixes = ps; left = left; right = right; commands = cs })
+unfolding rule_of_tokens outside
 complete-rule j ps [] right cs p some l r = absurd (false≢true some)
 complete-rule j ps ([] ∷ rows) right cs p some l r = absurd (false≢true l)
 complete-rule j ps ((c ∷ cells) ∷ rows) right cs p some l r =
@@ -114,7 +114,7 @@ complete-rule j ps ((c ∷ cells) ∷ rows) right cs p some l r =
     (ap (λ x. outside (after_prefixes x)) first.1 ∙ ap outside (past-prefixes ps ts p) ∙ complete-rows row (token.Arrow ∷ last) l refl)
     ∙ put_right j ps row right (outside last) cs (complete-rows right (map token.Command cs) r (outside-commands cs))
 
-pub complete : (rule : Rule) → is_whole rule ≡ true → parsed (written rule) ≡ Some rule
+pub complete : (rule : Rule) → is_whole rule ≡ true → rule_of_tokens (tokens_of_rule rule) ≡ Some rule
 complete rule whole =
     let a = and_parts (list_all is_prefix rule.prefixes) (has_rows rule.left && (list_all has_cells rule.left && list_all has_cells rule.right)) whole in
     let b = and_parts (has_rows rule.left) (list_all has_cells rule.left && list_all has_cells rule.right) a.1 in
@@ -122,11 +122,11 @@ complete rule whole =
     complete-rule rule.is_joined rule.prefixes rule.left rule.right rule.commands a.0 b.0 d.0 d.1
 
 -- reading is exact: a rule that is read is written so, and where none is read no rule is written so
-pub exact : (ts : List Token) → MatchOption (parsed ts) (IsNoRule ts) (IsWritten ts)
+pub exact : (ts : List Token) → MatchOption (rule_of_tokens ts) (IsNoRule ts) (IsWritten ts)
 exact ts =
-    let by : (o : Option Rule) → parsed ts ≡ o → IfSome o (IsWritten ts) → MatchOption o (IsNoRule ts) (IsWritten ts) =
-    λ o. elim o as (λ o. parsed ts ≡ o → IfSome o (IsWritten ts) → MatchOption o (IsNoRule ts) (IsWritten ts)) [
-      | None ↦ λ e h. λ rule is. let f : None ≡ Some rule = sym e ∙ ap parsed (sym is.0) ∙ complete rule is.1 in cc
+    let by : (o : Option Rule) → rule_of_tokens ts ≡ o → IfSome o (IsWritten ts) → MatchOption o (IsNoRule ts) (IsWritten ts) =
+    λ o. elim o as (λ o. rule_of_tokens ts ≡ o → IfSome o (IsWritten ts) → MatchOption o (IsNoRule ts) (IsWritten ts)) [
+      | None ↦ λ e h. λ rule is. let f : None ≡ Some rule = sym e ∙ ap rule_of_tokens (sym is.0) ∙ complete rule is.1 in cc
       | Some rule ↦ λ e h. h
     ] in
-    by (parsed ts) refl (sound ts)
+    by (rule_of_tokens ts) refl (sound ts)

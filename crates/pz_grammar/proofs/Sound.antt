@@ -11,7 +11,7 @@ use Rattle.pz_grammar.specs.declared.rule.Phrase.{Phrase}
 use Rattle.pz_grammar.specs.declared.rule.Cell.{Cell}
 use Rattle.pz_grammar.specs.declared.rule.Cell.TheVariants as cell
 use Rattle.pz_grammar.specs.Written.{phrase_tokens, cells_tokens, rows_tokens, joined_tokens, has_cells, is_prefix, IsWritten}
-use Rattle.pz_grammar.specs.Parsed.{Seen, Within, phrase_before, with_phrase, gap_before, with_gap, with_bar, with_close, with_open, outside, inside, led, commands_of, begins_joined, after_joined, prefixes_of, after_prefixes, with_commands, with_right, after_arrow, with_arrow, with_rows, with_left, parsed}
+use Rattle.pz_grammar.specs.Parsed.{Seen, Within, phrase_before, with_phrase, gap_before, with_gap, with_bar, with_close, with_open, outside, inside, led, commands_of, begins_joined, after_joined, prefixes_of, after_prefixes, with_commands, with_right, after_arrow, with_arrow, with_rows, with_left, rule_of_tokens}
 
 abbrev seen_tokens : Seen → List Token
 seen_tokens s = rows_tokens s.rows ++ s.rest
@@ -150,8 +150,8 @@ sound-with_left all j ps ts None e p h = tt
 sound-with_left all j ps ts (Some s) e p h = sound-with_rows all j ps s.rows s.rest (ap (λ x. joined_tokens j ++ (ps ++ x)) h.0 ∙ e) p h.1
 
 -- a rule that is read is written so
-pub sound : (ts : List Token) → IfSome (parsed ts) (IsWritten ts)
-unfolding parsed
+pub sound : (ts : List Token) → IfSome (rule_of_tokens ts) (IsWritten ts)
+unfolding rule_of_tokens
 sound ts =
     let us = after_joined ts in
     sound-with_left ts (begins_joined ts) (prefixes_of us) (after_prefixes us) (outside (after_prefixes us))

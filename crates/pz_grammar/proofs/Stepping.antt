@@ -9,10 +9,10 @@ use Rattle.pz_grammar.specs.declared.rule.Phrase.{Phrase}
 use Rattle.pz_grammar.specs.declared.rule.Cell.{Cell}
 use Rattle.pz_grammar.specs.declared.rule.Cell.TheVariants as cell
 use Rattle.pz_grammar.specs.Parsed.{Seen, Within, with_phrase, phrase_before, with_gap, gap_before, with_bar, with_close, with_open, end, inside, outside}
-use Rattle.pz_grammar.specs.Steps.{merged, prepend, placed, before, whole_row, row_before, rows_before, after_open}
+use Rattle.pz_grammar.specs.Steps.{cell_of_parts, prepend, placed, before, whole_row, row_before, rows_before, after_open}
 
 abbrev placed_cell : List Cell → Cell → Cell → List Cell → Seen → Option Within
-placed_cell cells c d cs s = placed cells cs s (merged c d)
+placed_cell cells c d cs s = placed cells cs s (cell_of_parts c d)
 
 start-cell : (c : Cell) (cs : List Cell) (s : Seen) → placed_cell [] (cell.Items []) c cs s ≡ Some (record { cell = c; cells = cs; seen = s })
 start-cell cell.Gap cs s = refl
@@ -71,11 +71,11 @@ pub before-two_gaps : (cells : List Cell) (o : Option Within) → None ≡ befor
 before-two_gaps cells None = refl
 before-two_gaps cells (Some w) = two_gaps-cell cells w.cell w.cells w.seen
 
-closed-cell : (c : Cell) → merged c (cell.Items []) ≡ Some c
+closed-cell : (c : Cell) → cell_of_parts c (cell.Items []) ≡ Some c
 closed-cell cell.Gap = refl
 closed-cell (cell.Items ps) = ap (λ l. Some (cell.Items l)) (append-nil ps)
 
-fresh-cell : (c : Cell) → merged (cell.Items []) c ≡ Some c
+fresh-cell : (c : Cell) → cell_of_parts (cell.Items []) c ≡ Some c
 fresh-cell cell.Gap = refl
 fresh-cell (cell.Items ps) = refl
 

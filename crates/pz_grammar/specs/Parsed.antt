@@ -131,7 +131,7 @@ with_left is_joined prefixes None = None
 with_left is_joined prefixes (Some s) = with_rows is_joined prefixes s.rows s.rest
 
 -- rules.form: the rule of a line, if it has one
-unfoldable pub parsed : List Token → Option Rule
-parsed tokens =
+unfoldable pub rule_of_tokens : List Token → Option Rule
+rule_of_tokens tokens =
     let ts = after_joined tokens in
     with_left (begins_joined tokens) (prefixes_of ts) (outside (after_prefixes ts))

@@ -10,13 +10,13 @@ use Rattle.pz_grammar.specs.Written.{has_cells}
 use Rattle.pz_grammar.specs.Parsed.{Seen, Within, inside, outside}
 
 -- one cell of its two parts
-abbrev pub merged : Cell → Cell → Option Cell
-merged (cell.Items ps) (cell.Items qs) = Some (cell.Items (ps ++ qs))
-merged (cell.Items []) cell.Gap = Some cell.Gap
-merged (cell.Items (p ∷ ps)) cell.Gap = None
-merged cell.Gap (cell.Items []) = Some cell.Gap
-merged cell.Gap (cell.Items (q ∷ qs)) = None
-merged cell.Gap cell.Gap = None
+abbrev pub cell_of_parts : Cell → Cell → Option Cell
+cell_of_parts (cell.Items ps) (cell.Items qs) = Some (cell.Items (ps ++ qs))
+cell_of_parts (cell.Items []) cell.Gap = Some cell.Gap
+cell_of_parts (cell.Items (p ∷ ps)) cell.Gap = None
+cell_of_parts cell.Gap (cell.Items []) = Some cell.Gap
+cell_of_parts cell.Gap (cell.Items (q ∷ qs)) = None
+cell_of_parts cell.Gap cell.Gap = None
 
 abbrev pub prepend : List Cell → Cell → List Cell → Seen → Within
 prepend [] c cs s = record { cell = c; cells = cs; seen = s }
@@ -29,7 +29,7 @@ placed cells cs s (Some c) = Some (prepend cells c cs s)
 -- ended cells and the first part of a cell, before what is left of the row
 abbrev pub before : List Cell → Cell → Option Within → Option Within
 before cells c None = None
-before cells c (Some w) = placed cells w.cells w.seen (merged c w.cell)
+before cells c (Some w) = placed cells w.cells w.seen (cell_of_parts c w.cell)
 
 abbrev pub whole_row : List Cell → Seen → Option Within
 whole_row [] s = None

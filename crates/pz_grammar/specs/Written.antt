@@ -42,8 +42,8 @@ joined_tokens true = token.Plus ∷ []
 joined_tokens false = []
 
 -- `+`, prefixes, rows, the arrow, rows, commands
-abbrev pub written : Rule → List Token
-written rule =
+abbrev pub tokens_of_rule : Rule → List Token
+tokens_of_rule rule =
     joined_tokens rule.is_joined
     ++ (rule.prefixes ++ (rows_tokens rule.left ++ token.Arrow ∷ (rows_tokens rule.right ++ map token.Command rule.commands)))
 
@@ -76,7 +76,7 @@ is_whole rule =
 
 -- these tokens are the rule
 abbrev pub IsWritten : List Token → Rule → Type 0
-IsWritten tokens rule = (written rule ≡ tokens) × (is_whole rule ≡ true)
+IsWritten tokens rule = (tokens_of_rule rule ≡ tokens) × (is_whole rule ≡ true)
 
 -- these tokens are no rule
 abbrev pub IsNoRule : List Token → Type 0

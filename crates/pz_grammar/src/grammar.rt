@@ -1,8 +1,8 @@
 //! The rule of a line.
-#![tactic(auto, unfolding(crate::specs::Parsed::prefixes_of, crate::specs::Parsed::after_prefixes, crate::specs::Parsed::commands_of, crate::specs::Parsed::parsed))]
+#![tactic(auto, unfolding(crate::specs::Parsed::prefixes_of, crate::specs::Parsed::after_prefixes, crate::specs::Parsed::commands_of, crate::specs::Parsed::rule_of_tokens))]
 
 ghost use Rattle.std.specs.Prelude.{◌≡◌, Option, Some, None, IfOk, MatchOption};
-ghost use Rattle.pz_grammar.specs.Parsed.{parsed, command_of, commands_of, begins_joined, after_joined, prefixes_of, after_prefixes, after_arrow};
+ghost use Rattle.pz_grammar.specs.Parsed.{rule_of_tokens, command_of, commands_of, begins_joined, after_joined, prefixes_of, after_prefixes, after_arrow};
 ghost use Rattle.pz_grammar.specs.Written.{is_direction, is_prefix, IsWritten, IsNoRule};
 
 use crate::rows::read_rows;
@@ -99,7 +99,7 @@ fn after_joined(tokens: &[Token]) -> (bool, &[Token])
 
 /// The rule that these tokens write, if they write one.
 fn read_rule(alloc: Global, tokens: &[Token]) -> Result<Option<Rule>, AllocError>
-    ensures { IfOk result (λ rule. rule ≡ parsed tokens.now) }
+    ensures { IfOk result (λ rule. rule ≡ rule_of_tokens tokens.now) }
 {
     let (is_joined, rest) = after_joined(tokens);
     let (prefixes, rest) = read_prefixes(alloc, rest)?;
@@ -130,7 +130,7 @@ fn read_rule(alloc: Global, tokens: &[Token]) -> Result<Option<Rule>, AllocError
 /// The rule that these tokens write, if they write one. Rule `rules.form`.
 #[tactic(auto, using(crate::proofs::Complete::exact))]
 pub fn parse(alloc: Global, tokens: &[Token]) -> Result<Option<Rule>, AllocError>
-    ensures value { IfOk result (λ rule. rule ≡ parsed tokens.now) }
+    ensures value { IfOk result (λ rule. rule ≡ rule_of_tokens tokens.now) }
     ensures exact { IfOk result (λ rule. MatchOption rule (IsNoRule tokens.now) (IsWritten tokens.now)) }
 {
     read_rule(alloc, tokens)

@@ -11,10 +11,10 @@ pub use Rattle.pz_game.specs.declared.limits.TheConstants.{MOST_SIDE}
 pub use Rattle.pz_game.specs.declared.pattern.Item.{Item}
 pub use Rattle.pz_grid.proofs.GatherLemmas.{fold_gather_more, fold_map_more, gather, gather_few, gather_none, gather_skip, gather_step, gather_too_long, steps_stay}
 pub use Rattle.pz_grid.proofs.MovementLemmas.{moves_on, same_size_on, widened_on}
-pub use Rattle.pz_grid.specs.Admitted.{StartsNowhere, admits_line, admitted, line_at, line_of, marks_cell, marks_item, marks_of, searches_level, searches_line, start_count, start_of, starts_at, starts_in}
+pub use Rattle.pz_grid.specs.Admitted.{StartsNowhere, admits_line, admitted_count, line_at, line_of, marks_cell, marks_item, marks_of, searches_level, searches_line, start_count, start_of, starts_at, starts_in}
 pub use Rattle.pz_grid.specs.Marks.{IsMarked, IsMarkedAt, IsMore, IsWidened, IsWidenedBy, is_marked, places_object, row_places}
-pub use Rattle.pz_grid.specs.Movement.{AllStay, Leaves, Pass, Spot, Stays, heading_count, heading_goal, heads, in_pass, move_at, move_place, moved_to, moving, pass_of, resolved, settle, spot, spots, spots_at, spots_in}
-pub use Rattle.pz_grid.specs.Places.{along, cell_holds, cells_before, distance, gap_count, head_of, holds_at, holds_behind, line_count, line_length, pairs, pairs_at, pairs_in, place_in, places, row_holds, searched, starts_with, still_holds}
+pub use Rattle.pz_grid.specs.Movement.{AllStay, Leaves, Pass, Spot, Stays, heading_count, heading_goal, heads, in_pass, move_at, move_place, moved_to, moving, pass_of, after_movement, settle, spot, spots, spots_at, spots_in}
+pub use Rattle.pz_grid.specs.Places.{along, cell_holds, cells_before, distance, gap_count, head_of, holds_at, holds_behind, line_count, line_length, pairs, pairs_at, pairs_in, place_in, places, row_holds, places_or_limit, starts_with, still_holds}
 pub use Rattle.pz_grid.specs.Rewriting.{in_rewrite, rewritten_along, rewritten_row}
 pub use Rattle.pz_grid.specs.Staying.{IsMove, IsStill, IsStillInColumn, IsStillInRow, KeepsStill}
 pub use Rattle.pz_grid.specs.declared.placing.GridFault.TheVariants.{MatchLimit}
@@ -25,7 +25,7 @@ pub use Rattle.pz_sheet.proofs.CountLemmas.{count_fewer, count_more, count_no, c
 pub use Rattle.pz_sheet.proofs.RunLemmas.{action_leads_nowhere, enumerate_all, enumerate_fails, enumerate_more, numbered_at}
 pub use Rattle.pz_sheet.specs.Grid.{Grid, IsLawful, LevelState, SameSize, cell_at, place_at, with_place}
 pub use Rattle.pz_sheet.specs.Line.{column_of, dir_of, row_of, x_at, y_at}
-pub use Rattle.pz_sheet.specs.Movement.{AreColumnsStill, AreStill, IsStillAt, carried, stilled}
+pub use Rattle.pz_sheet.specs.Movement.{AreColumnsStill, AreStill, IsStillAt, with_piece_moved, still_level}
 pub use Rattle.pz_sheet.specs.Presence.{cell_of, in_column, in_line, in_row, is_in, stands_in_line}
 pub use Rattle.pz_sheet.specs.Runs.{holds_along, run_holds}
 pub use Rattle.pz_sheet.specs.Searching.{HoldsInLine, HoldsSomewhere, SoughtRun, run_holds_from}

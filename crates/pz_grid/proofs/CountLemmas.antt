@@ -1,6 +1,6 @@
 -- How many places a row can have: one for each cell and gap. Without a gap, and in a small level with one, that is within the limit of a
 -- search.
-use Rattle.pz_grid.proofs.Common.{Action, Dir, Down, Grid, IsLawful, Left, MOST_SIDE, None, Ok, Right, RuleRow, Up, [], ap, arith, common_steps, gap_count, gather_few, length, line_count, line_length, mul-le-mul_right, places, refl, searched, ℕ, ◌*◌, ◌≡◌, ◌≤◌}
+use Rattle.pz_grid.proofs.Common.{Action, Dir, Down, Grid, IsLawful, Left, MOST_SIDE, None, Ok, Right, RuleRow, Up, [], ap, arith, common_steps, gap_count, gather_few, length, line_count, line_length, mul-le-mul_right, places, refl, places_or_limit, ℕ, ◌*◌, ◌≡◌, ◌≤◌}
 use Rattle.pz_grid.proofs.FoundLemmas.{found_with, found_at, found_in, found_at_all, found_in_all, places_all, searched-within}
 
 found_at_few : (grid : Grid) (row : RuleRow) (dir : Dir) (line start : ℕ) → length (found_at grid row dir line start) ≤ gap_count grid row dir
@@ -26,7 +26,7 @@ product_low : (n m gaps : ℕ) → n ≤ MOST_SIDE → m ≤ MOST_SIDE → gaps 
 product_low n m gaps h k one = rw one (omega (arith, mul-le-mul_right m h))
 
 -- a row without a gap never meets the limit of a search
-pub searched-gapless : (grid : Grid) (row : RuleRow) (dir : Dir) → IsLawful grid → row.gap_at ≡ None → searched grid row dir ≡ Ok (places grid row dir)
+pub searched-gapless : (grid : Grid) (row : RuleRow) (dir : Dir) → IsLawful grid → row.gap_at ≡ None → places_or_limit grid row dir ≡ Ok (places grid row dir)
 searched-gapless grid row dir lawful none =
     searched-within grid row dir (omega (arith, places_few grid row dir, product_low (line_count grid dir) (line_length grid dir) (gap_count grid row dir) (count_low grid dir lawful) (length_low grid dir lawful) (rw none refl)))
 
@@ -38,6 +38,6 @@ product_small n m gaps size low is small =
     omega (arith, mul-le-mul_right (n * m) low)
 
 -- in a small level no row meets it, whatever its gap spans
-pub searched-small : (grid : Grid) (row : RuleRow) (dir : Dir) → IsLawful grid → grid.width * grid.height ≤ 4096 → searched grid row dir ≡ Ok (places grid row dir)
+pub searched-small : (grid : Grid) (row : RuleRow) (dir : Dir) → IsLawful grid → grid.width * grid.height ≤ 4096 → places_or_limit grid row dir ≡ Ok (places grid row dir)
 searched-small grid row dir lawful small =
     searched-within grid row dir (omega (arith, places_few grid row dir, product_small (line_count grid dir) (line_length grid dir) (gap_count grid row dir) (grid.width * grid.height) (grind (arith, length_low grid dir lawful)) (area grid dir) small))

@@ -2,7 +2,7 @@
 use Rattle.pz_grid.proofs.Common.{Bool, Dir, Err, Grid, List, MATCH_LIMIT, MatchLimit, Ok, Place, RuleRow, StartsNowhere, [], ap, arith, false, filter, filter-append, flat_map, gap_count, gather, gather_none, length, line_count, line_length, ltb-false, ltb-true, pairs_at, pairs_in, place_in, places, range_with_len, refl, row_holds, sym, ℕ, ◌<◌, ◌∙◌, ◌∷◌, ◌≡◌, ◌≤◌}
 use Rattle.std.proofs.lemmas.List.Concat.{flat_map_single}
 use Rattle.pz_grid.specs.declared.placing.GridFault.{GridFault}
-use Rattle.pz_grid.specs.Places.{searched}
+use Rattle.pz_grid.specs.Places.{places_or_limit}
 
 -- a filter of what is gathered is gathered from what is filtered
 pub filter-flat_map : {X Y : Type 0} (p : Y → Bool) (h : X → List Y) (xs : List X) → filter p (flat_map h xs) ≡ flat_map (λ x. filter p (h x)) xs
@@ -10,21 +10,21 @@ filter-flat_map p h [] = refl
 filter-flat_map p h (x ∷ xs) = grind (arith, filter-append p (h x) (flat_map h xs), filter-flat_map p h xs)
 
 -- within the limit the search gives all places
-pub searched-within : (grid : Grid) (row : RuleRow) (dir : Dir) → length (places grid row dir) ≤ MATCH_LIMIT → searched grid row dir ≡ Ok (places grid row dir)
-unfolding searched
+pub searched-within : (grid : Grid) (row : RuleRow) (dir : Dir) → length (places grid row dir) ≤ MATCH_LIMIT → places_or_limit grid row dir ≡ Ok (places grid row dir)
+unfolding places_or_limit
 searched-within grid row dir within = grind (arith, ltb-true MATCH_LIMIT (length (places grid row dir)))
 
 -- over the limit it gives none
-pub searched-over : (grid : Grid) (row : RuleRow) (dir : Dir) → MATCH_LIMIT < length (places grid row dir) → searched grid row dir ≡ Err MatchLimit
-unfolding searched
+pub searched-over : (grid : Grid) (row : RuleRow) (dir : Dir) → MATCH_LIMIT < length (places grid row dir) → places_or_limit grid row dir ≡ Err MatchLimit
+unfolding places_or_limit
 searched-over grid row dir over = grind (arith, ltb-false MATCH_LIMIT (length (places grid row dir)))
 
 -- whatever fault it has
-pub over_limit : (grid : Grid) (row : RuleRow) (dir : Dir) (fault : GridFault) → MATCH_LIMIT < length (places grid row dir) → Err fault ≡ searched grid row dir
+pub over_limit : (grid : Grid) (row : RuleRow) (dir : Dir) (fault : GridFault) → MATCH_LIMIT < length (places grid row dir) → Err fault ≡ places_or_limit grid row dir
 over_limit grid row dir MatchLimit over = sym (searched-over grid row dir over)
 
 -- what it gives are the places
-pub searched-gives : (grid : Grid) (row : RuleRow) (dir : Dir) (found : List Place) → searched grid row dir ≡ Ok found → found ≡ places grid row dir
+pub searched-gives : (grid : Grid) (row : RuleRow) (dir : Dir) (found : List Place) → places_or_limit grid row dir ≡ Ok found → found ≡ places grid row dir
 searched-gives grid row dir found is = grind (arith, is, searched-over grid row dir, searched-within grid row dir)
 
 -- the places of one pair, of one start cell, of one line

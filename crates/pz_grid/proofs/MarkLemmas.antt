@@ -1,5 +1,5 @@
 -- Which objects stand in a cell and in a line, and how a level stays marked.
-use Rattle.pz_grid.proofs.Common.{Any-from_list_any, Bool, Dir, Grid, IsMarked, IsMarkedAt, IsMore, Item, LevelState, List, Mover, None, Option, Piece, Some, [], arith, carried, cell_at, column_of, eq-eqb, eqb-true, get_or, get_or-range_with_len, get_or-set_other, get_or-set_same, get_or_past, in_line, inl, inr, is_in, is_marked, kept, length, length-range_with_len, length-set, list_any, list_any_at, map, member, names_object, nat_eq, or_right, placed_on, range_with_len, refl, rewritten_cell, rewritten_place, row_of, set, stands_in_line, still_piece, still_place, suc, sym, true, with_place, zero, ℕ, ◌*◌, ◌+◌, ◌<◌, ◌||◌, ◌∙◌, ◌∷◌, ◌≡◌, ◌⊎◌}
+use Rattle.pz_grid.proofs.Common.{Any-from_list_any, Bool, Dir, Grid, IsMarked, IsMarkedAt, IsMore, Item, LevelState, List, Mover, None, Option, Piece, Some, [], arith, with_piece_moved, cell_at, column_of, eq-eqb, eqb-true, get_or, get_or-range_with_len, get_or-set_other, get_or-set_same, get_or_past, in_line, inl, inr, is_in, is_marked, kept, length, length-range_with_len, length-set, list_any, list_any_at, map, member, names_object, nat_eq, or_right, placed_on, range_with_len, refl, rewritten_cell, rewritten_place, row_of, set, stands_in_line, still_piece, still_place, suc, sym, true, with_place, zero, ℕ, ◌*◌, ◌+◌, ◌<◌, ◌||◌, ◌∙◌, ◌∷◌, ◌≡◌, ◌⊎◌}
 use Rattle.std.proofs.lemmas.Nat.{mul-add-lt}
 use Rattle.pz_sheet.specs.declared.line.Line.{Line}
 use Rattle.pz_sheet.specs.Line.{line_length}
@@ -110,7 +110,7 @@ marked_put : (state : LevelState) (x y layer : ℕ) (place : Option Piece) → x
 marked_put state x y layer place x_in at h = marked_cell state x y (set (cell_at state.grid x y) layer place) (is_in (place ∷ [])) x_in (has_put (cell_at state.grid x y) layer place) at h
 
 -- a piece goes where its object is marked
-pub marked_carried : (state : LevelState) (x y : ℕ) (mover : Mover) (next_x next_y : ℕ) → x < state.grid.width → next_x < state.grid.width → IsMarkedAt state next_x next_y (nat_eq mover.object) → IsMarked state → IsMarked (record state { grid = carried state.grid x y mover next_x next_y })
+pub marked_carried : (state : LevelState) (x y : ℕ) (mover : Mover) (next_x next_y : ℕ) → x < state.grid.width → next_x < state.grid.width → IsMarkedAt state next_x next_y (nat_eq mover.object) → IsMarked state → IsMarked (record state { grid = with_piece_moved state.grid x y mover next_x next_y })
 marked_carried state x y mover next_x next_y x_in next_in at h =
     marked_put (record state { grid = with_place state.grid x y mover.layer None }) next_x next_y mover.layer (Some (still_piece mover.object)) next_in
     (record { row = λ object e. at.row object (grind (arith, e)); column = λ object e. at.column object (grind (arith, e)) })

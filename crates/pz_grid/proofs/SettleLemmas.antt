@@ -1,5 +1,5 @@
 -- The passes of the movement end.
-use Rattle.pz_grid.proofs.Common.{Grid, List, None, Option, Pass, Piece, Some, Spot, [], arith, cell_at, cond, false, get_or, get_or_past, heading_count, heading_goal, heads, in_pass, map, moved_to, moving, pass_of, place_at, refl, resolved, set, set_past, settle, spots, still_piece, still_place, suc, sum_by, sum_by-cons, sum_by-set, true, with_place, zero, ℕ, ◌*◌, ◌+◌, ◌<◌, ◌∷◌, ◌≡◌, ◌≤◌}
+use Rattle.pz_grid.proofs.Common.{Grid, List, None, Option, Pass, Piece, Some, Spot, [], arith, cell_at, cond, false, get_or, get_or_past, heading_count, heading_goal, heads, in_pass, map, moved_to, moving, pass_of, place_at, refl, after_movement, set, set_past, settle, spots, still_piece, still_place, suc, sum_by, sum_by-cons, sum_by-set, true, with_place, zero, ℕ, ◌*◌, ◌+◌, ◌<◌, ◌∷◌, ◌≡◌, ◌≤◌}
 use Rattle.pz_grid.proofs.StayLemmas.{kept_by_moves}
 
 -- a write of what counts for no more adds nothing
@@ -62,8 +62,8 @@ none_together f still [] none = refl
 none_together f still (x ∷ xs) none = grind (arith, sum_by-cons f (still x) (map still xs), none x, none_together f still xs none)
 
 -- after the movement nothing heads anywhere, and so nothing moves any more
-pub resolved_still : (grid : Grid) → moving (resolved grid) ≡ 0
+pub resolved_still : (grid : Grid) → moving (after_movement grid) ≡ 0
 resolved_still grid = none_together (sum_by heads) (map still_place) (settle (moving grid) grid).cells (λ cell. none_together heads still_place cell (λ place. grind arith))
 
-pub resolved_rests : (grid : Grid) → (pass_of (resolved grid)).moved ≡ false
-resolved_rests grid = grind (arith, fewer_from_moved (resolved grid), resolved_still grid)
+pub resolved_rests : (grid : Grid) → (pass_of (after_movement grid)).moved ≡ false
+resolved_rests grid = grind (arith, fewer_from_moved (after_movement grid), resolved_still grid)

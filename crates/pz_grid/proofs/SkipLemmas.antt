@@ -1,5 +1,5 @@
 -- No place starts in a line that is not searched, and no more start cells are tested than admitted lines have.
-use Rattle.pz_grid.proofs.Common.{Bool, Dir, Grid, HoldsSomewhere, IsMarked, Item, LevelState, List, Option, Piece, Place, RuleRow, StartsNowhere, [], admits_line, admitted, arith, cell_at, cond, count_by, count_fewer, count_more, count_within, eqb-true, false, get_or, head_of, is_in, line_at, line_count, line_length, line_of, list_all-from_AllPass, list_any, marks_cell, marks_of, member, mul-le-mul_right, pairs, places, range_with_len, refl, row_holds, row_of, searches_level, searches_line, start_count, starts_at, starts_in, starts_with, subst, suc, sum_by, sum_by-le, sum_more, true, x_at, y_at, zero, ℕ, ◌*◌, ◌+◌, ◌∷◌, ◌≡◌, ◌≤◌}
+use Rattle.pz_grid.proofs.Common.{Bool, Dir, Grid, HoldsSomewhere, IsMarked, Item, LevelState, List, Option, Piece, Place, RuleRow, StartsNowhere, [], admits_line, admitted_count, arith, cell_at, cond, count_by, count_fewer, count_more, count_within, eqb-true, false, get_or, head_of, is_in, line_at, line_count, line_length, line_of, list_all-from_AllPass, list_any, marks_cell, marks_of, member, mul-le-mul_right, pairs, places, range_with_len, refl, row_holds, row_of, searches_level, searches_line, start_count, starts_at, starts_in, starts_with, subst, suc, sum_by, sum_by-le, sum_more, true, x_at, y_at, zero, ℕ, ◌*◌, ◌+◌, ◌∷◌, ◌≡◌, ◌≤◌}
 use Rattle.std.proofs.lemmas.Map.Views.{any-filter_same}
 use Rattle.pz_cells.specs.Pattern.{pattern_holds}
 use Rattle.pz_grid.proofs.HeadLemmas.{head_from_row}
@@ -80,10 +80,10 @@ starts_searched state row dir h =
     bounded (starts_in dir found size) (searches_line state row dir) size (line_count state.grid dir) (λ line. count_within (λ start. list_any (starts_at dir line start) found) size) (λ line e. starts_nowhere state.grid row dir size line (unsearched_nowhere state row dir line h e))
 
 -- and no more of these than of admitted ones
-pub tested_bounded : (state : LevelState) (row : RuleRow) (dir : Dir) (tested : ℕ) → tested ≤ searched_lines state row dir (line_count state.grid dir) * line_length state.grid dir → tested ≤ admitted state row dir * line_length state.grid dir
+pub tested_bounded : (state : LevelState) (row : RuleRow) (dir : Dir) (tested : ℕ) → tested ≤ searched_lines state row dir (line_count state.grid dir) * line_length state.grid dir → tested ≤ admitted_count state row dir * line_length state.grid dir
 tested_bounded state row dir tested e =
     let fewer = count_fewer (searches_line state row dir) (admits_line state row dir) (line_count state.grid dir) (λ line _. searched_admitted state row dir line) in
     omega (arith, e, mul-le-mul_right (line_length state.grid dir) fewer)
 
-pub starts_bounded : (state : LevelState) (row : RuleRow) (dir : Dir) → IsMarked state → start_count state.grid dir (places state.grid row dir) ≤ admitted state row dir * line_length state.grid dir
+pub starts_bounded : (state : LevelState) (row : RuleRow) (dir : Dir) → IsMarked state → start_count state.grid dir (places state.grid row dir) ≤ admitted_count state row dir * line_length state.grid dir
 starts_bounded state row dir h = tested_bounded state row dir _ (starts_searched state row dir h)

@@ -42,8 +42,8 @@ abbrev pub admits_line : LevelState → RuleRow → Dir → ℕ → Bool
 admits_line state row dir line = admits (marks_of state dir line) row.cells
 
 -- the number of admitted lines
-abbrev pub admitted : LevelState → RuleRow → Dir → ℕ
-admitted state row dir = count_by (admits_line state row dir) (range_with_len 0 (line_count state.grid dir))
+abbrev pub admitted_count : LevelState → RuleRow → Dir → ℕ
+admitted_count state row dir = count_by (admits_line state row dir) (range_with_len 0 (line_count state.grid dir))
 
 -- a line is searched for a row: the line's marks have every object that any cell of the row names as present
 abbrev pub searches_line : LevelState → RuleRow → Dir → ℕ → Bool

@@ -11,7 +11,7 @@ use Rattle.pz_cells.specs.declared.piece.Mover.{Mover}
 use Rattle.pz_cells.specs.Cell.{moving_piece, still_piece}
 use Rattle.pz_sets.specs.declared.set.TheConstants.{CAPACITY}
 use Rattle.pz_sheet.specs.Grid.{IsOnMap, Grid, place_at, with_place}
-use Rattle.pz_sheet.specs.Movement.{stilled}
+use Rattle.pz_sheet.specs.Movement.{still_level}
 
 -- move.action: the next position in a direction, if it is on the map
 abbrev pub neighbour : Grid → Dir → ℕ → ℕ → Option (ℕ × ℕ)
@@ -121,5 +121,5 @@ settle (suc n) grid = if (pass_of grid).moved then settle n (pass_of grid).grid 
 
 -- move.passes: the movement: each pass with a move stills a piece, so there are at most as many of them as pieces that head
 -- somewhere
-abbrev pub resolved : Grid → Grid
-resolved grid = stilled (settle (moving grid) grid)
+abbrev pub after_movement : Grid → Grid
+after_movement grid = still_level (settle (moving grid) grid)

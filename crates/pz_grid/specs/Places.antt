@@ -83,8 +83,8 @@ abbrev pub places : Grid → RuleRow → Dir → List Place
 places grid row dir = filter (row_holds grid row dir) (pairs grid row dir)
 
 -- match.limit: the places of a row, unless there are more than the limit
-unfoldable pub searched : Grid → RuleRow → Dir → Result (List Place) GridFault
-searched grid row dir = if nat_lt MATCH_LIMIT (length (places grid row dir)) then Err MatchLimit else Ok (places grid row dir)
+unfoldable pub places_or_limit : Grid → RuleRow → Dir → Result (List Place) GridFault
+places_or_limit grid row dir = if nat_lt MATCH_LIMIT (length (places grid row dir)) then Err MatchLimit else Ok (places grid row dir)
 
 -- a search adds these places to those found before, unless there are too many together
 abbrev pub Adds : List Place → List Place → List Place → Result ⊤ GridFault → Type 0

@@ -38,6 +38,6 @@ rewritten_row dir so_far (place, (left, right)) =
     fold (rewritten_along dir left.gap_at place) so_far (enumerate_from 0 (zip left.cells right.cells))
 
 -- match.rewriting, rules.no-right: an instance is rewritten at the places of its rows, row by row; a right without rows rewrites nothing
-abbrev pub rewritten : Instance → List Place → Rewriting → Rewriting
-rewritten instance places so_far =
+abbrev pub after_rewriting : Instance → List Place → Rewriting → Rewriting
+after_rewriting instance places so_far =
     fold (rewritten_row instance.scan) so_far (zip places (zip instance.left instance.right))

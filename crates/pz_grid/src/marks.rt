@@ -7,7 +7,7 @@ ghost use Rattle.pz_sheet.specs.Grid.{IsOnMap, IsLawful};
 ghost use Rattle.pz_sheet.specs.Presence.{in_row, in_column};
 ghost use Rattle.pz_game.specs.Items.{names, names_object};
 ghost use Rattle.pz_game.specs.Level.{is_playable, entry_at};
-ghost use Rattle.pz_bare.specs.Loading.{loaded};
+ghost use Rattle.pz_bare.specs.Loading.{level_of_entry};
 ghost use Rattle.pz_grid.specs.Marks.{is_marked, IsExact, IsMore};
 
 use crate::Level;
@@ -23,7 +23,7 @@ impl Level {
     /// Loads the entry of LEVELS of this number, which must be a level. Entries are numbered from 0. Err: memory was refused.
     pub fn load(alloc: Global, game: &Game, index: usize) -> Result<Level, AllocError>
         requires { is_playable (entry_at game.now index) ≡ true }
-        ensures loaded { IfOk result (λ level. level.grid ≡ loaded game.now index) }
+        ensures loaded { IfOk result (λ level. level.grid ≡ level_of_entry game.now index) }
         ensures lawful { IfOk result (λ level. IsLawful level.grid) }
         ensures exact { IfOk result IsExact }
     {

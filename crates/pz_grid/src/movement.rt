@@ -5,8 +5,8 @@ ghost use Rattle.pz_sheet.specs.Grid.{IsOnMap, IsLawful, IsOfGame, SameSize};
 ghost use Rattle.pz_sheet.specs.Presence.{in_row, in_column};
 ghost use Rattle.pz_grid.specs.Marks.{IsMarked, IsWidened};
 ghost use Rattle.pz_grid.specs.Staying.{IsMove};
-ghost use Rattle.pz_grid.specs.Movement.{neighbour, heading_goal, spot, in_pass, move_at, spots_at, spots_in, pass_of, moving, settle, resolved, IsNextLeaving, Leaves};
-ghost use Rattle.pz_sheet.specs.Movement.{stilled, IsStillAt, AreStill, AreColumnsStill};
+ghost use Rattle.pz_grid.specs.Movement.{neighbour, heading_goal, spot, in_pass, move_at, spots_at, spots_in, pass_of, moving, settle, after_movement, IsNextLeaving, Leaves};
+ghost use Rattle.pz_sheet.specs.Movement.{still_level, IsStillAt, AreStill, AreColumnsStill};
 
 use crate::Level;
 use pz_bare::AnySheet;
@@ -19,7 +19,7 @@ use pz_sheet::Sheet;
 /// Rule `move.passes`.
 pub fn resolve(game: &Game, level: &mut Level)
     requires { IsOfGame game.now level.old.grid }
-    ensures resolved { level.new.grid ≡ resolved level.old.grid }
+    ensures resolved { level.new.grid ≡ after_movement level.old.grid }
     ensures size { SameSize level.old.grid level.new.grid }
     ensures lawful { IsLawful level.new.grid }
     ensures marked { IsMarked level.new }
@@ -131,7 +131,7 @@ impl Level {
 
     /// Stills every piece.
     fn still_all(&mut self)
-        ensures stilled { self.new.grid ≡ stilled self.old.grid }
+        ensures stilled { self.new.grid ≡ still_level self.old.grid }
         ensures lawful { IsLawful self.new.grid }
         ensures marked { IsMarked self.new }
         ensures row_marks { self.new.row_marks ≡ self.old.row_marks }

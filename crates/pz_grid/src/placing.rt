@@ -5,8 +5,8 @@ ghost use Rattle.std.specs.Prelude.{◌≡◌, take, true, ◌+◌, ◌*◌, ◌
 ghost use Rattle.std.specs.Result.{result_map_both};
 ghost use Rattle.pz_game.specs.declared.limits.TheConstants.{MOST_SIDE};
 ghost use Rattle.pz_game.specs.Pattern.{AreOf, IsRowOf, AreRowsOf};
-ghost use Rattle.pz_grid.specs.Admitted.{admitted, searches_line, starts_in, start_count};
-ghost use Rattle.pz_grid.specs.Places.{Adds, position_of, distance, cell_holds, row_holds, line_count, line_length, place_in, holds_behind, pairs_at, head_of, pairs_in, places, searched, starts_with, still_holds, still_matches};
+ghost use Rattle.pz_grid.specs.Admitted.{admitted_count, searches_line, starts_in, start_count};
+ghost use Rattle.pz_grid.specs.Places.{Adds, position_of, distance, cell_holds, row_holds, line_count, line_length, place_in, holds_behind, pairs_at, head_of, pairs_in, places, places_or_limit, starts_with, still_holds, still_matches};
 ghost use Rattle.pz_sets.specs.Next.{IsNext};
 ghost use Rattle.pz_sheet.specs.Grid.{IsLawful};
 ghost use Rattle.pz_sheet.specs.Line.{IsOnLine, dir_of, line_count as lines_along};
@@ -411,7 +411,7 @@ impl Level {
     fn tested_in_all(&self, row: &Row, dir: Dir) -> u64
         requires of_game { IsRowOf self.now.grid.layers row.now }
         ensures low { start_count self.now.grid dir (places self.now.grid row.now dir) ≤ result }
-        ensures high { result ≤ admitted self.now row.now dir * line_length self.now.grid dir }
+        ensures high { result ≤ admitted_count self.now row.now dir * line_length self.now.grid dir }
     {
         let mut tested = 0;
         for line in 0..self.line_count(dir) {
@@ -433,7 +433,7 @@ pub fn places(
     requires of_game { IsRowOf level.now.grid.layers row.now }
     ensures { IfOk result
         (λ found. result_map_both (λ places. places.items) (λ fault. fault) found ≡
-        searched level.now.grid row.now dir) }
+        places_or_limit level.now.grid row.now dir) }
 {
     if !level.is_searched_for(row) {
         return Ok(Ok(Vec::new(alloc)));
@@ -459,11 +459,11 @@ pub fn places_counted(
     requires of_game { IsRowOf level.now.grid.layers row.now }
     ensures found { IfOk result
         (λ counted. result_map_both (λ both. both.0.items) (λ fault. fault) counted ≡
-        searched level.now.grid row.now dir) }
+        places_or_limit level.now.grid row.now dir) }
     ensures low { IfOk result
         (λ counted. IfOk counted (λ both. start_count level.now.grid dir both.0.items ≤ both.1)) }
     ensures high { IfOk result
-        (λ counted. IfOk counted (λ both. both.1 ≤ admitted level.now row.now dir * line_length level.now.grid dir)) }
+        (λ counted. IfOk counted (λ both. both.1 ≤ admitted_count level.now row.now dir * line_length level.now.grid dir)) }
 {
     let found = or_fault!(places(alloc, level, row, dir)?);
     let tested = level.tested_in_all(row, dir);
@@ -474,7 +474,7 @@ pub fn places_counted(
 /// is a row of the level for left and right, and a column for up and down. No place starts in another line.
 pub fn admitted(level: &Level, row: &Row, dir: Dir) -> u32
     requires of_game { IsRowOf level.now.grid.layers row.now }
-    ensures { result ≡ admitted level.now row.now dir }
+    ensures { result ≡ admitted_count level.now row.now dir }
 {
     let mut count = 0;
     for line in 0..level.line_count(dir) {

@@ -7,7 +7,7 @@ ghost use Rattle.pz_sheet.specs.Grid.{IsOnMap, IsLawful, IsOfGame, SameSize};
 ghost use Rattle.pz_grid.specs.Marks.{IsMarked, IsMarkedAt, IsWidenedBy, row_places, places_object};
 ghost use Rattle.pz_game.specs.Items.{names_object};
 ghost use Rattle.pz_sheet.specs.Rewriting.{with_rewritten, changes};
-ghost use Rattle.pz_grid.specs.Rewriting.{in_rewrite, rewritten_at, rewritten_row, rewritten};
+ghost use Rattle.pz_grid.specs.Rewriting.{in_rewrite, rewritten_at, rewritten_row, after_rewriting};
 
 use crate::Level;
 use crate::placing::Place;
@@ -101,7 +101,7 @@ impl Level {
     }
 
     /// Rewrites the cells of an instance at the places of its rows, row by row and cell by cell. True: this or an earlier rewriting changed
-    /// a cell. It doesn't test whether the rows hold, and skips cells off the map. Rule `match.rewriting`.
+    /// a cell. It doesn't test whether the rows hold, and skips cells off the map. Rules `match.rewriting`, `rules.no-right`.
     pub fn rewrite_all(
         &mut self,
         instance: &Instance,
@@ -111,7 +111,7 @@ impl Level {
         requires left_of { AreRowsOf self.old.grid.layers instance.now.left }
         requires right_of { AreRowsOf self.old.grid.layers instance.now.right }
         ensures rewritten { in_rewrite self.new.grid result ≡
-            rewritten instance.now places.now (in_rewrite self.old.grid changed_before) }
+            after_rewriting instance.now places.now (in_rewrite self.old.grid changed_before) }
         ensures size { SameSize self.old.grid self.new.grid }
         ensures marks { IsWidenedBy self.old self.new (places_object instance.now.right) }
     {
@@ -137,7 +137,7 @@ pub fn rewrite(game: &Game, level: &mut Level, instance: &Instance, places: &[Pl
     requires level_of { IsOfGame game.now level.old.grid }
     requires right_of { IsInstanceOf game.now.layers instance.now }
     ensures rewritten { in_rewrite level.new.grid result ≡
-        rewritten instance.now places.now (in_rewrite level.old.grid false) }
+        after_rewriting instance.now places.now (in_rewrite level.old.grid false) }
     ensures size { SameSize level.old.grid level.new.grid }
     ensures marks { IsWidenedBy level.old level.new (places_object instance.now.right) }
     ensures lawful { IsLawful level.new.grid }

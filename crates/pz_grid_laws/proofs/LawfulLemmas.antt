@@ -1,5 +1,5 @@
 -- Levels whose cells are changed stay lawful.
-use Rattle.pz_grid_laws.proofs.Common.{All, All-from_get_or, All-get_or, All-set, Dir, Grid, IsCell, IsLawful, IsOnLayer, List, None, Option, Pass, Piece, Some, Spot, [], arith, cases_eq, cases_lt, cell_at, cond, false, get_or, get_or-map, get_or-set_other, get_or-set_same, get_or_past, heading_goal, in_pass, inl, inr, is_one_of, kept_by_moves, length, length-map, length-set, map, moved_to, moving, pass_of, place_at, pushed, pushed_place, resolved, set, set_past, settle, spots, still_piece, still_place, stilled, suc, true, with_place, zero, ℕ, ◌*◌, ◌+◌, ◌<◌, ◌∙◌, ◌≡◌}
+use Rattle.pz_grid_laws.proofs.Common.{All, All-from_get_or, All-get_or, All-set, Dir, Grid, IsCell, IsLawful, IsOnLayer, List, None, Option, Pass, Piece, Some, Spot, [], arith, cases_eq, cases_lt, cell_at, cond, false, get_or, get_or-map, get_or-set_other, get_or-set_same, get_or_past, heading_goal, in_pass, inl, inr, is_one_of, kept_by_moves, length, length-map, length-set, map, moved_to, moving, pass_of, place_at, pushed_level, pushed_place, after_movement, set, set_past, settle, spots, still_piece, still_place, still_level, suc, true, with_place, zero, ℕ, ◌*◌, ◌+◌, ◌<◌, ◌∙◌, ◌≡◌}
 
 -- a change of a cell leaves it a cell of the game
 abbrev pub KeepsCell : ℕ → List ℕ → (List (Option Piece) → List (Option Piece)) → Type 0
@@ -68,7 +68,7 @@ still_on_layer : (layers : List ℕ) (layer : ℕ) (place : Option Piece) → Is
 still_on_layer layers layer None h = h
 still_on_layer layers layer (Some piece) h = h
 
-pub lawful-stilled : (grid : Grid) → IsLawful grid → IsLawful (stilled grid)
+pub lawful-stilled : (grid : Grid) → IsLawful grid → IsLawful (still_level grid)
 lawful-stilled grid h = lawful-map grid (map still_place) (keeps_cell-map grid.depth grid.layers still_place (still_on_layer grid.layers)) h
 
 pushed_on_layer : (players : List ℕ) (dir : Dir) (layers : List ℕ) (layer : ℕ) (place : Option Piece) → IsOnLayer layers layer place → IsOnLayer layers layer (pushed_place players dir place)
@@ -76,8 +76,8 @@ pushed_on_layer players dir layers layer None h = h
 pushed_on_layer players dir layers layer (Some piece) h =
     elim (is_one_of players piece.object) as (λ b. IsOnLayer layers layer (cond b (Some (record { object = piece.object; heading = Some dir })) (Some piece))) [ true ↦ h | false ↦ h ]
 
-pub lawful-pushed : (players : List ℕ) (dir : Dir) (grid : Grid) → IsLawful grid → IsLawful (pushed players dir grid)
+pub lawful-pushed : (players : List ℕ) (dir : Dir) (grid : Grid) → IsLawful grid → IsLawful (pushed_level players dir grid)
 lawful-pushed players dir grid h = lawful-map grid (map (pushed_place players dir)) (keeps_cell-map grid.depth grid.layers (pushed_place players dir) (pushed_on_layer players dir grid.layers)) h
 
-pub lawful-resolved : (grid : Grid) → IsLawful grid → IsLawful (resolved grid)
+pub lawful-resolved : (grid : Grid) → IsLawful grid → IsLawful (after_movement grid)
 lawful-resolved grid h = lawful-stilled (settle (moving grid) grid) (lawful-settle (moving grid) grid h)

@@ -1,5 +1,5 @@
 -- Rewritten cells are cells of the game.
-use Rattle.pz_grid_laws.proofs.Common.{AreOf, IsCell, IsOnLayer, Item, List, None, Option, Piece, Some, [], arith, cases_lt, cond, false, forbids_object, get_or, get_or-map-range_with_len, get_or_past, inl, inr, kept, length, length-map-range_with_len, names_object, placed_is, placed_on, refl, replaced, rewritten_cell, rewritten_place, tells_of, true, ℕ, ◌||◌, ◌∙◌, ◌≡◌}
+use Rattle.pz_grid_laws.proofs.Common.{AreOf, IsCell, IsOnLayer, Item, List, None, Option, Piece, Some, [], arith, cases_lt, cond, false, forbids_object, get_or, get_or-map-range_with_len, get_or_past, inl, inr, kept, length, length-map-range_with_len, names_object, placed_is, placed_on, refl, piece_after, rewritten_cell, rewritten_place, tells_of, true, ℕ, ◌||◌, ◌∙◌, ◌≡◌}
 
 kept_on_layer : (layers : List ℕ) (layer : ℕ) (left right : List Item) (here : Option Piece) → IsOnLayer layers layer here → IsOnLayer layers layer (kept left right here)
 kept_on_layer layers layer left right None h = h
@@ -9,7 +9,7 @@ kept_on_layer layers layer left right (Some piece) h =
 -- a rewritten place has an object of its layer
 pub rewritten_on_layer : (layers : List ℕ) (layer : ℕ) (left right : List Item) (here : Option Piece) → AreOf layers right → IsOnLayer layers layer here → IsOnLayer layers layer (rewritten_place left right layer here)
 rewritten_on_layer layers layer left right here are h = by_placed (placed_on layer right) refl where
-  by_placed : (placed : Option Item) → placed_on layer right ≡ placed → IsOnLayer layers layer (replaced placed (tells_of layer left) left right here)
+  by_placed : (placed : Option Item) → placed_on layer right ≡ placed → IsOnLayer layers layer (piece_after placed (tells_of layer left) left right here)
   by_placed None e = kept_on_layer layers layer left right here h
   by_placed (Some item) e = let it = placed_is layers layer right item are e in (it.0, it.1)
 

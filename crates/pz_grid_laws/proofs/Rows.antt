@@ -1,5 +1,5 @@
 -- Worked cases.
-use Rattle.pz_grid_laws.proofs.Common.{Action, Denotation, Dir, Drawing, GameParts, Grid, Left, Level, List, Message, None, Object, Option, Piece, Right, Some, Up, [], codes, false, heading_at, loaded, players_of, pushed, refl, resolved, same_grid, stands, true, ℕ, ◌∷◌, ◌≡◌}
+use Rattle.pz_grid_laws.proofs.Common.{Action, Denotation, Dir, Drawing, GameParts, Grid, Left, Level, List, Message, None, Object, Option, Piece, Right, Some, Up, [], codes, false, heading_at, level_of_entry, players_of, pushed_level, refl, after_movement, same_grid, stands, true, ℕ, ◌∷◌, ◌≡◌}
 
 -- objects: background 0, grass 1, player 2, wall 3, crate 4, spike 5; layers: 0 and 1, then the others
 abbrev layers : List ℕ
@@ -25,23 +25,23 @@ abbrev level : ℕ → ℕ → List (List (Option Piece)) → Grid
 level width height cells = record { width = width; height = height; depth = 2; layers = layers; cells = cells }
 
 -- c.sp with the crate heading right and the spike left: .csp, since the crate is first and takes the place
-pub moves_in_order : resolved (level 4 1 (toward 4 Right ∷ floor ∷ toward 5 Left ∷ still 2 ∷ [])) ≡ level 4 1 (floor ∷ still 4 ∷ still 5 ∷ still 2 ∷ [])
+pub moves_in_order : after_movement (level 4 1 (toward 4 Right ∷ floor ∷ toward 5 Left ∷ still 2 ∷ [])) ≡ level 4 1 (floor ∷ still 4 ∷ still 5 ∷ still 2 ∷ [])
 moves_in_order = refl
 
 -- cc. over .sp with both crates heading right and the spike up: csc over ..p, since a pass goes on behind what has moved
-pub moves_on : resolved (level 3 2 (toward 4 Right ∷ toward 4 Right ∷ floor ∷ floor ∷ toward 5 Up ∷ still 2 ∷ [])) ≡ level 3 2 (still 4 ∷ still 5 ∷ still 4 ∷ floor ∷ floor ∷ still 2 ∷ [])
+pub moves_on : after_movement (level 3 2 (toward 4 Right ∷ toward 4 Right ∷ floor ∷ floor ∷ toward 5 Up ∷ still 2 ∷ [])) ≡ level 3 2 (still 4 ∷ still 5 ∷ still 4 ∷ floor ∷ floor ∷ still 2 ∷ [])
 moves_on = refl
 
 -- ccc. with all crates heading right: in the end all have moved
-pub moves_all : resolved (level 4 1 (toward 4 Right ∷ toward 4 Right ∷ toward 4 Right ∷ floor ∷ [])) ≡ level 4 1 (floor ∷ still 4 ∷ still 4 ∷ still 4 ∷ [])
+pub moves_all : after_movement (level 4 1 (toward 4 Right ∷ toward 4 Right ∷ toward 4 Right ∷ floor ∷ [])) ≡ level 4 1 (floor ∷ still 4 ∷ still 4 ∷ still 4 ∷ [])
 moves_all = refl
 
 -- at the map's end, and by the action, nothing moves
-pub stays_on_map : resolved (level 2 1 (toward 4 Left ∷ toward 2 Action ∷ [])) ≡ level 2 1 (still 4 ∷ still 2 ∷ [])
+pub stays_on_map : after_movement (level 2 1 (toward 4 Left ∷ toward 2 Action ∷ [])) ≡ level 2 1 (still 4 ∷ still 2 ∷ [])
 stays_on_map = refl
 
 -- pc with the press right: only the player heads there
-pub pushes_player : pushed (2 ∷ []) Right (level 2 1 (still 2 ∷ still 4 ∷ [])) ≡ level 2 1 (toward 2 Right ∷ still 4 ∷ [])
+pub pushes_player : pushed_level (2 ∷ []) Right (level 2 1 (still 2 ∷ still 4 ∷ [])) ≡ level 2 1 (toward 2 Right ∷ still 4 ∷ [])
 pushes_player = refl
 
 pub reads : stands (level 2 1 (toward 2 Right ∷ still 4 ∷ [])) 0 0 2 ≡ true
@@ -78,15 +78,15 @@ abbrev drawing : ℕ → ℕ → List ℕ → Drawing
 drawing width height cells = record { width = width; height = height; cells = cells }
 
 -- pp: no cell has a background, so each gets its first object
-pub lays_first_object : loaded (game (drawing 2 1 (4 ∷ 4 ∷ []))) 1 ≡ level 2 1 (still 2 ∷ still 2 ∷ [])
+pub lays_first_object : level_of_entry (game (drawing 2 1 (4 ∷ 4 ∷ []))) 1 ≡ level 2 1 (still 2 ∷ still 2 ∷ [])
 lays_first_object = refl
 
 -- p. over ,p: the first cell with a background, by columns, is the one with the other background
-pub lays_first_background : loaded (game (drawing 2 2 (4 ∷ 2 ∷ 3 ∷ 4 ∷ []))) 1 ≡ level 2 2 ((thing 1 None ∷ thing 2 None ∷ []) ∷ floor ∷ (thing 1 None ∷ None ∷ []) ∷ (thing 1 None ∷ thing 2 None ∷ []) ∷ [])
+pub lays_first_background : level_of_entry (game (drawing 2 2 (4 ∷ 2 ∷ 3 ∷ 4 ∷ []))) 1 ≡ level 2 2 ((thing 1 None ∷ thing 2 None ∷ []) ∷ floor ∷ (thing 1 None ∷ None ∷ []) ∷ (thing 1 None ∷ thing 2 None ∷ []) ∷ [])
 lays_first_background = refl
 
 -- x@: of the crate and the wall, which share a layer, the later stands; the background of the second cell is laid in the first
-pub later_replaces : loaded (game (drawing 2 1 (6 ∷ 5 ∷ []))) 1 ≡ level 2 1 ((thing 1 None ∷ thing 3 None ∷ []) ∷ (thing 1 None ∷ thing 2 None ∷ []) ∷ [])
+pub later_replaces : level_of_entry (game (drawing 2 1 (6 ∷ 5 ∷ []))) 1 ≡ level 2 1 ((thing 1 None ∷ thing 3 None ∷ []) ∷ (thing 1 None ∷ thing 2 None ∷ []) ∷ [])
 later_replaces = refl
 
 pub knows_players : players_of (game (drawing 1 1 (4 ∷ []))) ≡ 2 ∷ []

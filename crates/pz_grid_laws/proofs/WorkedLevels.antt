@@ -1,5 +1,5 @@
 -- Worked cases of levels: loading, the player's input, movement, what holds in a cell, rewriting, and sameness.
-use Rattle.pz_grid_laws.proofs.Common.{Absent, Action, Aggregate, Bool, Commands, Denotation, Dir, Down, Drawing, GameParts, Grid, Instance, Item, Kind, Left, List, None, Object, Option, Piece, Place, Present, Property, Right, RuleRow, Some, Still, Toward, Up, Word, [], codes, false, get_or, holds_each, holds_one, in_rewrite, length, loaded_from, map, moving, pass_of, pattern_holds, pushed, refl, resolved, rewritten, rewritten_cell, same_grid, standing_at, stands, true, ℕ, ◌∷◌, ◌≡◌}
+use Rattle.pz_grid_laws.proofs.Common.{Absent, Action, Aggregate, Bool, Commands, Denotation, Dir, Down, Drawing, GameParts, Grid, Instance, Item, Kind, Left, List, None, Object, Option, Piece, Place, Present, Property, Right, RuleRow, Some, Still, Toward, Up, Word, [], codes, false, get_or, holds_each, holds_one, in_rewrite, length, loaded_from, map, moving, pass_of, pattern_holds, pushed_level, refl, after_movement, after_rewriting, rewritten_cell, same_grid, standing_at, stands, true, ℕ, ◌∷◌, ◌≡◌}
 
 -- objects by number: 0 grass and 1 sand on the background's layer; 2 the player, 3 a crate and 4 a wall on one layer; 5 a mark,
 -- alone on the last
@@ -79,19 +79,19 @@ no_background = refl
 -- a press gives its direction to the player
 
 -- each player gets the direction, in place of the one it had; a crate keeps its own
-pushes_each_player : pushed (2 ∷ []) Up (strip (on_grass (heads 2 Right) ∷ on_grass (heads 3 Down) ∷ player ∷ []))
+pushes_each_player : pushed_level (2 ∷ []) Up (strip (on_grass (heads 2 Right) ∷ on_grass (heads 3 Down) ∷ player ∷ []))
     ≡ strip (on_grass (heads 2 Up) ∷ on_grass (heads 3 Down) ∷ on_grass (heads 2 Up) ∷ [])
 pushes_each_player = refl
 
 -- if the player is a property, each of its members is a player
-pushes_each_member : pushed (2 ∷ 3 ∷ []) Action (strip (player ∷ crate ∷ wall ∷ []))
+pushes_each_member : pushed_level (2 ∷ 3 ∷ []) Action (strip (player ∷ crate ∷ wall ∷ []))
     ≡ strip (on_grass (heads 2 Action) ∷ on_grass (heads 3 Action) ∷ wall ∷ [])
 pushes_each_member = refl
 
 -- the movement
 
 -- two in a line move together: the first pass moves the crate, the second the player behind it
-chain : resolved (strip (on_grass (heads 2 Right) ∷ on_grass (heads 3 Right) ∷ bare ∷ [])) ≡ strip (bare ∷ player ∷ crate ∷ [])
+chain : after_movement (strip (on_grass (heads 2 Right) ∷ on_grass (heads 3 Right) ∷ bare ∷ [])) ≡ strip (bare ∷ player ∷ crate ∷ [])
 chain = refl
 
 chain_after_a_pass : (pass_of (strip (on_grass (heads 2 Right) ∷ on_grass (heads 3 Right) ∷ bare ∷ []))).grid
@@ -99,31 +99,31 @@ chain_after_a_pass : (pass_of (strip (on_grass (heads 2 Right) ∷ on_grass (hea
 chain_after_a_pass = refl
 
 -- against a wall neither moves, and both are still
-blocked_chain : resolved (strip (on_grass (heads 2 Right) ∷ on_grass (heads 3 Right) ∷ wall ∷ [])) ≡ strip (player ∷ crate ∷ wall ∷ [])
+blocked_chain : after_movement (strip (on_grass (heads 2 Right) ∷ on_grass (heads 3 Right) ∷ wall ∷ [])) ≡ strip (player ∷ crate ∷ wall ∷ [])
 blocked_chain = refl
 
 -- a moved object is still: it doesn't go on in the same pass or a later one
-one_cell_only : resolved (strip (on_grass (heads 2 Right) ∷ bare ∷ bare ∷ [])) ≡ strip (bare ∷ player ∷ bare ∷ [])
+one_cell_only : after_movement (strip (on_grass (heads 2 Right) ∷ bare ∷ bare ∷ [])) ≡ strip (bare ∷ player ∷ bare ∷ [])
 one_cell_only = refl
 
 -- the map ends, and the action moves nothing
-edge_of_the_map : resolved (column (on_grass (heads 2 Up) ∷ on_grass (heads 3 Action) ∷ bare ∷ [])) ≡ column (player ∷ crate ∷ bare ∷ [])
+edge_of_the_map : after_movement (column (on_grass (heads 2 Up) ∷ on_grass (heads 3 Action) ∷ bare ∷ [])) ≡ column (player ∷ crate ∷ bare ∷ [])
 edge_of_the_map = refl
 
 -- both head for the cell between them: the one in the column further left gets it
-left_column_first : resolved (strip (on_grass (heads 3 Right) ∷ bare ∷ on_grass (heads 2 Left) ∷ [])) ≡ strip (bare ∷ crate ∷ player ∷ [])
+left_column_first : after_movement (strip (on_grass (heads 3 Right) ∷ bare ∷ on_grass (heads 2 Left) ∷ [])) ≡ strip (bare ∷ crate ∷ player ∷ [])
 left_column_first = refl
 
 -- in one column the upper gets it
-upper_first : resolved (column (on_grass (heads 3 Down) ∷ bare ∷ on_grass (heads 2 Up) ∷ [])) ≡ column (bare ∷ crate ∷ player ∷ [])
+upper_first : after_movement (column (on_grass (heads 3 Down) ∷ bare ∷ on_grass (heads 2 Up) ∷ [])) ≡ column (bare ∷ crate ∷ player ∷ [])
 upper_first = refl
 
 -- two that head into each other stay
-no_swap : resolved (strip (on_grass (heads 2 Right) ∷ on_grass (heads 3 Left) ∷ [])) ≡ strip (player ∷ crate ∷ [])
+no_swap : after_movement (strip (on_grass (heads 2 Right) ∷ on_grass (heads 3 Left) ∷ [])) ≡ strip (player ∷ crate ∷ [])
 no_swap = refl
 
 -- a mark is on another layer: it is in nobody's way
-other_layer : resolved (strip (on_grass (heads 2 Right) ∷ (still 0 ∷ None ∷ still 5 ∷ []) ∷ []))
+other_layer : after_movement (strip (on_grass (heads 2 Right) ∷ (still 0 ∷ None ∷ still 5 ∷ []) ∷ []))
     ≡ strip (bare ∷ (still 0 ∷ still 2 ∷ still 5 ∷ []) ∷ [])
 other_layer = refl
 
@@ -207,13 +207,13 @@ two_rows left more right others = record {
 }
 
 -- [ Player ] [ Player ] -> [ Crate ] [ ] on one cell: the second row finds no player there any more, and the crate stays
-second_row_finds_the_crate : rewritten (two_rows (item 2 Present ∷ []) (item 2 Present ∷ []) (item 3 Present ∷ []) []) both_here
+second_row_finds_the_crate : after_rewriting (two_rows (item 2 Present ∷ []) (item 2 Present ∷ []) (item 3 Present ∷ []) []) both_here
     (in_rewrite (strip (player ∷ [])) false)
     ≡ in_rewrite (strip (crate ∷ [])) true
 second_row_finds_the_crate = refl
 
 -- [ Player ] [ ] -> [ Crate ] [ Player ] on one cell: the second row gives the cell back, but it counts as changed
-changed_and_back : rewritten (two_rows (item 2 Present ∷ []) [] (item 3 Present ∷ []) (item 2 Present ∷ [])) both_here
+changed_and_back : after_rewriting (two_rows (item 2 Present ∷ []) [] (item 3 Present ∷ []) (item 2 Present ∷ [])) both_here
     (in_rewrite (strip (player ∷ [])) false)
     ≡ in_rewrite (strip (player ∷ [])) true
 changed_and_back = refl

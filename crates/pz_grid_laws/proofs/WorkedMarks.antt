@@ -1,6 +1,6 @@
 -- Worked cases of marks and of the lines that are searched, on the level p#.# with its marks: object 0 is the background, 2 the player, 3 a
 -- wall, 4 a crate, 6 a mark.
-use Rattle.pz_grid_laws.proofs.Common.{Absent, Down, LevelState, Present, Right, RuleRow, Some, Up, [], admitted, false, in_column, in_row, places, refl, searches_level, searches_line, start_count, true, ◌∷◌, ◌≡◌}
+use Rattle.pz_grid_laws.proofs.Common.{Absent, Down, LevelState, Present, Right, RuleRow, Some, Up, [], admitted_count, false, in_column, in_row, places, refl, searches_level, searches_line, start_count, true, ◌∷◌, ◌≡◌}
 use Rattle.pz_grid_laws.proofs.WorkedPlaces.{bare, player, wall, level, item, only, at, row}
 
 -- a set is the sum of two to the power of its objects
@@ -30,26 +30,26 @@ two_places = refl
 pub one_start : start_count state.grid Right (places state.grid to_a_wall Right) ≡ 1
 one_start = refl
 
-pub one_line : admitted state to_a_wall Right ≡ 1
+pub one_line : admitted_count state to_a_wall Right ≡ 1
 one_line = refl
 
 -- the column of the player is admitted by the first cell, and isn't searched: it has no wall
-pub one_column : admitted state to_a_wall Up ≡ 1
+pub one_column : admitted_count state to_a_wall Up ≡ 1
 one_column = refl
 
 pub not_searched : searches_line state to_a_wall Up 0 ≡ false
 not_searched = refl
 
 -- no line and no level is searched for what stands nowhere
-pub no_line : admitted state (row (only 4 ∷ [])) Right ≡ 0
+pub no_line : admitted_count state (row (only 4 ∷ [])) Right ≡ 0
 no_line = refl
 
 pub no_level : searches_level state (row (only 4 ∷ [])) ≡ false
 no_level = refl
 
 -- a cell without items is searched for in each line, and so is one that only has items under `no`
-pub all_columns : admitted state (row ([] ∷ [])) Down ≡ 4
+pub all_columns : admitted_count state (row ([] ∷ [])) Down ≡ 4
 all_columns = refl
 
-pub what_is_forbidden_says_nothing : admitted state (row ((item 3 Absent ∷ []) ∷ [])) Up ≡ 4
+pub what_is_forbidden_says_nothing : admitted_count state (row ((item 3 Absent ∷ []) ∷ [])) Up ≡ 4
 what_is_forbidden_says_nothing = refl

@@ -1,5 +1,5 @@
 -- Worked cases of places and of rewriting.
-use Rattle.pz_grid_laws.proofs.Common.{Absent, Action, Commands, Dir, Down, Grid, Instance, Item, Left, List, None, Ok, Option, Piece, Place, Present, Right, RuleRow, Some, Toward, Up, Word, [], false, get_or, in_rewrite, places, refl, rewritten, rewritten_cell, searched, still_matches, true, ℕ, ◌∷◌, ◌≡◌}
+use Rattle.pz_grid_laws.proofs.Common.{Absent, Action, Commands, Dir, Down, Grid, Instance, Item, Left, List, None, Ok, Option, Piece, Place, Present, Right, RuleRow, Some, Toward, Up, Word, [], false, get_or, in_rewrite, places, refl, after_rewriting, rewritten_cell, places_or_limit, still_matches, true, ℕ, ◌∷◌, ◌≡◌}
 
 -- objects by number: 0 the background, alone on its layer; 1 a target, alone on its own; 2 the player, 3 a wall, 4 a crate and
 -- 5 a spike on one layer; 6 a mark, alone on the last
@@ -79,8 +79,8 @@ pub one_action : places crates one Action ≡ []
 one_action = refl
 
 -- the search gives the same, since they are few
-pub searched_right : searched crates two Right ≡ Ok (at 0 1 0 ∷ [])
-unfolding searched
+pub searched_right : places_or_limit crates two Right ≡ Ok (at 0 1 0 ∷ [])
+unfolding places_or_limit
 searched_right = refl
 
 -- right [ Player | ... | Wall ] on p#: the gap may have no cell
@@ -111,7 +111,7 @@ marked = level 4 1 (cell (piece 2 None) (piece 6 None) ∷ crate ∷ bare ∷ wa
 pub marking_places : places walls (record { cells = (item 2 Present ∷ item 6 Absent ∷ []) ∷ only 3 ∷ []; gap_at = Some 1 }) Right ≡ at 0 0 0 ∷ at 0 0 2 ∷ []
 marking_places = refl
 
-pub marking_first : rewritten marking (at 0 0 0 ∷ []) (in_rewrite walls false) ≡ in_rewrite marked true
+pub marking_first : after_rewriting marking (at 0 0 0 ∷ []) (in_rewrite walls false) ≡ in_rewrite marked true
 marking_first = refl
 
 -- the second place no longer holds then
@@ -149,5 +149,5 @@ pub removes_under_no : rewritten_cell (only 2) (item 2 Present ∷ item 6 Absent
 removes_under_no = refl
 
 -- a rewriting that gives the same cell hasn't changed anything
-pub changes_nothing : rewritten (record { scan = Right; left = one ∷ []; right = one ∷ []; commands = no_command; below = 0 }) (at 0 0 0 ∷ []) (in_rewrite crates false) ≡ in_rewrite crates false
+pub changes_nothing : after_rewriting (record { scan = Right; left = one ∷ []; right = one ∷ []; commands = no_command; below = 0 }) (at 0 0 0 ∷ []) (in_rewrite crates false) ≡ in_rewrite crates false
 changes_nothing = refl

@@ -6,8 +6,8 @@ use Rattle.pz_cells.specs.Cell.{IsCell}
 use Rattle.pz_sheet.specs.Grid.{Grid, IsLawful}
 use Rattle.pz_cells.specs.Standing.{standing}
 use Rattle.pz_sheet.specs.Sameness.{same_grid}
-use Rattle.pz_grid.specs.Movement.{pass_of, moving, settle, resolved}
-use Rattle.pz_sheet.specs.Pushing.{pushed}
+use Rattle.pz_grid.specs.Movement.{pass_of, moving, settle, after_movement}
+use Rattle.pz_sheet.specs.Pushing.{pushed_level}
 
 -- the test of two levels decides whether they are equal
 abbrev pub Decides : Type 0
@@ -23,11 +23,11 @@ Settles = (grid : Grid) → (pass_of (settle (moving grid) grid)).moved ≡ fals
 
 -- after the movement nothing heads anywhere, and nothing moves any more
 abbrev pub Rests : Type 0
-Rests = (grid : Grid) → (moving (resolved grid) ≡ 0) × ((pass_of (resolved grid)).moved ≡ false)
+Rests = (grid : Grid) → (moving (after_movement grid) ≡ 0) × ((pass_of (after_movement grid)).moved ≡ false)
 
 -- a lawful level stays lawful when a press gives the player a direction, and in the movement
 abbrev pub StaysLawful : Type 0
-StaysLawful = (grid : Grid) → IsLawful grid → ((players : List ℕ) (dir : Dir) → IsLawful (pushed players dir grid)) × IsLawful (resolved grid)
+StaysLawful = (grid : Grid) → IsLawful grid → ((players : List ℕ) (dir : Dir) → IsLawful (pushed_level players dir grid)) × IsLawful (after_movement grid)
 
 -- two cells of a game are equal if each object stands in both, with the same heading, or in neither
 abbrev pub CellsAreWhatStands : Type 0

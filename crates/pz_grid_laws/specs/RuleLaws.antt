@@ -7,9 +7,9 @@ use Rattle.pz_cells.specs.declared.piece.Piece.{Piece}
 use Rattle.pz_grid.specs.declared.placing.Place.{Place}
 use Rattle.pz_cells.specs.Cell.{IsCell}
 use Rattle.pz_sheet.specs.Grid.{Grid, LevelState, IsLawful}
-use Rattle.pz_grid.specs.Places.{places, searched, still_holds, row_holds, line_length}
+use Rattle.pz_grid.specs.Places.{places, places_or_limit, still_holds, row_holds, line_length}
 use Rattle.pz_grid.specs.Marks.{IsMarked}
-use Rattle.pz_grid.specs.Admitted.{admits_line, admitted, line_of, start_count}
+use Rattle.pz_grid.specs.Admitted.{admits_line, admitted_count, line_of, start_count}
 use Rattle.pz_cells.specs.Rewriting.{rewritten_cell}
 
 -- a pair of a start and a gap is a place of a row exactly if the row holds there; the gap is 0 if the row has none
@@ -26,8 +26,8 @@ HoldsInAdmitted = (state : LevelState) (row : RuleRow) (dir : Dir) (place : Plac
 
 -- the places of a row have no more different start cells than the admitted lines have cells
 abbrev pub StartsAreBounded : Type 0
-StartsAreBounded = (state : LevelState) (row : RuleRow) (dir : Dir) → IsMarked state → start_count state.grid dir (places state.grid row dir) ≤ admitted state row dir * line_length state.grid dir
+StartsAreBounded = (state : LevelState) (row : RuleRow) (dir : Dir) → IsMarked state → start_count state.grid dir (places state.grid row dir) ≤ admitted_count state row dir * line_length state.grid dir
 
 -- a row without a gap never has more places than the limit
 abbrev pub GaplessIsWithin : Type 0
-GaplessIsWithin = (grid : Grid) (row : RuleRow) (dir : Dir) → IsLawful grid → row.gap_at ≡ None → searched grid row dir ≡ Ok (places grid row dir)
+GaplessIsWithin = (grid : Grid) (row : RuleRow) (dir : Dir) → IsLawful grid → row.gap_at ≡ None → places_or_limit grid row dir ≡ Ok (places grid row dir)

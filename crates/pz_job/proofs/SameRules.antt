@@ -10,7 +10,7 @@ use Rattle.pz_game.specs.declared.game.GameParts.{GameParts}
 use Rattle.pz_program.specs.declared.instance.Program.{Program}
 use Rattle.pz_game.specs.declared.rule_line.RuleLine.{RuleLine}
 use Rattle.pz_grammar.specs.Loop.{loop_word, next_loop, is_end}
-use Rattle.pz_grammar.specs.Parsed.{parsed}
+use Rattle.pz_grammar.specs.Parsed.{rule_of_tokens}
 use Rattle.pz_grammar.specs.Words.{rule_word, token_of, tokens_from, tokens_of}
 use Rattle.pz_grammar.specs.declared.loops.LoopWord.{LoopWord}
 use Rattle.pz_grammar.specs.declared.loops.LoopWord.TheVariants as loop_words
@@ -20,8 +20,8 @@ use Rattle.pz_grammar.specs.declared.token.Token.{Token}
 use Rattle.pz_grammar.specs.declared.token.Token.TheVariants as token
 use Rattle.pz_plan.specs.declared.fault.RuleFault.{RuleFault}
 use Rattle.pz_plan.specs.declared.fault.RuleFault.TheVariants as fault
-use Rattle.pz_rules.specs.Drafts.{opened, is_misplaced, lateness, extended_by, rule_added, parsed_added, loop_added, line_added, going_on, program_from, nothing, program_of}
-use Rattle.pz_rules.specs.Expansion.{expanded}
+use Rattle.pz_rules.specs.Drafts.{with_loop_opened, is_misplaced, lateness, extended_by, rule_added, parsed_added, loop_added, line_added, going_on, program_from, nothing, program_of}
+use Rattle.pz_rules.specs.Expansion.{expansion_of_rule}
 use Rattle.pz_rules.specs.declared.draft.Draft.{Draft}
 use Rattle.pz_job.specs.SameRules.{IsSameLine, AreSameLines, HaveSameRules}
 
@@ -75,12 +75,12 @@ module _ (names others : List (List ℕ)) where
 loop_added_same : (draft : Draft) (lines more : List RuleLine) (word : LoopWord) → next_loop lines ≡ next_loop more → loop_added draft lines word ≡ loop_added draft more word
 unfolding loop_added
 loop_added_same draft lines more loop_words.Start same =
-    let begun : Option LoopWord → Result Draft RuleFault = λ next. if is_end next then Ok (opened draft) else Err fault.BadRule in ap begun same
+    let begun : Option LoopWord → Result Draft RuleFault = λ next. if is_end next then Ok (with_loop_opened draft) else Err fault.BadRule in ap begun same
 loop_added_same draft lines more loop_words.End same = refl
 
 -- the draft with a line of these words, whether they are a loop word or a rule's
 abbrev added_by : GameParts → Draft → List RuleLine → List (List ℕ) → Option LoopWord → Result Draft RuleFault
-added_by game draft below words None = parsed_added game draft (length below) (parsed (tokens_of game.names words))
+added_by game draft below words None = parsed_added game draft (length below) (rule_of_tokens (tokens_of game.names words))
 added_by game draft below words (Some word) = loop_added draft below word
 
 going_on_same : (number other : ℕ) (later more : Draft → Result Program SourceFault) (given : Result Draft RuleFault) (program : Program)
@@ -93,7 +93,7 @@ module _ (game other : GameParts) (values : game.values ≡ other.values) (layer
   rule_added_same : (draft : Draft) (below : ℕ) (rule : Rule) → rule_added game draft below rule ≡ rule_added other draft below rule
   unfolding rule_added
   rule_added_same draft below rule =
-      λ i. if is_misplaced draft rule then Err fault.BadRule else extended_by draft rule (expanded (values i) (layers i) below draft.pairs (lateness draft rule) rule)
+      λ i. if is_misplaced draft rule then Err fault.BadRule else extended_by draft rule (expansion_of_rule (values i) (layers i) below draft.pairs (lateness draft rule) rule)
 
   parsed_added_same : (draft : Draft) (below : ℕ) (rule : Option Rule) → parsed_added game draft below rule ≡ parsed_added other draft below rule
   parsed_added_same draft below None = refl
@@ -102,9 +102,9 @@ module _ (game other : GameParts) (values : game.values ≡ other.values) (layer
   added_by_same : (draft : Draft) (words : List (List ℕ)) (below others : List RuleLine) (word : Option LoopWord) → tokens_of game.names words ≡ tokens_of other.names words
       → length below ≡ length others → next_loop below ≡ next_loop others → added_by game draft below words word ≡ added_by other draft others words word
   added_by_same draft words below others None tokens count loops =
-      subst (λ ts. parsed_added game draft (length below) (parsed (tokens_of game.names words)) ≡ parsed_added other draft (length others) (parsed ts)) tokens
-      (subst (λ (n : ℕ). parsed_added game draft (length below) (parsed (tokens_of game.names words)) ≡ parsed_added other draft n (parsed (tokens_of game.names words))) count
-      (parsed_added_same draft (length below) (parsed (tokens_of game.names words))))
+      subst (λ ts. parsed_added game draft (length below) (rule_of_tokens (tokens_of game.names words)) ≡ parsed_added other draft (length others) (rule_of_tokens ts)) tokens
+      (subst (λ (n : ℕ). parsed_added game draft (length below) (rule_of_tokens (tokens_of game.names words)) ≡ parsed_added other draft n (rule_of_tokens (tokens_of game.names words))) count
+      (parsed_added_same draft (length below) (rule_of_tokens (tokens_of game.names words))))
   added_by_same draft words below others (Some word) tokens count loops = loop_added_same draft below others word loops
 
   line_added_same : (draft : Draft) (line more : RuleLine) (below others : List RuleLine) → IsSameLine game.names other.names line more → AreSameLines game.names other.names below others

@@ -7,7 +7,7 @@ use Rattle.std.specs.Option.{option_map_or}
 use Rattle.std.proofs.lemmas.Map.Steps.{length-le_from_distinct_below}
 use Rattle.std.specs.List.{list_any, IsDistinct, AllByRecursion}
 use Rattle.pz_names.specs.Cycles.{reaches, is_on_cycle, IsChain}
-use Rattle.pz_names.specs.Denotation.{value_at, denotation_of, gathered, with_mentions}
+use Rattle.pz_names.specs.Denotation.{value_at, denotation_of, members_of_parts, with_mentions}
 use Rattle.pz_names.specs.Meaning.{parts_of, parts_at}
 use Rattle.pz_game.specs.declared.denotation.Kind.{Kind}
 use Rattle.pz_game.specs.declared.denotation.Kind.TheVariants.{Property, Aggregate}
@@ -32,16 +32,16 @@ later : (f : ℕ → Option Denotation) (p : ℕ) (ps : List ℕ) → Unknown f 
 later f p ps u = record { part = u.part; among = rw u.among (or_true (p == u.part)); none = u.none }
 
 -- where the members of the parts can't be gathered, a part is not known
-gathered-none : (f : ℕ → Option Denotation) (mentions parts : List ℕ) → gathered f mentions parts ≡ None → Unknown f parts
+gathered-none : (f : ℕ → Option Denotation) (mentions parts : List ℕ) → members_of_parts f mentions parts ≡ None → Unknown f parts
 gathered-none f mentions [] e = cc
 gathered-none f mentions (part ∷ parts) e = by (f part) refl e (λ m h. gathered-none f m parts h)
   where
-    by : (o : Option Denotation) → f part ≡ o → option_and_then (λ d. gathered f (with_mentions mentions d.members) parts) o ≡ None
-        → ((m : List ℕ) → gathered f m parts ≡ None → Unknown f parts) → Unknown f (part ∷ parts)
+    by : (o : Option Denotation) → f part ≡ o → option_and_then (λ d. members_of_parts f (with_mentions mentions d.members) parts) o ≡ None
+        → ((m : List ℕ) → members_of_parts f m parts ≡ None → Unknown f parts) → Unknown f (part ∷ parts)
     by None q h more = record { part = part; among = rw (same_self part) refl; none = q }
     by (Some d) q h more = later f part parts (more (with_mentions mentions d.members) h)
 
-joined-none : (f : ℕ → Option Denotation) (kind : Kind) (number : ℕ) (parts : List ℕ) (o : Option (List ℕ)) → gathered f [] parts ≡ o
+joined-none : (f : ℕ → Option Denotation) (kind : Kind) (number : ℕ) (parts : List ℕ) (o : Option (List ℕ)) → members_of_parts f [] parts ≡ o
     → option_map (λ ms. let d : Denotation = record { kind = kind; members = ms; number = number } in d) o ≡ None → Unknown f parts
 joined-none f kind number parts None q e = gathered-none f [] parts q
 joined-none f kind number parts (Some ms) q e = cc
@@ -145,8 +145,8 @@ module _ (meanings : List Meaning) where
       by None q h = absurd (no_none (sym (slice_get_is_some meanings k lt) ∙ ap is_some q))
       by (Some (Itself place first)) q h = cc
       by (Some (Same other)) q h = record { part = other; among = rw (same_self other) refl; none = h }
-      by (Some (AllOf parts)) q h = joined-none (value_at m meanings) Aggregate k parts (gathered (value_at m meanings) [] parts) refl h
-      by (Some (AnyOf parts)) q h = joined-none (value_at m meanings) Property k parts (gathered (value_at m meanings) [] parts) refl h
+      by (Some (AllOf parts)) q h = joined-none (value_at m meanings) Aggregate k parts (members_of_parts (value_at m meanings) [] parts) refl h
+      by (Some (AnyOf parts)) q h = joined-none (value_at m meanings) Property k parts (members_of_parts (value_at m meanings) [] parts) refl h
 
   -- a path of m steps from k
   pub record Chain (m k : ℕ) : Type 0 where

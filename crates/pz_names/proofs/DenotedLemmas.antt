@@ -8,9 +8,9 @@ use Rattle.std.proofs.lemmas.List.{length-map}
 use Rattle.std.proofs.lemmas.Option.{slice_get_within, get_or_from_slice_get}
 use Rattle.pz_text.specs.Words.{names_of}
 use Rattle.pz_text.specs.declared.line.Line.{Line}
-use Rattle.pz_names.specs.Legend.{joined, said_by, defined_by, definition_of, definitions_of, sides}
+use Rattle.pz_names.specs.Legend.{joint_names, said_by, defined_by, definition_of, definitions_of, sides}
 use Rattle.pz_names.specs.Meaning.{number_or_end, meaning_by, object_meanings}
-use Rattle.pz_names.specs.Denotation.{with_mention, with_mentions, gathered, denotation_of, value_at, values_of}
+use Rattle.pz_names.specs.Denotation.{with_mention, with_mentions, members_of_parts, denotation_of, value_at, values_of}
 use Rattle.pz_names.specs.Values.{names_of_source, meanings_of_source}
 use Rattle.pz_game.specs.Denotation.{IsDenoted}
 use Rattle.pz_names.specs.declared.name_line.NameLine.{NameLine}
@@ -64,33 +64,33 @@ module _ (count : ℕ) where
 
   -- where each known name denotes objects
   module _ (known : ℕ → Option Denotation) (each : (k : ℕ) (d : Denotation) → known k ≡ Some d → IsDenoted count d) where
-    gathered-inside : (mentions parts ms : List ℕ) → All (λ o. o < count) mentions → gathered known mentions parts ≡ Some ms → All (λ o. o < count) ms
+    gathered-inside : (mentions parts ms : List ℕ) → All (λ o. o < count) mentions → members_of_parts known mentions parts ≡ Some ms → All (λ o. o < count) ms
     gathered-inside mentions [] ms all e = let is : mentions ≡ ms = cc in subst (λ (m : List ℕ). All (λ o. o < count) m) is all
     gathered-inside mentions (part ∷ parts) ms all e = by (known part) refl e (λ m h k. gathered-inside m parts ms h k)
       where
-        by : (o : Option Denotation) → known part ≡ o → option_and_then (λ d. gathered known (with_mentions mentions d.members) parts) o ≡ Some ms
-            → ((m : List ℕ) → All (λ o. o < count) m → gathered known m parts ≡ Some ms → All (λ o. o < count) ms) → All (λ o. o < count) ms
+        by : (o : Option Denotation) → known part ≡ o → option_and_then (λ d. members_of_parts known (with_mentions mentions d.members) parts) o ≡ Some ms
+            → ((m : List ℕ) → All (λ o. o < count) m → members_of_parts known m parts ≡ Some ms → All (λ o. o < count) ms) → All (λ o. o < count) ms
         by None q h rest = cc
         by (Some d) q h rest = rest (with_mentions mentions d.members) (mentions-inside mentions d.members all (each part d q).all) h
 
-    gathered-keep : (mentions parts ms : List ℕ) → 0 < length mentions → gathered known mentions parts ≡ Some ms → 0 < length ms
+    gathered-keep : (mentions parts ms : List ℕ) → 0 < length mentions → members_of_parts known mentions parts ≡ Some ms → 0 < length ms
     gathered-keep mentions [] ms some e = let is : mentions ≡ ms = cc in subst (λ (m : List ℕ). 0 < length m) is some
     gathered-keep mentions (part ∷ parts) ms some e = by (known part) e (λ m h k. gathered-keep m parts ms h k)
       where
-        by : (o : Option Denotation) → option_and_then (λ d. gathered known (with_mentions mentions d.members) parts) o ≡ Some ms
-            → ((m : List ℕ) → 0 < length m → gathered known m parts ≡ Some ms → 0 < length ms) → 0 < length ms
+        by : (o : Option Denotation) → option_and_then (λ d. members_of_parts known (with_mentions mentions d.members) parts) o ≡ Some ms
+            → ((m : List ℕ) → 0 < length m → members_of_parts known m parts ≡ Some ms → 0 < length ms) → 0 < length ms
         by None h rest = cc
         by (Some d) h rest = rest (with_mentions mentions d.members) (mentions-keep mentions d.members some) h
 
-    gathered-some : (parts ms : List ℕ) → 0 < length parts → gathered known [] parts ≡ Some ms → 0 < length ms
+    gathered-some : (parts ms : List ℕ) → 0 < length parts → members_of_parts known [] parts ≡ Some ms → 0 < length ms
     gathered-some [] ms some e = absurd (omega arith)
     gathered-some (part ∷ parts) ms some e = by (known part) refl e
       where
-        by : (o : Option Denotation) → known part ≡ o → option_and_then (λ d. gathered known (with_mentions [] d.members) parts) o ≡ Some ms → 0 < length ms
+        by : (o : Option Denotation) → known part ≡ o → option_and_then (λ d. members_of_parts known (with_mentions [] d.members) parts) o ≡ Some ms → 0 < length ms
         by None q h = cc
         by (Some d) q h = gathered-keep (with_mentions [] d.members) parts ms (mentions-some [] d.members (each part d q).some) h
 
-    joined-denoted : (kind : Kind) (number : ℕ) (parts : List ℕ) (d : Denotation) → 0 < length parts → (o : Option (List ℕ)) → gathered known [] parts ≡ o
+    joined-denoted : (kind : Kind) (number : ℕ) (parts : List ℕ) (d : Denotation) → 0 < length parts → (o : Option (List ℕ)) → members_of_parts known [] parts ≡ o
         → option_map (λ ms. record { kind = kind; members = ms; number = number }) o ≡ Some d → IsDenoted count d
     joined-denoted kind number parts d some None q e = cc
     joined-denoted kind number parts d some (Some ms) q e =
@@ -108,8 +108,8 @@ module _ (count : ℕ) where
           all = subst (λ (m : List ℕ). All (λ o. o < count) m) members (All-cons (λ o. o < count) place [] lt (All-nil (λ o. o < count)));
         }
     next-denoted number (Same other) d lt e = each other d e
-    next-denoted number (AllOf parts) d some e = joined-denoted Aggregate number parts d some (gathered known [] parts) refl e
-    next-denoted number (AnyOf parts) d some e = joined-denoted Property number parts d some (gathered known [] parts) refl e
+    next-denoted number (AllOf parts) d some e = joined-denoted Aggregate number parts d some (members_of_parts known [] parts) refl e
+    next-denoted number (AnyOf parts) d some e = joined-denoted Property number parts d some (members_of_parts known [] parts) refl e
 
   -- where each line can denote objects, each name that has a value does
   pub value-denoted : (meanings : List Meaning) → All (IsMeant count) meanings → (n k : ℕ) (d : Denotation) → value_at n meanings k ≡ Some d → IsDenoted count d
@@ -136,7 +136,7 @@ objects-meant count place first (line ∷ lines) room =
     each (name ∷ names) = All-cons (IsMeant count) (Itself place first) (map (λ name. Itself place first) names) (omega arith) (each names)
 
 -- the right side of a line of LEGEND has a name
-joined-some : (joint : List ℕ) (before parts r : List (List ℕ)) → joined joint before parts ≡ Some r → 0 < length r
+joined-some : (joint : List ℕ) (before parts r : List (List ℕ)) → joint_names joint before parts ≡ Some r → 0 < length r
 joined-some joint before [] r e = cc
 joined-some joint before (part ∷ []) r e =
     let long = length-append before (part ∷ []) in
@@ -144,7 +144,7 @@ joined-some joint before (part ∷ []) r e =
     subst (λ (p : List (List ℕ)). 0 < length p) is (omega arith)
 joined-some joint before (part ∷ other ∷ more) r e = by (bytes_eq other joint) e (joined-some joint (before ++ part ∷ []) more r)
   where
-    by : (b : Bool) → (if b then joined joint (before ++ part ∷ []) more else None) ≡ Some r → (joined joint (before ++ part ∷ []) more ≡ Some r → 0 < length r) → 0 < length r
+    by : (b : Bool) → (if b then joint_names joint (before ++ part ∷ []) more else None) ≡ Some r → (joint_names joint (before ++ part ∷ []) more ≡ Some r → 0 < length r) → 0 < length r
     by true h rest = rest h
     by false h rest = cc
 
@@ -158,18 +158,18 @@ said-some [] s e = cc
 said-some (only ∷ []) s e = let is : said.Same only ≡ s = cc in subst SaysSome is tt
 said-some (part ∷ joint ∷ more) s e = by (bytes_eq joint (codes "and")) e
   where
-    all : (o : Option (List (List ℕ))) → joined (codes "and") [] (part ∷ joint ∷ more) ≡ o → option_map (λ parts. said.AllOf parts) o ≡ Some s → SaysSome s
+    all : (o : Option (List (List ℕ))) → joint_names (codes "and") [] (part ∷ joint ∷ more) ≡ o → option_map (λ parts. said.AllOf parts) o ≡ Some s → SaysSome s
     all None q h = cc
     all (Some r) q h = let is : said.AllOf r ≡ s = cc in subst SaysSome is (joined-some (codes "and") [] (part ∷ joint ∷ more) r q)
 
-    any : (o : Option (List (List ℕ))) → joined (codes "or") [] (part ∷ joint ∷ more) ≡ o → option_map (λ parts. said.AnyOf parts) o ≡ Some s → SaysSome s
+    any : (o : Option (List (List ℕ))) → joint_names (codes "or") [] (part ∷ joint ∷ more) ≡ o → option_map (λ parts. said.AnyOf parts) o ≡ Some s → SaysSome s
     any None q h = cc
     any (Some r) q h = let is : said.AnyOf r ≡ s = cc in subst SaysSome is (joined-some (codes "or") [] (part ∷ joint ∷ more) r q)
 
-    by : (b : Bool) → (if b then option_map (λ parts. said.AllOf parts) (joined (codes "and") [] (part ∷ joint ∷ more)) else option_map (λ parts. said.AnyOf parts) (joined (codes "or") [] (part ∷ joint ∷ more))) ≡ Some s
+    by : (b : Bool) → (if b then option_map (λ parts. said.AllOf parts) (joint_names (codes "and") [] (part ∷ joint ∷ more)) else option_map (λ parts. said.AnyOf parts) (joint_names (codes "or") [] (part ∷ joint ∷ more))) ≡ Some s
         → SaysSome s
-    by true h = all (joined (codes "and") [] (part ∷ joint ∷ more)) refl h
-    by false h = any (joined (codes "or") [] (part ∷ joint ∷ more)) refl h
+    by true h = all (joint_names (codes "and") [] (part ∷ joint ∷ more)) refl h
+    by false h = any (joint_names (codes "or") [] (part ∷ joint ∷ more)) refl h
 
 defined-some : (number : ℕ) (left right : List (List ℕ)) (d : Definition) → defined_by number left right ≡ Some d → SaysSome d.said
 defined-some number [] right d e = cc

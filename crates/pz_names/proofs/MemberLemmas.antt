@@ -1,7 +1,7 @@
 -- Rounds over all lines, and the chains that they follow.
 use Rattle.std.proofs.Common.{◌≡◌, ℕ, ◌<◌, ◌+◌, zero, suc, List, [], ◌∷◌, ◌++◌, length, get_or, drop, drop-cons, refl, ap, sym, ◌∙◌, add-one}
 use Rattle.std.specs.Prelude.{Option, Some, None, option_and_then, option_map, slice_get}
-use Rattle.pz_names.specs.Denotation.{value_at, denotation_next, denotation_of, gathered, known_at, with_mentions}
+use Rattle.pz_names.specs.Denotation.{value_at, denotation_next, denotation_of, members_of_parts, known_at, with_mentions}
 use Rattle.pz_game.specs.declared.denotation.Kind.{Kind}
 use Rattle.pz_game.specs.declared.denotation.Kind.TheVariants.{Property, Aggregate}
 use Rattle.pz_names.specs.declared.meaning.Meaning.TheVariants.{Itself, Same, AllOf, AnyOf}
@@ -10,7 +10,7 @@ use Rattle.pz_game.specs.declared.denotation.Denotation.{Denotation}
 
 -- one part more, of which the name is known
 pub gathered-step : (known : ℕ → Option Denotation) (mentions parts : List ℕ) (i : ℕ) (d : Denotation) → i < length parts → known (get_or parts i 0) ≡ Some d
-    → gathered known (with_mentions mentions d.members) (drop (i + 1) parts) ≡ gathered known mentions (drop i parts)
+    → members_of_parts known (with_mentions mentions d.members) (drop (i + 1) parts) ≡ members_of_parts known mentions (drop i parts)
 gathered-step known mentions parts i d lt named =
     let next : drop i parts ≡ get_or parts i 0 ∷ drop (i + 1) parts = drop-cons parts i 0 lt ∙ ap (λ j. get_or parts i 0 ∷ drop j parts) (sym (add-one i)) in
     rw (next, named) refl
@@ -27,27 +27,27 @@ pub record Below (f g : ℕ → Option Denotation) : Type 0 where
   pub at : (k : ℕ) (d : Denotation) → f k ≡ Some d → g k ≡ Some d
 
 module _ (f g : ℕ → Option Denotation) (le : Below f g) where
-  gathered-mono : (mentions parts r : List ℕ) → gathered f mentions parts ≡ Some r → gathered g mentions parts ≡ Some r
+  gathered-mono : (mentions parts r : List ℕ) → members_of_parts f mentions parts ≡ Some r → members_of_parts g mentions parts ≡ Some r
   gathered-mono mentions [] r e = e
   gathered-mono mentions (part ∷ parts) r e = by (f part) refl e (λ m h. gathered-mono m parts r h)
     where
-      by : (o : Option Denotation) → f part ≡ o → option_and_then (λ d. gathered f (with_mentions mentions d.members) parts) o ≡ Some r
-          → ((m : List ℕ) → gathered f m parts ≡ Some r → gathered g m parts ≡ Some r)
-          → option_and_then (λ d. gathered g (with_mentions mentions d.members) parts) (g part) ≡ Some r
+      by : (o : Option Denotation) → f part ≡ o → option_and_then (λ d. members_of_parts f (with_mentions mentions d.members) parts) o ≡ Some r
+          → ((m : List ℕ) → members_of_parts f m parts ≡ Some r → members_of_parts g m parts ≡ Some r)
+          → option_and_then (λ d. members_of_parts g (with_mentions mentions d.members) parts) (g part) ≡ Some r
       by None q h more = cc
       by (Some d) q h more = rw (le.at part d q) (more (with_mentions mentions d.members) h)
 
-  joined-mono : (kind : Kind) (number : ℕ) (parts : List ℕ) (d : Denotation) (o : Option (List ℕ)) → gathered f [] parts ≡ o
+  joined-mono : (kind : Kind) (number : ℕ) (parts : List ℕ) (d : Denotation) (o : Option (List ℕ)) → members_of_parts f [] parts ≡ o
       → option_map (λ ms. record { kind = kind; members = ms; number = number }) o ≡ Some d
-      → option_map (λ ms. record { kind = kind; members = ms; number = number }) (gathered g [] parts) ≡ Some d
+      → option_map (λ ms. record { kind = kind; members = ms; number = number }) (members_of_parts g [] parts) ≡ Some d
   joined-mono kind number parts d None q h = cc
   joined-mono kind number parts d (Some ms) q h = rw (gathered-mono [] parts ms q) h
 
   denotation_of-mono : (number : ℕ) (meaning : Meaning) (d : Denotation) → denotation_of f number meaning ≡ Some d → denotation_of g number meaning ≡ Some d
   denotation_of-mono number (Itself place first) d e = e
   denotation_of-mono number (Same other) d e = le.at other d e
-  denotation_of-mono number (AllOf parts) d e = joined-mono Aggregate number parts d (gathered f [] parts) refl e
-  denotation_of-mono number (AnyOf parts) d e = joined-mono Property number parts d (gathered f [] parts) refl e
+  denotation_of-mono number (AllOf parts) d e = joined-mono Aggregate number parts d (members_of_parts f [] parts) refl e
+  denotation_of-mono number (AnyOf parts) d e = joined-mono Property number parts d (members_of_parts f [] parts) refl e
 
   pub denotation_next-mono : (meanings : List Meaning) → Below (denotation_next f meanings) (denotation_next g meanings)
   denotation_next-mono meanings = record { at = λ k d e. by k d (slice_get meanings k) e }

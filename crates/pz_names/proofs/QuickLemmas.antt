@@ -6,20 +6,20 @@ use Rattle.std.specs.Option.{option_map_or}
 use Rattle.std.specs.List.{list_any}
 use Rattle.pz_names.proofs.ChainLemmas.{leads_from_reaches}
 use Rattle.pz_names.specs.Cycles.{is_on_cycle, IsChain, LeadsTo}
-use Rattle.pz_names.specs.Denotation.{value_at, denotation_of, gathered, with_mentions}
+use Rattle.pz_names.specs.Denotation.{value_at, denotation_of, members_of_parts, with_mentions}
 use Rattle.pz_names.specs.Meaning.{parts_of, parts_at}
 use Rattle.pz_names.specs.declared.meaning.Meaning.{Meaning}
 use Rattle.pz_names.specs.declared.meaning.Meaning.TheVariants.{Itself, Same, AllOf, AnyOf}
 use Rattle.pz_game.specs.declared.denotation.Denotation.{Denotation}
 
 -- where a part is not known, the members can't be gathered
-gathered-missing : (f : ℕ → Option Denotation) (y : ℕ) → f y ≡ None → (mentions parts : List ℕ) → list_any (λ p. p == y) parts ≡ true → gathered f mentions parts ≡ None
+gathered-missing : (f : ℕ → Option Denotation) (y : ℕ) → f y ≡ None → (mentions parts : List ℕ) → list_any (λ p. p == y) parts ≡ true → members_of_parts f mentions parts ≡ None
 gathered-missing f y none mentions [] h = cc
 gathered-missing f y none mentions (part ∷ parts) h = by (part == y) refl h (f part) refl (λ m k. gathered-missing f y none m parts k)
   where
     by : (b : Bool) → (part == y) ≡ b → (b || list_any (λ p. p == y) parts) ≡ true → (o : Option Denotation) → f part ≡ o
-        → ((m : List ℕ) → list_any (λ p. p == y) parts ≡ true → gathered f m parts ≡ None)
-        → gathered f mentions (part ∷ parts) ≡ None
+        → ((m : List ℕ) → list_any (λ p. p == y) parts ≡ true → members_of_parts f m parts ≡ None)
+        → members_of_parts f mentions (part ∷ parts) ≡ None
     by b e h None q rest = rw q refl
     by true e h (Some d) q rest = let same : f part ≡ None = ap f (eqb-true part y e) ∙ none in cc
     by false e h (Some d) q rest = rw q (rest (with_mentions mentions d.members) h)

@@ -7,7 +7,7 @@ use Rattle.std.proofs.lemmas.Bool.{eqb-true, eq-eqb}
 use Rattle.std.proofs.lemmas.Bool.Decides.{nat_tests}
 use Rattle.std.proofs.lemmas.Option.{slice_get_within}
 use Rattle.pz_names.specs.Meaning.{parts_of, StaysInside}
-use Rattle.pz_names.specs.Denotation.{AreMarked, value_at, gathered, with_mentions, denotation_of, denotation_next, known_at, IsBelow, known_after, IsRound}
+use Rattle.pz_names.specs.Denotation.{AreMarked, value_at, members_of_parts, with_mentions, denotation_of, denotation_next, known_at, IsBelow, known_after, IsRound}
 use Rattle.pz_names.specs.declared.meaning.Meaning.{Meaning}
 use Rattle.pz_names.specs.declared.meaning.Meaning.TheVariants.{Itself, Same, AllOf, AnyOf}
 use Rattle.pz_game.specs.declared.denotation.Denotation.{Denotation}
@@ -15,13 +15,13 @@ use Rattle.pz_names.proofs.MemberLemmas.{Below, value_at-more, denotation_next-m
 use Rattle.pz_names.proofs.SettledLemmas.{saturated}
 
 -- a line of which a part is not known says nothing
-gathered-unknown : (known : ℕ → Option Denotation) (mentions parts : List ℕ) → list_all (λ part. is_some (known part)) parts ≡ false → gathered known mentions parts ≡ None
+gathered-unknown : (known : ℕ → Option Denotation) (mentions parts : List ℕ) → list_all (λ part. is_some (known part)) parts ≡ false → members_of_parts known mentions parts ≡ None
 gathered-unknown known mentions [] h = cc
 gathered-unknown known mentions (part ∷ parts) h = by (known part) refl h (λ m k. gathered-unknown known m parts k)
   where
     by : (o : Option Denotation) → known part ≡ o → (is_some o && list_all (λ p. is_some (known p)) parts) ≡ false
-        → ((m : List ℕ) → list_all (λ p. is_some (known p)) parts ≡ false → gathered known m parts ≡ None)
-        → gathered known mentions (part ∷ parts) ≡ None
+        → ((m : List ℕ) → list_all (λ p. is_some (known p)) parts ≡ false → members_of_parts known m parts ≡ None)
+        → members_of_parts known mentions (part ∷ parts) ≡ None
     by None q h rest = rw q refl
     by (Some d) q h rest = rw q (rest (with_mentions mentions d.members) h)
 

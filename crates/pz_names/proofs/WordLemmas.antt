@@ -7,7 +7,7 @@ use Rattle.std.proofs.lemmas.Bool.{cond-true, cond-false, cases_lt}
 use Rattle.std.proofs.lemmas.Bool.Decides.{nat_tests}
 use Rattle.std.proofs.lemmas.List.{length-append, length-map}
 use Rattle.std.proofs.lemmas.List.Elements.{All-nil, All-cons, All-head, All-tail, All-append, All-weaker, All-filter, filter_passes}
-use Rattle.pz_base.specs.Name.{folded, name_of}
+use Rattle.pz_base.specs.Name.{lower_case, name_of}
 use Rattle.pz_text.specs.Words.{words, names_of}
 use Rattle.pz_game.specs.Word.{IsWord}
 
@@ -101,7 +101,7 @@ name_some (c ∷ cs) h some =
     let first = bytes_solid (to_ascii_lowercase c) (solid c (All-head IsBlack c cs h)) in
     omega (arith, first.0, length-append (encode_utf8 (to_ascii_lowercase c)) (name_of cs))
 
-all_lower : (bytes : List ℕ) → All IsSolid bytes → folded bytes ≡ bytes
+all_lower : (bytes : List ℕ) → All IsSolid bytes → lower_case bytes ≡ bytes
 all_lower [] h = refl
 all_lower (b ∷ bs) h = cc ((All-head IsSolid b bs h).1, all_lower bs (All-tail IsSolid b bs h))
 

@@ -19,9 +19,9 @@ abbrev pub AreMarked : List Bool → List ℕ → Type 0
 AreMarked marks mentions = (k : ℕ) → k < length marks → unwrap_or (slice_get marks k) false ≡ list_any (λ other. other == k) mentions
 
 -- legend.members: the members of the parts in the order of first mention, if each part is known
-abbrev pub gathered : (ℕ → Option Denotation) → List ℕ → List ℕ → Option (List ℕ)
-gathered known mentions [] = Some mentions
-gathered known mentions (part ∷ parts) = option_and_then (λ d. gathered known (with_mentions mentions d.members) parts) (known part)
+abbrev pub members_of_parts : (ℕ → Option Denotation) → List ℕ → List ℕ → Option (List ℕ)
+members_of_parts known mentions [] = Some mentions
+members_of_parts known mentions (part ∷ parts) = option_and_then (λ d. members_of_parts known (with_mentions mentions d.members) parts) (known part)
 
 -- legend.synonyms: What the line of the name of this number makes it denote; `known` has what the names on its right denote. An
 -- object has itself as its only member. A synonym has the kind, the members and the number of the name that it stands for. A
@@ -30,8 +30,8 @@ gathered known mentions (part ∷ parts) = option_and_then (λ d. gathered known
 abbrev pub denotation_of : (ℕ → Option Denotation) → ℕ → Meaning → Option Denotation
 denotation_of known number (Itself place first) = Some (record { kind = Object; members = place ∷ []; number = first })
 denotation_of known number (Same other) = known other
-denotation_of known number (AllOf parts) = option_map (λ ms. record { kind = Aggregate; members = ms; number = number }) (gathered known [] parts)
-denotation_of known number (AnyOf parts) = option_map (λ ms. record { kind = Property; members = ms; number = number }) (gathered known [] parts)
+denotation_of known number (AllOf parts) = option_map (λ ms. record { kind = Aggregate; members = ms; number = number }) (members_of_parts known [] parts)
+denotation_of known number (AnyOf parts) = option_map (λ ms. record { kind = Property; members = ms; number = number }) (members_of_parts known [] parts)
 
 abbrev pub denotation_next : (ℕ → Option Denotation) → List Meaning → ℕ → Option Denotation
 denotation_next known meanings number = option_and_then (denotation_of known number) (slice_get meanings number)

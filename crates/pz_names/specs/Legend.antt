@@ -19,19 +19,19 @@ sides [] = None
 sides (c ∷ cs) = option_map (λ at. (take (at + 1) (c ∷ cs), drop (at + 1) cs)) (position (λ d. d == 61) cs)
 
 -- legend.joints: the first, third, fifth name and so on, after those in `before`, if the joint stands between each two of them
-abbrev pub joined : List ℕ → List (List ℕ) → List (List ℕ) → Option (List (List ℕ))
-joined joint before [] = None
-joined joint before (part ∷ []) = Some (before ++ part ∷ [])
-joined joint before (part ∷ other ∷ more) = if bytes_eq other joint then joined joint (before ++ part ∷ []) more else None
+abbrev pub joint_names : List ℕ → List (List ℕ) → List (List ℕ) → Option (List (List ℕ))
+joint_names joint before [] = None
+joint_names joint before (part ∷ []) = Some (before ++ part ∷ [])
+joint_names joint before (part ∷ other ∷ more) = if bytes_eq other joint then joint_names joint (before ++ part ∷ []) more else None
 
--- what the right side says: a name alone is a synonym, parts joined by `and` are an aggregate, and parts joined by `or` a
+-- legend.kinds: what the right side says: a name alone is a synonym, parts joined by `and` are an aggregate, and parts joined by `or` a
 -- property
 abbrev pub said_by : List (List ℕ) → Option Said
 said_by [] = None
 said_by (only ∷ []) = Some (Same only)
 said_by (part ∷ joint ∷ more) =
-    if bytes_eq joint (codes "and") then option_map (λ parts. AllOf parts) (joined (codes "and") [] (part ∷ joint ∷ more))
-    else option_map (λ parts. AnyOf parts) (joined (codes "or") [] (part ∷ joint ∷ more))
+    if bytes_eq joint (codes "and") then option_map (λ parts. AllOf parts) (joint_names (codes "and") [] (part ∷ joint ∷ more))
+    else option_map (λ parts. AnyOf parts) (joint_names (codes "or") [] (part ∷ joint ∷ more))
 
 -- the definition that both sides make, if the left side is one name
 abbrev pub defined_by : ℕ → List (List ℕ) → List (List ℕ) → Option Definition

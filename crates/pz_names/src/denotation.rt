@@ -3,7 +3,7 @@
 ghost use Rattle.std.specs.Prelude.{Option, ◌≡◌, ◌<◌, ◌==◌, ◌||◌, not, ℕ, length, [], OnOk, IfOk, option_copied, option_map, is_some, None, Some, false, if◌then◌else◌};
 ghost use Rattle.std.specs.List.{list_all, list_any};
 ghost use Rattle.pz_names.specs.Meaning.{parts_of, StaysInside};
-ghost use Rattle.pz_names.specs.Denotation.{AreMarked, with_mention, with_mentions, gathered, known_at, IsBelow, denotation_of, denotation_next, value_at, known_after, IsRound};
+ghost use Rattle.pz_names.specs.Denotation.{AreMarked, with_mention, with_mentions, members_of_parts, known_at, IsBelow, denotation_of, denotation_next, value_at, known_after, IsRound};
 
 use crate::meaning::Meaning;
 use pz_base::listed::Listed;
@@ -84,7 +84,7 @@ fn gather(
     known: &[Option<Denotation>],
 ) -> Result<bool, AllocError>
     requires { AreMarked marks.old mentions.old.items }
-    ensures { IfOk result (λ all. gathered (known_at known.now) mentions.old.items parts.now ≡
+    ensures { IfOk result (λ all. members_of_parts (known_at known.now) mentions.old.items parts.now ≡
         (if all then Some mentions.new.items else None)) }
 {
     for part in parts {
@@ -102,7 +102,7 @@ fn gathered(
     parts: &[usize],
     known: &[Option<Denotation>],
 ) -> Result<Option<Listed<usize>>, AllocError>
-    ensures { IfOk result (λ r. r ≡ gathered (known_at known.now) [] parts.now) }
+    ensures { IfOk result (λ r. r ≡ members_of_parts (known_at known.now) [] parts.now) }
 {
     let mut marks = no_marks(alloc, MOST_OBJECTS)?;
     let mut mentions = Vec::new(alloc);
@@ -123,7 +123,7 @@ fn group(
 ) -> Result<Option<Denotation>, AllocError>
     ensures { IfOk result (λ r. r ≡
         option_map (λ members. record { kind = kind; members = members; number = number })
-        (gathered (known_at known.now) [] parts.now)) }
+        (members_of_parts (known_at known.now) [] parts.now)) }
 {
     let Some(members) = gathered(alloc, parts, known)? else {
         return Ok(None);

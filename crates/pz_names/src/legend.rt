@@ -6,7 +6,7 @@ ghost use Rattle.pz_base.specs.Fault.{first_fault, unless, and_then};
 ghost use Rattle.pz_base.specs.NameSet.{is_name_of};
 ghost use Rattle.pz_base.specs.declared.fault.Code.TheVariants as code;
 ghost use Rattle.pz_names.specs.Objects.{is_blank};
-ghost use Rattle.pz_names.specs.Legend.{sides, joined, said_by, defined_by, definition_of, definitions_of, line_number, line_at, misnames, misnames_by, speaks_of_unknown, names_in};
+ghost use Rattle.pz_names.specs.Legend.{sides, joint_names, said_by, defined_by, definition_of, definitions_of, line_number, line_at, misnames, misnames_by, speaks_of_unknown, names_in};
 
 use crate::objects::{MOST_NAMES, is_blank};
 use pz_base::fault::{Code, SourceFault};
@@ -74,7 +74,7 @@ pub fn sides<'a>(text: &'a [char]) -> Option<(&'a [char], &'a [char])>
 
 /// The first, third, fifth name and so on, if there is one and the joint stands between each two of them. Rule `legend.joints`.
 fn joined(alloc: Global, names: &[Name], joint: &str) -> Result<Option<Listed<Name>>, AllocError>
-    ensures { IfOk result (λ parts. parts ≡ joined joint.now [] names.now) }
+    ensures { IfOk result (λ parts. parts ≡ joint_names joint.now [] names.now) }
 {
     let mut parts = Vec::new(alloc);
     let mut rest = names;
@@ -91,6 +91,7 @@ fn joined(alloc: Global, names: &[Name], joint: &str) -> Result<Option<Listed<Na
     Ok(None)
 }
 
+/// What the right side of a definition says. None: it has no form of one. Rule `legend.kinds`.
 fn said_by(alloc: Global, right: &[Name]) -> Result<Option<Said>, AllocError>
     ensures { IfOk result (λ said. said ≡ said_by right.now) }
 {

@@ -22,11 +22,11 @@ impl Drop for Pairs {
 impl Model for Pairs {
     ghost use Rattle.std.specs.Prelude.{List, ℕ, ◌++◌, ◌<◌};
     ghost use Rattle.std.specs.Option.{ForSome, option_to_list};
-    ghost use Rattle.pz_packed.specs.Paired.{paired};
+    ghost use Rattle.pz_packed.specs.Paired.{bytes_of_numbers};
 
     ghost Value = { List ℕ };
 
-    ghost view = { λ p. paired p.bytes.items ++ option_to_list p.odd };
+    ghost view = { λ p. bytes_of_numbers p.bytes.items ++ option_to_list p.odd };
 
     ghost invariant = { λ p. ForSome p.odd (λ odd. odd < 16) };
 }

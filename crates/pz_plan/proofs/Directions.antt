@@ -3,7 +3,7 @@ use Rattle.std.proofs.Common.{◌≡◌, true, List, [], ◌++◌, refl}
 use Rattle.std.proofs.lemmas.Grind.{fold-append}
 use Rattle.pz_game.specs.declared.direction.Dir.{Dir}
 use Rattle.pz_game.specs.declared.direction.Dir.TheVariants.{Up, Down, Left, Right, Action}
-use Rattle.pz_base.specs.Lists.{firsts, added, added_all}
+use Rattle.pz_base.specs.Lists.{firsts, with_new, added_all}
 use Rattle.pz_game.specs.Direction.{same_dir}
 use Rattle.pz_plan.proofs.Firsts.{firsts-append}
 
@@ -22,6 +22,6 @@ pub directions-start : (ds : List Dir) → added_all same_dir [] ds ≡ firsts s
 directions-start ds = firsts-append same_dir same_dir-trans [] ds
 
 pub directions-more : (kept now more : List Dir) → added_all same_dir kept (now ++ more) ≡ added_all same_dir (added_all same_dir kept now) more
-directions-more kept now more = fold-append (added same_dir) kept now more
+directions-more kept now more = fold-append (with_new same_dir) kept now more
 
 pub ruleset mentioning = (directions-start, directions-more)

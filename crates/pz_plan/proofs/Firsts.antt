@@ -3,7 +3,7 @@ use Rattle.std.proofs.Common.{◌≡◌, Bool, true, false, not, ◌||◌, List,
 use Rattle.std.proofs.lemmas.Bool.{or_cases, or_left, or_right, or_parts, or_from, cases_Bool, not_from_true, not_from_false, cond-true, cond-false, false≢true, false_from_ne_true}
 use Rattle.std.proofs.lemmas.List.{append_assoc, append-nil}
 use Rattle.std.specs.List.{list_any}
-use Rattle.pz_base.specs.Lists.{firsts, added}
+use Rattle.pz_base.specs.Lists.{firsts, with_new}
 
 abbrev pub IsTransitive : {X : Type 0} → (X → X → Bool) → Type 0
 IsTransitive {X} same = (a b c : X) → same a b ≡ true → same b c ≡ true → same a c ≡ true
@@ -44,7 +44,7 @@ list_any-filter_same {X} same trans x y (k ∷ ks) h n =
     (or_cases (same k y) (list_any test ks) h)
 
 -- one more element at the end
-pub firsts-push : {X : Type 0} (same : X → X → Bool) → IsTransitive same → (xs : List X) (y : X) → firsts same (xs ++ y ∷ []) ≡ added same (firsts same xs) y
+pub firsts-push : {X : Type 0} (same : X → X → Bool) → IsTransitive same → (xs : List X) (y : X) → firsts same (xs ++ y ∷ []) ≡ with_new same (firsts same xs) y
 firsts-push same trans [] y = refl
 firsts-push {X} same trans (x ∷ xs) y =
     let test : X → Bool = λ k. same k y in
@@ -71,7 +71,7 @@ firsts-push {X} same trans (x ∷ xs) y =
     (cases_Bool (list_any test ks))
 
 -- more elements at the end
-pub firsts-append : {X : Type 0} (same : X → X → Bool) → IsTransitive same → (xs ys : List X) → fold (added same) (firsts same xs) ys ≡ firsts same (xs ++ ys)
+pub firsts-append : {X : Type 0} (same : X → X → Bool) → IsTransitive same → (xs ys : List X) → fold (with_new same) (firsts same xs) ys ≡ firsts same (xs ++ ys)
 firsts-append same trans xs [] = ap (firsts same) (sym (append-nil xs))
 firsts-append same trans xs (y ∷ ys) =
-    ap (λ k. fold (added same) k ys) (sym (firsts-push same trans xs y)) ∙ firsts-append same trans (xs ++ y ∷ []) ys ∙ ap (firsts same) (append_assoc xs (y ∷ []) ys)
+    ap (λ k. fold (with_new same) k ys) (sym (firsts-push same trans xs y)) ∙ firsts-append same trans (xs ++ y ∷ []) ys ∙ ap (firsts same) (append_assoc xs (y ∷ []) ys)

@@ -13,7 +13,7 @@ use Rattle.pz_plan.specs.declared.plan.Subject.TheVariants as subject
 use Rattle.pz_plan.specs.declared.plan.Mention.{Mention}
 use Rattle.pz_plan.specs.declared.spelling.Side.{Side}
 use Rattle.pz_plan.specs.declared.spelling.Side.TheVariants as side
-use Rattle.pz_base.specs.Lists.{firsts, added, added_all}
+use Rattle.pz_base.specs.Lists.{firsts, with_new, added_all}
 use Rattle.pz_plan.specs.Same.{same_turn, same_class, same_word, same_lead, same_subject, same_mention, is_class, is_some_member, says_the_same}
 use Rattle.pz_plan.proofs.Directions.{same_dir_is}
 use Rattle.pz_plan.proofs.Firsts.{firsts-append}
@@ -72,6 +72,6 @@ pub mentions-start : (on : Side) (ms : List Mention) → added_all (says_the_sam
 mentions-start on ms = firsts-append (says_the_same on) (says_the_same-trans on) [] ms
 
 pub mentions-more : (on : Side) (kept now more : List Mention) → added_all (says_the_same on) kept (now ++ more) ≡ added_all (says_the_same on) (added_all (says_the_same on) kept now) more
-mentions-more on kept now more = fold-append (added (says_the_same on)) kept now more
+mentions-more on kept now more = fold-append (with_new (says_the_same on)) kept now more
 
 pub ruleset mentioning = (mentions-start, mentions-more)

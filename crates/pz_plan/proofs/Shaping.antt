@@ -19,9 +19,9 @@ use Rattle.pz_grammar.specs.declared.rule.Rule.{Rule}
 use Rattle.pz_plan.specs.declared.spelling.Side.{Side}
 use Rattle.pz_plan.specs.declared.spelling.Side.TheVariants as side
 use Rattle.pz_plan.specs.Checks.{has_more_gaps, is_long, is_large, in_rule, is_unknown, is_mixed, has_gap_at, has_loose_gap, is_other_shape, is_misshapen, fault_of}
-use Rattle.pz_plan.specs.Deciding.{joined, decided_terms, decided_cells, decided_row, decided_rows}
+use Rattle.pz_plan.specs.Deciding.{both_or_none, decided_terms, decided_cells, decided_row, decided_rows}
 use Rattle.pz_plan.specs.Numbering.{choices_in_rows, asked_in, asked_count, cells_of, rows_of}
-use Rattle.pz_plan.specs.Planning.{with_right, planned, plan_of}
+use Rattle.pz_plan.specs.Planning.{with_right, plan_of_spelled, plan_of}
 use Rattle.pz_plan.specs.Shape.{IsShaped, AreShaped, AreShort}
 use Rattle.pz_plan.specs.Spelling.{cell_of, is_gap, gap_of, row_spelled_out, rows_spelled_out}
 use Rattle.pz_grammar.specs.Written.{is_prefix, has_cells, has_rows, is_whole}
@@ -99,7 +99,7 @@ shaped-rows_of n (row ∷ rows) h =
     (subst (λ k. HasShape k row.gap_at) (sym (length-cells_of n row.cells)) (All-head IsShaped row rows h))
     (shaped-rows_of (n + asked_count row.cells) rows (All-tail IsShaped row rows h))
 
-joined-length : {X : Type 0} (n : ℕ) (o : Option X) (p : Option (List X)) → IfSome p (λ xs. length xs ≡ n) → IfSome (joined o p) (λ xs. length xs ≡ suc n)
+joined-length : {X : Type 0} (n : ℕ) (o : Option X) (p : Option (List X)) → IfSome p (λ xs. length xs ≡ n) → IfSome (both_or_none o p) (λ xs. length xs ≡ suc n)
 joined-length n (Some x) (Some xs) h = ap suc h
 joined-length n (Some x) None h = tt
 joined-length n None p h = tt
@@ -109,7 +109,7 @@ unfolding decided_cells
 length-decided cs r n [] = refl
 length-decided cs r n (c ∷ cells) = joined-length (length cells) (decided_terms cs (record { row = r; cell = n }) c) (decided_cells cs r (n + 1) cells) (length-decided cs r (n + 1) cells)
 
-joined-shaped : (o : Option (PlanRow Term)) (p : Option (List (PlanRow Term))) → IfSome o IsShaped → IfSome p AreShaped → IfSome (joined o p) AreShaped
+joined-shaped : (o : Option (PlanRow Term)) (p : Option (List (PlanRow Term))) → IfSome o IsShaped → IfSome p AreShaped → IfSome (both_or_none o p) AreShaped
 joined-shaped (Some row) (Some rows) h k = All-cons IsShaped row rows h k
 joined-shaped (Some row) None h k = tt
 joined-shaped None p h k = tt
@@ -176,8 +176,8 @@ short-sides t late rule e =
     let l = or_parts (is_large rule.left) (is_large rule.right) (well-written t late rule e).large in
     (short-rows rule.left (or_parts (nat_lt 8 (length rule.left)) (list_any is_long rule.left) l.0).1, short-rows rule.right (or_parts (nat_lt 8 (length rule.right)) (list_any is_long rule.right) l.1).1)
 
-shaped-planned : (t : List Denotation) (rule : Rule) → is_whole rule ≡ true → Written_well rule → PlanIsShaped (planned rule (rows_spelled_out side.Left t rule.left) (rows_spelled_out side.Right t rule.right))
-unfolding planned rows_spelled_out is_large is_misshapen
+shaped-planned : (t : List Denotation) (rule : Rule) → is_whole rule ≡ true → Written_well rule → PlanIsShaped (plan_of_spelled rule (rows_spelled_out side.Left t rule.left) (rows_spelled_out side.Right t rule.right))
+unfolding plan_of_spelled rows_spelled_out is_large is_misshapen
 shaped-planned t rule whole well =
     let a = and_parts (list_all is_prefix rule.prefixes) (has_rows rule.left && (list_all has_cells rule.left && list_all has_cells rule.right)) whole in
     let b = and_parts (has_rows rule.left) (list_all has_cells rule.left && list_all has_cells rule.right) a.1 in
@@ -199,8 +199,8 @@ unfolding plan_of
 shaped-plan t late rule whole =
     let left = rows_spelled_out side.Left t rule.left in
     let right = rows_spelled_out side.Right t rule.right in
-    let by : (o : Option RuleFault) → fault_of t late rule ≡ o → PlanIsShaped (elim o [ Some fault ↦ Err fault | None ↦ planned rule left right ]) =
-    λ o. elim o as (λ o. fault_of t late rule ≡ o → PlanIsShaped (elim o [ Some fault ↦ Err fault | None ↦ planned rule left right ])) [
+    let by : (o : Option RuleFault) → fault_of t late rule ≡ o → PlanIsShaped (elim o [ Some fault ↦ Err fault | None ↦ plan_of_spelled rule left right ]) =
+    λ o. elim o as (λ o. fault_of t late rule ≡ o → PlanIsShaped (elim o [ Some fault ↦ Err fault | None ↦ plan_of_spelled rule left right ])) [
       | Some fault ↦ λ e. tt
       | None ↦ λ e. shaped-planned t rule whole (well-written t late rule e)
     ] in

@@ -14,7 +14,7 @@ use Rattle.pz_plan.specs.declared.fault.RuleFault.{RuleFault}
 use Rattle.pz_plan.specs.declared.fault.RuleFault.TheVariants as fault
 use Rattle.pz_plan.specs.declared.checks.Found.{Found}
 use Rattle.pz_plan.specs.declared.checks.Found.TheVariants as found
-use Rattle.pz_plan.specs.Spelling.{is_no, is_gap, gap_of, denoted}
+use Rattle.pz_plan.specs.Spelling.{is_no, is_gap, gap_of, denotation_if_any}
 
 -- a row with more than one gap
 unfoldable pub has_more_gaps : List Cell → Bool
@@ -30,7 +30,7 @@ is_large rows = nat_lt MOST_ROWS (length rows) || list_any is_long rows
 
 -- a name that nothing has
 unfoldable pub is_unknown : List Denotation → Phrase → Bool
-is_unknown table phrase = is_none (denoted table phrase.name)
+is_unknown table phrase = is_none (denotation_if_any table phrase.name)
 
 abbrev pub is_aggregate : Kind → Bool
 is_aggregate kind.Aggregate = true
@@ -38,7 +38,7 @@ is_aggregate _ = false
 
 -- `no` before an aggregate
 unfoldable pub is_mixed : List Denotation → Phrase → Bool
-is_mixed table phrase = is_no phrase.lead && option_map_or (λ denotation. is_aggregate denotation.kind) (denoted table phrase.name) false
+is_mixed table phrase = is_no phrase.lead && option_map_or (λ denotation. is_aggregate denotation.kind) (denotation_if_any table phrase.name) false
 
 -- a movement word
 unfoldable pub is_moving : Phrase → Bool

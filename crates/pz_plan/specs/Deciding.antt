@@ -54,14 +54,14 @@ abbrev pub numbers_of : (Choice → Bool) → List (ℕ × Choice) → List ℕ
 numbers_of is numbered = map (λ choice. choice.0) (filter (λ choice. is choice.1) numbered)
 
 -- the element of a list of length one
-abbrev pub lone : List ℕ → Option ℕ
-lone [] = None
-lone (k ∷ []) = Some k
-lone (k ∷ next ∷ more) = None
+abbrev pub only_element : List ℕ → Option ℕ
+only_element [] = None
+only_element (k ∷ []) = Some k
+only_element (k ∷ next ∷ more) = None
 
 -- the number of the only choice that passes the test
 unfoldable pub the_only : (Choice → Bool) → List Choice → Option ℕ
-the_only is choices = lone (numbers_of is (enumerate_from 0 choices))
+the_only is choices = only_element (numbers_of is (enumerate_from 0 choices))
 
 -- expand.right-property: the member of a property: of its only occurrence in the cell, else of its only one in the rule
 unfoldable pub member_choice : List Choice → Spot → ℕ → Option ℕ
@@ -94,20 +94,20 @@ decided_term choices spot mention =
     with_lead (decided_lead choices spot mention.lead mention.subject) (decided_name choices spot mention.subject)
 
 -- a list with one more before it, if both are there
-abbrev pub joined : {X : Type 0} → Option X → Option (List X) → Option (List X)
-joined (Some x) (Some xs) = Some (x ∷ xs)
-joined (Some x) None = None
-joined None xs = None
+abbrev pub both_or_none : {X : Type 0} → Option X → Option (List X) → Option (List X)
+both_or_none (Some x) (Some xs) = Some (x ∷ xs)
+both_or_none (Some x) None = None
+both_or_none None xs = None
 
 unfoldable pub decided_terms : List Choice → Spot → List Mention → Option (List Term)
 decided_terms choices spot [] = Some []
-decided_terms choices spot (mention ∷ mentions) = joined (decided_term choices spot mention) (decided_terms choices spot mentions)
+decided_terms choices spot (mention ∷ mentions) = both_or_none (decided_term choices spot mention) (decided_terms choices spot mentions)
 
 -- the cells of a row, where n cells of the row stand before them
 unfoldable pub decided_cells : List Choice → ℕ → ℕ → List (List Mention) → Option (List (List Term))
 decided_cells choices row n [] = Some []
 decided_cells choices row n (cell ∷ cells) =
-    joined (decided_terms choices (record { row = row; cell = n }) cell) (decided_cells choices row (n + 1) cells)
+    both_or_none (decided_terms choices (record { row = row; cell = n }) cell) (decided_cells choices row (n + 1) cells)
 
 unfoldable pub decided_row : List Choice → ℕ → PlanRow Mention → Option (PlanRow Term)
 decided_row choices n row = option_map (λ cells. record { cells = cells; gap_at = row.gap_at }) (decided_cells choices n 0 row.cells)
@@ -115,4 +115,4 @@ decided_row choices n row = option_map (λ cells. record { cells = cells; gap_at
 -- expand.ambiguous
 unfoldable pub decided_rows : List Choice → ℕ → List (PlanRow Mention) → Option (List (PlanRow Term))
 decided_rows choices n [] = Some []
-decided_rows choices n (row ∷ rows) = joined (decided_row choices n row) (decided_rows choices (n + 1) rows)
+decided_rows choices n (row ∷ rows) = both_or_none (decided_row choices n row) (decided_rows choices (n + 1) rows)

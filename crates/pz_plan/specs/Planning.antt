@@ -23,13 +23,13 @@ with_right rule left (Some right) =
     Ok (record { directions = directions_of rule; choices = choices_in_rows left; left = rows_of 0 left; right = right; commands = commands_given rule.commands })
 
 -- the plan of a rule whose names are spelled out
-unfoldable pub planned : Rule → List (PlanRow Mention) → List (PlanRow Mention) → Result Plan RuleFault
-planned rule left right = with_right rule left (decided_rows (choices_in_rows left) 0 right)
+unfoldable pub plan_of_spelled : Rule → List (PlanRow Mention) → List (PlanRow Mention) → Result Plan RuleFault
+plan_of_spelled rule left right = with_right rule left (decided_rows (choices_in_rows left) 0 right)
 
 -- the plan of a rule, late or not, or its first fault
 unfoldable pub plan_of : List Denotation → Bool → Rule → Result Plan RuleFault
 plan_of table is_late rule =
     elim (fault_of table is_late rule) [
       | Some fault ↦ Err fault
-      | None ↦ planned rule (rows_spelled_out side.Left table rule.left) (rows_spelled_out side.Right table rule.right)
+      | None ↦ plan_of_spelled rule (rows_spelled_out side.Left table rule.left) (rows_spelled_out side.Right table rule.right)
     ]

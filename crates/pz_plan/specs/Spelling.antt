@@ -37,11 +37,11 @@ mentions_of word denotation =
     else map (λ object. record { lead = word; subject = subject.Object object }) denotation.members
 
 -- legend.one-member: what a name denotes, if there is such a name
-unfoldable pub denoted : List Denotation → Option ℕ → Option Denotation
-denoted table name = option_and_then (slice_get table) name
+unfoldable pub denotation_if_any : List Denotation → Option ℕ → Option Denotation
+denotation_if_any table name = option_and_then (slice_get table) name
 
 unfoldable pub mentions_at : List Denotation → Phrase → List Mention
-mentions_at table phrase = option_map_or (mentions_of phrase.lead) (denoted table phrase.name) []
+mentions_at table phrase = option_map_or (mentions_of phrase.lead) (denotation_if_any table phrase.name) []
 
 -- expand.no-property: the phrases of a cell, with each name replaced by what it stands for; what is said twice counts once
 unfoldable pub spelled_out : Side → List Denotation → List Phrase → List Mention

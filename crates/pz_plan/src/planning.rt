@@ -1,8 +1,8 @@
 //! The plan of a rule, or its first fault.
-#![tactic(auto, unfolding(crate::specs::Planning::planned, crate::specs::Planning::with_right, crate::specs::Planning::plan_of))]
+#![tactic(auto, unfolding(crate::specs::Planning::plan_of_spelled, crate::specs::Planning::with_right, crate::specs::Planning::plan_of))]
 
 ghost use Rattle.std.specs.Prelude.{◌≡◌, true, IfOk};
-ghost use Rattle.pz_plan.specs.Planning.{planned, plan_of};
+ghost use Rattle.pz_plan.specs.Planning.{plan_of_spelled, plan_of};
 ghost use Rattle.pz_plan.specs.Shape.{AreShaped};
 ghost use Rattle.pz_grammar.specs.Written.{is_whole};
 
@@ -26,7 +26,7 @@ fn planned(
     left: &[PlanRow<Mention>],
     right: &[PlanRow<Mention>],
 ) -> Result<Result<Plan, RuleFault>, AllocError>
-    ensures { IfOk result (λ plan. plan ≡ planned rule.now left.now right.now) }
+    ensures { IfOk result (λ plan. plan ≡ plan_of_spelled rule.now left.now right.now) }
 {
     let mut choices = Vec::new(alloc);
     let terms = number_rows(alloc, left, &mut choices)?;

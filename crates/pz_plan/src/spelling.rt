@@ -1,12 +1,12 @@
 //! What the names of a rule stand for: aggregates and synonyms are replaced, and what a cell says twice counts once.
-#![tactic(auto, unfolding(crate::specs::Same::same_mention, crate::specs::Same::says_the_same, crate::specs::Spelling::mentions_of, crate::specs::Spelling::denoted, crate::specs::Spelling::mentions_at, crate::specs::Spelling::cell_of, crate::specs::Spelling::is_gap, crate::specs::Spelling::gap_of, crate::specs::Spelling::row_spelled_out, crate::specs::Spelling::rows_spelled_out))]
+#![tactic(auto, unfolding(crate::specs::Same::same_mention, crate::specs::Same::says_the_same, crate::specs::Spelling::mentions_of, crate::specs::Spelling::denotation_if_any, crate::specs::Spelling::mentions_at, crate::specs::Spelling::cell_of, crate::specs::Spelling::is_gap, crate::specs::Spelling::gap_of, crate::specs::Spelling::row_spelled_out, crate::specs::Spelling::rows_spelled_out))]
 
 ghost use Rattle.std.specs.Prelude.{◌≡◌, ◌<◌, ◌≤◌, ◌||◌, ◌++◌, OnOk, IfOk, IfSome, option_copied, slice_get, length};
 ghost use Rattle.std.specs.List.{flat_map, list_any};
-ghost use Rattle.pz_base.specs.Lists.{added, added_all};
+ghost use Rattle.pz_base.specs.Lists.{with_new, added_all};
 ghost use Rattle.pz_plan.specs.Shape.{AreShort};
 ghost use Rattle.pz_plan.specs.Same.{is_class, is_some_member, same_word, same_lead, same_subject, same_mention, says_the_same};
-ghost use Rattle.pz_plan.specs.Spelling.{is_chosen, mentions_of, mentions_at, denoted, spelled_out, cell_of, is_gap, gap_of, row_spelled_out, rows_spelled_out};
+ghost use Rattle.pz_plan.specs.Spelling.{is_chosen, mentions_of, mentions_at, denotation_if_any, spelled_out, cell_of, is_gap, gap_of, row_spelled_out, rows_spelled_out};
 
 use crate::plan::{Mention, PlanRow, Subject};
 use pz_base::listed::Listed;
@@ -84,7 +84,7 @@ fn is_said(side: Side, mentions: &[Mention], mention: &Mention) -> bool
 
 /// Adds a mention, unless it repeats one that is there.
 fn add_mention(side: Side, mention: Mention, mentions: &mut Vec<Mention>) -> Result<(), AllocError>
-    ensures { OnOk result (mentions.new.items ≡ added (says_the_same side) mentions.old.items mention) }
+    ensures { OnOk result (mentions.new.items ≡ with_new (says_the_same side) mentions.old.items mention) }
 {
     if !is_said(side, mentions, &mention) {
         mentions.push(mention)?;
@@ -143,7 +143,7 @@ fn denotation_at(table: &[Denotation], number: usize) -> Option<&Denotation>
 
 /// What a name denotes, if there is such a name. Rule `legend.one-member`.
 pub fn denoted(table: &[Denotation], name: Option<usize>) -> Option<&Denotation>
-    ensures { option_copied result ≡ denoted table.now name }
+    ensures { option_copied result ≡ denotation_if_any table.now name }
 {
     match name {
         Some(number) => denotation_at(table, number),

@@ -4,7 +4,7 @@ use Rattle.std.proofs.lemmas.Bool.{cases_eq}
 use Rattle.std.proofs.lemmas.Grind.{common_steps}
 use Rattle.std.proofs.lemmas.Nat.{div_below, same_from_place}
 use Rattle.pz_sets.specs.Sets.{member}
-use Rattle.pz_planes.specs.Planes.{LineSets, PlaneSets, IsChanged, AreChanged, AreThere, HaveSameLines, AreKnown, IsFor, toggled}
+use Rattle.pz_planes.specs.Planes.{LineSets, PlaneSets, IsChanged, AreChanged, AreThere, HaveSameLines, AreKnown, IsFor, toggled_note}
 
 pub changed_on : {a b c : PlaneSets} {x y : ℕ} {f g h : ℕ → Bool → Bool} → AreChanged a b x y f → AreChanged b c x y g → ((object : ℕ) (was : Bool) → g object (f object was) ≡ h object was) → AreChanged a c x y h
 changed_on first second both = grind arith
@@ -57,5 +57,5 @@ pub number_apart : (count o q p object y x : ℕ) → q < count → y < count �
 number_apart count o q p object y x q_in y_in p_in x_in apart = grind (arith, common_steps, same_from_place (o * count + q) p (object * count + y) x 128 p_in x_in, same_from_place o q object y count q_in y_in)
 
 -- a word of an object and a line in which one position was toggled
-pub toggled_word : (old new : LineSets) (object line at : ℕ) → new.objects ≡ old.objects → new.count ≡ old.count → line < old.count → at < 128 → ((number : ℕ) → member new.words number ≡ toggled (nat_eq number ((object * old.count + line) * 128 + at)) (member old.words number)) → IsChanged old new line at (λ other was. toggled (nat_eq other object) was)
+pub toggled_word : (old new : LineSets) (object line at : ℕ) → new.objects ≡ old.objects → new.count ≡ old.count → line < old.count → at < 128 → ((number : ℕ) → member new.words number ≡ toggled_note (nat_eq number ((object * old.count + line) * 128 + at)) (member old.words number)) → IsChanged old new line at (λ other was. toggled_note (nat_eq other object) was)
 toggled_word old new object line at objects count line_in at_in is = grind (arith, is, number_here old.count, number_apart old.count)

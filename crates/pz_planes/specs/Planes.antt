@@ -67,9 +67,9 @@ IsNextDifferingLine sets other long from (Some row) =
     IsNextDifferingPosition sets other long from (Some row.found) × (row.line ≡ row.found / long) × AreDiffering sets other row.line row.places
 
 -- a note after a toggle: if it is toggled, it comes if it wasn't there and goes if it was; else it stays
-abbrev pub toggled : Bool → Bool → Bool
-toggled true was = not was
-toggled false was = was
+abbrev pub toggled_note : Bool → Bool → Bool
+toggled_note true was = not was
+toggled_note false was = was
 
 -- nothing is noted at all
 abbrev pub IsEmpty : LineSets → Type 0

@@ -4,7 +4,7 @@ ghost use Rattle.std.specs.Prelude.{◌≡◌, ℕ, ◌<◌, ◌≤◌, ◌↔�
 ghost use Rattle.pz_sets.specs.Sets.{in_word};
 ghost use Rattle.pz_sets.specs.Next.{IsNext};
 ghost use Rattle.pz_planes.specs.Line.{step_to, room_from};
-ghost use Rattle.pz_planes.specs.Planes.{toggled};
+ghost use Rattle.pz_planes.specs.Planes.{toggled_note};
 
 use crate::line::Way;
 
@@ -53,7 +53,7 @@ pub fn differing(set: u128, other: u128) -> u128
 /// The set with one position toggled: put in if it isn't there, and taken out if it is.
 pub fn toggled(set: u128, at: usize) -> u128
     requires { at < 128 }
-    ensures { (other : ℕ) → in_word result other ≡ toggled (nat_eq other at) (in_word set other) }
+    ensures { (other : ℕ) → in_word result other ≡ toggled_note (nat_eq other at) (in_word set other) }
 {
     set ^ 1u128 << at
 }

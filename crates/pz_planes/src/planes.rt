@@ -7,7 +7,7 @@ ghost use Rattle.pz_game.specs.Items.{names};
 ghost use Rattle.pz_sets.specs.Sets.{in_word, member};
 ghost use Rattle.pz_sets.specs.declared.set.TheConstants.{CAPACITY};
 ghost use Rattle.pz_planes.specs.Marks.{AreMarks};
-ghost use Rattle.pz_planes.specs.Planes.{stands_in, AreSameAt, IsMissingIn, IsEmpty, IsChanged, AreChanged, IsInside, IsKnown, AreKnown, AreThere, HaveSameLines, HasRoomOf, IsFor, AreItemsOf, MayHold, MayRun, AreDiffering, IsNextDifferingLine, lines_of, toggled};
+ghost use Rattle.pz_planes.specs.Planes.{stands_in, AreSameAt, IsMissingIn, IsEmpty, IsChanged, AreChanged, IsInside, IsKnown, AreKnown, AreThere, HaveSameLines, HasRoomOf, IsFor, AreItemsOf, MayHold, MayRun, AreDiffering, IsNextDifferingLine, lines_of, toggled_note};
 
 use crate::line::{Axis, Way};
 use crate::{bits, notes};
@@ -107,7 +107,7 @@ impl LinePlanes {
     fn toggle(&mut self, object: usize, line: usize, at: usize)
         requires object_in { object < self.old.objects }
         requires line_in { line < self.old.count }
-        ensures { IsChanged self.old self.new line at (λ other was. toggled (nat_eq other object) was) }
+        ensures { IsChanged self.old self.new line at (λ other was. toggled_note (nat_eq other object) was) }
     {
         if at < bits::ROOM as usize {
             let index = self.index(object, line);
@@ -326,7 +326,7 @@ impl Planes {
     pub fn toggle(&mut self, object: usize, x: usize, y: usize)
         requires inside { IsInside self.old x y }
         requires known { IsKnown self.old object }
-        ensures { AreChanged self.old self.new x y (λ other was. toggled (nat_eq other object) was) }
+        ensures { AreChanged self.old self.new x y (λ other was. toggled_note (nat_eq other object) was) }
     {
         self.rows.toggle(object, y, x);
         self.columns.toggle(object, x, y);
@@ -339,7 +339,7 @@ impl Planes {
         requires inside { IsInside self.old x y }
         requires known { (bit : ℕ) → bit < 128 → in_word word bit ≡ true → IsKnown self.old (index * 128 + bit) }
         ensures { AreChanged self.old self.new x y
-            (λ object was. toggled (nat_eq (object / 128) index && in_word word (object % 128)) was) }
+            (λ object was. toggled_note (nat_eq (object / 128) index && in_word word (object % 128)) was) }
     {
         let mut rest = word;
         'objects: while rest != 0 {

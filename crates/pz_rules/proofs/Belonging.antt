@@ -31,17 +31,17 @@ use Rattle.pz_plan.specs.declared.spelling.Side.TheVariants as side
 use Rattle.pz_grammar.specs.declared.token.Class.{Class}
 use Rattle.pz_grammar.specs.declared.token.Lead.{Lead}
 use Rattle.pz_plan.specs.Checks.{fault_of}
-use Rattle.pz_plan.specs.Deciding.{joined, with_lead, decided_lead, decided_name, decided_term, decided_terms, decided_cells, decided_row, decided_rows, member_choice}
+use Rattle.pz_plan.specs.Deciding.{both_or_none, with_lead, decided_lead, decided_name, decided_term, decided_terms, decided_cells, decided_row, decided_rows, member_choice}
 use Rattle.pz_instances.specs.Equal.{same_instance}
 use Rattle.pz_rules.specs.PlanInstances.{members_at, options_of, picked_object, object_of, layer_of, item_of, cell_of, row_of, rows_of, instance_of, is_possible, picks_of, possible_of, instances_of}
 use Rattle.pz_base.specs.Lists.{firsts}
 use Rattle.pz_plan.specs.Numbering as numbering
 use Rattle.pz_plan.specs.Numbering.{choices_in_rows, name_of, term_of, terms_of, cells_of, asked_by, asked_in, asked_count, asked_by_mark}
 use Rattle.pz_game.specs.Pattern.{RuleRow}
-use Rattle.pz_plan.specs.Planning.{with_right, planned, plan_of}
+use Rattle.pz_plan.specs.Planning.{with_right, plan_of_spelled, plan_of}
 use Rattle.pz_plan.specs.Same.{says_the_same}
 use Rattle.pz_plan.specs.Spelling as spelling
-use Rattle.pz_plan.specs.Spelling.{is_chosen, mentions_of, denoted, mentions_at, spelled_out, row_spelled_out, rows_spelled_out}
+use Rattle.pz_plan.specs.Spelling.{is_chosen, mentions_of, denotation_if_any, mentions_at, spelled_out, row_spelled_out, rows_spelled_out}
 use Rattle.pz_rules.specs.Turning.{class_directions}
 use Rattle.pz_plan.proofs.EachOf.{each-map, each-map_all, each-flat_map_all, each-filter, each-firsts, each-get, each-product}
 
@@ -75,8 +75,8 @@ mentions_of-fit n w d h =
     ] in
     by (is_chosen w d)
 
-denoted-fits : (n : ℕ) (table : List Denotation) (o : Option ℕ) → list_all (denotes n) table ≡ true → IfSome (denoted table o) (λ d. denotes n d ≡ true)
-unfolding denoted
+denoted-fits : (n : ℕ) (table : List Denotation) (o : Option ℕ) → list_all (denotes n) table ≡ true → IfSome (denotation_if_any table o) (λ d. denotes n d ≡ true)
+unfolding denotation_if_any
 denoted-fits n table None h = tt
 denoted-fits n table (Some k) h = each-get (denotes n) table k h
 
@@ -87,7 +87,7 @@ mentions_at-fit n table h p =
       | None ↦ λ e. refl
       | Some d ↦ λ e. mentions_of-fit n p.lead d e
     ] in
-    by (denoted table p.name) (denoted-fits n table p.name h)
+    by (denotation_if_any table p.name) (denoted-fits n table p.name h)
 
 said_cell-fits : (n : ℕ) (s : Side) (table : List Denotation) → list_all (denotes n) table ≡ true → (c : Cell) → list_all (list_all (mention_fits n)) (spelling.cell_of s table c) ≡ true
 unfolding spelling.cell_of spelled_out
@@ -144,7 +144,7 @@ left-fits n k (row ∷ rows) h =
     let a = and_parts (said_fits n row) (list_all (said_fits n) rows) h in
     and_from (list_all (list_all (term_fits n)) (cells_of k row.cells)) (list_all (row_fits n) (numbering.rows_of (k + asked_count row.cells) rows)) (cells_of-fit n k row.cells a.0) (left-fits n (k + asked_count row.cells) rows a.1)
 
-joined-fits : {X : Type 0} (p : X → Bool) (o : Option X) (q : Option (List X)) → IfSome o (λ x. p x ≡ true) → IfSome q (λ xs. list_all p xs ≡ true) → IfSome (joined o q) (λ xs. list_all p xs ≡ true)
+joined-fits : {X : Type 0} (p : X → Bool) (o : Option X) (q : Option (List X)) → IfSome o (λ x. p x ≡ true) → IfSome q (λ xs. list_all p xs ≡ true) → IfSome (both_or_none o q) (λ xs. list_all p xs ≡ true)
 joined-fits p (Some x) (Some xs) h k = and_from (p x) (list_all p xs) h k
 joined-fits p (Some x) None h k = tt
 joined-fits p None q h k = tt
@@ -212,7 +212,7 @@ with_right-fits n rule left None h k = tt
 with_right-fits n rule left (Some right) h k = and_from (list_all (row_fits n) (numbering.rows_of 0 left)) (list_all (row_fits n) right) (left-fits n 0 left h) k
 
 pub plan-fits : (n : ℕ) (table : List Denotation) (late : Bool) (rule : Rule) → list_all (denotes n) table ≡ true → PlanFits n (plan_of table late rule)
-unfolding plan_of planned
+unfolding plan_of plan_of_spelled
 plan-fits n table late rule h =
     let left = rows_spelled_out side.Left table rule.left in
     let right = rows_spelled_out side.Right table rule.right in

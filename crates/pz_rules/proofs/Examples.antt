@@ -161,5 +161,5 @@ loops = loop_sizes (program_of (game (line 26 (codes "startloop" ∷ []) ∷ lin
 
 -- each of them holds
 all_hold : pushes × turns-back × marks × moves × chooses × impossible × two-gaps × last-gap × joins-nothing × no-command × no-aggregate × no-name × ambiguous × clash × late-movement × half-a-loop × joins-a-loop × loops
-unfolding of_checks.has_more_gaps of_checks.is_long of_checks.is_large of_checks.is_unknown of_checks.is_mixed of_checks.is_moving of_checks.in_cell of_checks.in_row of_checks.in_rows of_checks.in_rule of_checks.has_loose_gap of_checks.same_shape of_checks.shapes_agree of_checks.is_other_shape of_checks.is_misshapen of_checks.fault_of of_clash.has_clash of_commands.commands_given of_counting.size_of of_counting.pair_count of_deciding.is_member of_deciding.is_direction of_deciding.is_direction_on of_deciding.is_here of_deciding.the_only of_deciding.member_choice of_deciding.direction_choice of_deciding.decided_lead of_deciding.decided_name of_deciding.decided_term of_deciding.decided_terms of_deciding.decided_cells of_deciding.decided_row of_deciding.decided_rows of_drafts.placed of_drafts.settled of_drafts.opened of_drafts.closed of_drafts.is_misplaced of_drafts.lateness of_drafts.joins of_drafts.before of_drafts.extended of_drafts.rule_added of_drafts.loop_added of_drafts.line_added of_drafts.finished of_drafts.program_from of_drafts.nothing of_drafts.program_of of_equal.same_item of_equal.has_item of_equal.within_cell of_equal.same_cell of_equal.same_row of_equal.same_instance of_expansion.unless_clash of_expansion.expansion_within of_expansion.expanded of_instances.options_of of_instances.item_of of_instances.cell_of of_instances.row_of of_instances.rows_of of_instances.scan_of of_instances.instance_of of_exclusion.excludes of_exclusion.excludes_some of_exclusion.is_impossible of_exclusion.has_impossible of_instances.is_possible of_instances.picks_of of_instances.possible_of of_instances.instances_of of_instances.kept_after of_loop.loop_word of_loop.next_loop of_numbering.asked_by of_numbering.choices_at of_numbering.choices_in_row of_numbering.choices_in_rows of_numbering.term_of of_numbering.terms_of of_numbering.asked_in of_numbering.asked_count of_numbering.cells_of of_numbering.rows_of of_parsed.commands_of of_parsed.prefixes_of of_parsed.after_prefixes of_parsed.parsed of_parsed.inside of_planning.with_right of_planning.planned of_planning.plan_of of_prefix.is_late_rule of_prefix.mentioned_directions of_prefix.directions_of of_same.same_mention of_same.says_the_same of_sides.side_added of_spelling.mentions_of of_spelling.denoted of_spelling.mentions_at of_spelling.spelled_out of_spelling.cell_of of_spelling.is_gap of_spelling.gap_of of_spelling.row_spelled_out of_spelling.rows_spelled_out of_words.lead_of of_words.command_of_word of_words.mark_of of_words.rule_word of_words.token_of of_words.tokens_from of_words.tokens_of
+unfolding of_checks.has_more_gaps of_checks.is_long of_checks.is_large of_checks.is_unknown of_checks.is_mixed of_checks.is_moving of_checks.in_cell of_checks.in_row of_checks.in_rows of_checks.in_rule of_checks.has_loose_gap of_checks.same_shape of_checks.shapes_agree of_checks.is_other_shape of_checks.is_misshapen of_checks.fault_of of_clash.has_clash of_commands.commands_given of_counting.size_of of_counting.pair_count of_deciding.is_member of_deciding.is_direction of_deciding.is_direction_on of_deciding.is_here of_deciding.the_only of_deciding.member_choice of_deciding.direction_choice of_deciding.decided_lead of_deciding.decided_name of_deciding.decided_term of_deciding.decided_terms of_deciding.decided_cells of_deciding.decided_row of_deciding.decided_rows of_drafts.draft_with_group of_drafts.with_group_settled of_drafts.with_loop_opened of_drafts.with_loop_closed of_drafts.is_misplaced of_drafts.lateness of_drafts.joins of_drafts.before of_drafts.draft_with_rule of_drafts.rule_added of_drafts.loop_added of_drafts.line_added of_drafts.program_of_draft of_drafts.program_from of_drafts.nothing of_drafts.program_of of_equal.same_item of_equal.has_item of_equal.within_cell of_equal.same_cell of_equal.same_row of_equal.same_instance of_expansion.unless_clash of_expansion.expansion_within of_expansion.expansion_of_rule of_instances.options_of of_instances.item_of of_instances.cell_of of_instances.row_of of_instances.rows_of of_instances.scan_of of_instances.instance_of of_exclusion.excludes of_exclusion.excludes_some of_exclusion.is_impossible of_exclusion.has_impossible of_instances.is_possible of_instances.picks_of of_instances.possible_of of_instances.instances_of of_instances.kept_after of_loop.loop_word of_loop.next_loop of_numbering.asked_by of_numbering.choices_at of_numbering.choices_in_row of_numbering.choices_in_rows of_numbering.term_of of_numbering.terms_of of_numbering.asked_in of_numbering.asked_count of_numbering.cells_of of_numbering.rows_of of_parsed.commands_of of_parsed.prefixes_of of_parsed.after_prefixes of_parsed.rule_of_tokens of_parsed.inside of_planning.with_right of_planning.plan_of_spelled of_planning.plan_of of_prefix.is_late_rule of_prefix.mentioned_directions of_prefix.directions_of of_same.same_mention of_same.says_the_same of_sides.side_added of_spelling.mentions_of of_spelling.denotation_if_any of_spelling.mentions_at of_spelling.spelled_out of_spelling.cell_of of_spelling.is_gap of_spelling.gap_of of_spelling.row_spelled_out of_spelling.rows_spelled_out of_words.lead_of of_words.command_of_word of_words.mark_of of_words.rule_word of_words.token_of of_words.tokens_from of_words.tokens_of
 all_hold = (refl, refl, refl, refl, refl, refl, refl, refl, refl, refl, refl, refl, refl, refl, refl, refl, refl, refl)

@@ -30,12 +30,12 @@ use Rattle.pz_grammar.specs.declared.rule.Rule.{Rule}
 use Rattle.pz_rules.specs.declared.sides.Sides.{Sides}
 use Rattle.pz_instances.specs.Clash.{has_clash}
 use Rattle.pz_rules.specs.Counting.{pair_count}
-use Rattle.pz_rules.specs.Drafts.{placed, settled, opened, loop_of, with_loop, closed, is_misplaced, lateness, joins, before, extended, extended_by, rule_added, parsed_added, loop_added, line_added, going_on, finished, program_from, nothing, program_of}
-use Rattle.pz_rules.specs.Expansion.{unless_clash, expansion_within, expanded_plan, expanded}
+use Rattle.pz_rules.specs.Drafts.{draft_with_group, with_group_settled, with_loop_opened, loop_of, with_loop, with_loop_closed, is_misplaced, lateness, joins, before, draft_with_rule, extended_by, rule_added, parsed_added, loop_added, line_added, going_on, program_of_draft, program_from, nothing, program_of}
+use Rattle.pz_rules.specs.Expansion.{unless_clash, expansion_within, expanded_plan, expansion_of_rule}
 use Rattle.pz_program.specs.Instance.{IsInstanceOf, IsGroupOf, IsBlockOf, IsProgramOf}
 use Rattle.pz_rules.specs.PlanInstances.{layer_of, instances_of}
 use Rattle.pz_grammar.specs.Loop.{loop_word, next_loop, is_end}
-use Rattle.pz_grammar.specs.Parsed.{parsed}
+use Rattle.pz_grammar.specs.Parsed.{rule_of_tokens}
 use Rattle.pz_game.specs.Pattern.{RuleRow, IsOf, AreOf, IsRowOf, AreRowsOf}
 use Rattle.pz_plan.specs.Planning.{plan_of}
 use Rattle.pz_rules.specs.Sides.{side_added}
@@ -91,8 +91,8 @@ expanded_plan-is_of : (layers : List ℕ) (table : List Denotation) (below pairs
 expanded_plan-is_of layers table below pairs (Ok plan) has fits = within-is_of layers table below (pairs + pair_count table plan) plan has fits
 expanded_plan-is_of layers table below pairs (Err fault) has fits = tt
 
-expanded-is_of : (layers : List ℕ) (table : List Denotation) (below pairs : ℕ) (late : Bool) (rule : Rule) → HasTable layers table → ExpansionIsOf layers (expanded table layers below pairs late rule)
-unfolding expanded
+expanded-is_of : (layers : List ℕ) (table : List Denotation) (below pairs : ℕ) (late : Bool) (rule : Rule) → HasTable layers table → ExpansionIsOf layers (expansion_of_rule table layers below pairs late rule)
+unfolding expansion_of_rule
 expanded-is_of layers table below pairs late rule has = expanded_plan-is_of layers table below pairs (plan_of table late rule) has (plan-fits (length layers) table late rule has.entries)
 
 -- a draft
@@ -117,20 +117,20 @@ placed_in-is_of : (layers : List ℕ) (d : Draft) (g : OpenGroup) (o : Option (S
 placed_in-is_of layers d g None h k r = record { done = side_added-passes (block_is_of layers) d.done g.is_late (One g.instances) h.done k; repeated = tt; group = tt }
 placed_in-is_of layers d g (Some groups) h k r = record { done = h.done; repeated = side_added-passes (group_is_of layers) groups g.is_late g.instances r k; group = tt }
 
-placed-is_of : (layers : List ℕ) (d : Draft) (g : OpenGroup) → IsDraftOf layers d → group_is_of layers g.instances ≡ true → IsDraftOf layers (placed d g)
-unfolding placed
+placed-is_of : (layers : List ℕ) (d : Draft) (g : OpenGroup) → IsDraftOf layers d → group_is_of layers g.instances ≡ true → IsDraftOf layers (draft_with_group d g)
+unfolding draft_with_group
 placed-is_of layers d g h k = placed_in-is_of layers d g d.repeated h k h.repeated
 
-settled_in-is_of : (layers : List ℕ) (d : Draft) (o : Option OpenGroup) → IsDraftOf layers d → IfSome o (λ g. group_is_of layers g.instances ≡ true) → IsDraftOf layers (elim o [ None ↦ d | Some group ↦ placed d group ])
+settled_in-is_of : (layers : List ℕ) (d : Draft) (o : Option OpenGroup) → IsDraftOf layers d → IfSome o (λ g. group_is_of layers g.instances ≡ true) → IsDraftOf layers (elim o [ None ↦ d | Some group ↦ draft_with_group d group ])
 settled_in-is_of layers d None h k = h
 settled_in-is_of layers d (Some g) h k = placed-is_of layers d g h k
 
-settled-is_of : (layers : List ℕ) (d : Draft) → IsDraftOf layers d → IsDraftOf layers (settled d)
-unfolding settled
+settled-is_of : (layers : List ℕ) (d : Draft) → IsDraftOf layers d → IsDraftOf layers (with_group_settled d)
+unfolding with_group_settled
 settled-is_of layers d h = settled_in-is_of layers d d.group h h.group
 
-opened-is_of : (layers : List ℕ) (d : Draft) → IsDraftOf layers d → IsDraftOf layers (opened d)
-unfolding opened
+opened-is_of : (layers : List ℕ) (d : Draft) → IsDraftOf layers d → IsDraftOf layers (with_loop_opened d)
+unfolding with_loop_opened
 opened-is_of layers d h = record { done = (settled-is_of layers d h).done; repeated = refl; group = tt }
 
 loop_of-is_of : (layers : List ℕ) (groups : List (List Instance)) → list_all (group_is_of layers) groups ≡ true → list_all (block_is_of layers) (loop_of groups) ≡ true
@@ -150,14 +150,14 @@ closed_in-is_of : (layers : List ℕ) (d : Draft) (o : Option (Sides (List Insta
 closed_in-is_of layers d None h k = h
 closed_in-is_of layers d (Some groups) h k = record { done = with_loop-is_of layers d.done groups h.done k; repeated = tt; group = tt }
 
-closed-is_of : (layers : List ℕ) (d : Draft) → IsDraftOf layers d → IsDraftOf layers (closed d)
-unfolding closed
-closed-is_of layers d h = let e = settled-is_of layers d h in closed_in-is_of layers (settled d) (settled d).repeated e e.repeated
+closed-is_of : (layers : List ℕ) (d : Draft) → IsDraftOf layers d → IsDraftOf layers (with_loop_closed d)
+unfolding with_loop_closed
+closed-is_of layers d h = let e = settled-is_of layers d h in closed_in-is_of layers (with_group_settled d) (with_group_settled d).repeated e e.repeated
 
 before-is_of : (layers : List ℕ) (d : Draft) (rule : Rule) → IsDraftOf layers d → IsDraftOf layers (before d rule)
 unfolding before
 before-is_of layers d rule h =
-    let by : (b : Bool) → IsDraftOf layers (if b then d else settled d) = λ b. elim b as (λ b. IsDraftOf layers (if b then d else settled d)) [ true ↦ h | false ↦ settled-is_of layers d h ] in
+    let by : (b : Bool) → IsDraftOf layers (if b then d else with_group_settled d) = λ b. elim b as (λ b. IsDraftOf layers (if b then d else with_group_settled d)) [ true ↦ h | false ↦ settled-is_of layers d h ] in
     by rule.is_joined
 
 joins-is_of : (layers : List ℕ) (d : Draft) (rule : Rule) → IsDraftOf layers d → group_is_of layers (joins d rule) ≡ true
@@ -169,8 +169,8 @@ joins-is_of layers d rule h =
     λ b. elim b as (λ b. group_is_of layers (if b then elim d.group [ None ↦ [] | Some group ↦ group.instances ] else []) ≡ true) [ true ↦ found d.group h.group | false ↦ refl ] in
     by rule.is_joined
 
-extended-is_of : (layers : List ℕ) (d : Draft) (rule : Rule) (more : Expansion) → IsDraftOf layers d → group_is_of layers more.instances ≡ true → IsDraftOf layers (extended d rule more)
-unfolding extended
+extended-is_of : (layers : List ℕ) (d : Draft) (rule : Rule) (more : Expansion) → IsDraftOf layers d → group_is_of layers more.instances ≡ true → IsDraftOf layers (draft_with_rule d rule more)
+unfolding draft_with_rule
 extended-is_of layers d rule more h k =
     let e = before-is_of layers d rule h in
     record { done = e.done; repeated = e.repeated; group = each-append (instance_is_of layers) (joins d rule) more.instances (joins-is_of layers d rule h) k }
@@ -186,10 +186,10 @@ extended_by-is_of layers d rule (Err fault) h k = tt
 rule_added-is_of : (game : GameParts) (d : Draft) (below : ℕ) (rule : Rule) → HasTable game.layers game.values → IsDraftOf game.layers d → DraftsOf game.layers (rule_added game d below rule)
 unfolding rule_added
 rule_added-is_of game d below rule has h =
-    let more = extended_by d rule (expanded game.values game.layers below d.pairs (lateness d rule) rule) in
+    let more = extended_by d rule (expansion_of_rule game.values game.layers below d.pairs (lateness d rule) rule) in
     let by : (b : Bool) → DraftsOf game.layers (if b then Err fault.BadRule else more) = λ b. elim b as (λ b. DraftsOf game.layers (if b then Err fault.BadRule else more)) [
       | true ↦ tt
-      | false ↦ extended_by-is_of game.layers d rule (expanded game.values game.layers below d.pairs (lateness d rule) rule) h (expanded-is_of game.layers game.values below d.pairs (lateness d rule) rule has)
+      | false ↦ extended_by-is_of game.layers d rule (expansion_of_rule game.values game.layers below d.pairs (lateness d rule) rule) h (expanded-is_of game.layers game.values below d.pairs (lateness d rule) rule has)
     ] in
     by (is_misplaced d rule)
 
@@ -203,15 +203,15 @@ unless-is_of layers false d h = tt
 
 loop_added-is_of : (layers : List ℕ) (d : Draft) (lines : List RuleLine) (w : LoopWord) → IsDraftOf layers d → DraftsOf layers (loop_added d lines w)
 unfolding loop_added
-loop_added-is_of layers d lines loop_words.Start h = unless-is_of layers (is_end (next_loop lines)) (opened d) (opened-is_of layers d h)
-loop_added-is_of layers d lines loop_words.End h = unless-is_of layers _ (closed d) (closed-is_of layers d h)
+loop_added-is_of layers d lines loop_words.Start h = unless-is_of layers (is_end (next_loop lines)) (with_loop_opened d) (opened-is_of layers d h)
+loop_added-is_of layers d lines loop_words.End h = unless-is_of layers _ (with_loop_closed d) (closed-is_of layers d h)
 
 line_added-is_of : (game : GameParts) (d : Draft) (lines : List RuleLine) (words : List (List ℕ)) → HasTable game.layers game.values → IsDraftOf game.layers d → DraftsOf game.layers (line_added game d lines words)
 unfolding line_added
 line_added-is_of game d lines words has h =
-    let rule = parsed_added game d (length lines) (parsed (tokens_of game.names words)) in
+    let rule = parsed_added game d (length lines) (rule_of_tokens (tokens_of game.names words)) in
     let by : (o : Option LoopWord) → DraftsOf game.layers (elim o [ None ↦ rule | Some word ↦ loop_added d lines word ]) = λ o. elim o as (λ o. DraftsOf game.layers (elim o [ None ↦ rule | Some word ↦ loop_added d lines word ])) [
-      | None ↦ parsed_added-is_of game d (length lines) (parsed (tokens_of game.names words)) has h
+      | None ↦ parsed_added-is_of game d (length lines) (rule_of_tokens (tokens_of game.names words)) has h
       | Some word ↦ loop_added-is_of game.layers d lines word h
     ] in
     by (loop_word words)
@@ -227,10 +227,10 @@ going_on-is_of layers n later (Ok d) all h = all d h
 going_on-is_of layers n later (Err fault) all h = tt
 
 program_from-is_of : (game : GameParts) (d : Draft) (lines : List RuleLine) → HasTable game.layers game.values → IsDraftOf game.layers d → ProgramsOf game.layers (program_from game d lines)
-unfolding program_from finished
+unfolding program_from program_of_draft
 program_from-is_of game d [] has h =
     let e = settled-is_of game.layers d h in
-    and_parts (list_all (block_is_of game.layers) (settled d).done.early) (list_all (block_is_of game.layers) (settled d).done.late) e.done
+    and_parts (list_all (block_is_of game.layers) (with_group_settled d).done.early) (list_all (block_is_of game.layers) (with_group_settled d).done.late) e.done
 program_from-is_of game d (line ∷ lines) has h =
     going_on-is_of game.layers line.number (λ d. program_from game d lines) (line_added game d lines line.words)
     (λ e k. program_from-is_of game e lines has k)

@@ -29,5 +29,5 @@ expanded_plan table layers below pairs (Err fault) = Err fault
 expanded_plan table layers below pairs (Ok plan) = expansion_within table layers below (pairs + pair_count table plan) plan
 
 -- the instances of a rule, late or not; so many lines of RULES stand below it, and the rules above it have so many pairs
-unfoldable pub expanded : List Denotation → List ℕ → ℕ → ℕ → Bool → Rule → Result Expansion RuleFault
-expanded table layers below pairs is_late rule = expanded_plan table layers below pairs (plan_of table is_late rule)
+unfoldable pub expansion_of_rule : List Denotation → List ℕ → ℕ → ℕ → Bool → Rule → Result Expansion RuleFault
+expansion_of_rule table layers below pairs is_late rule = expanded_plan table layers below pairs (plan_of table is_late rule)

@@ -23,9 +23,9 @@ use Rattle.pz_plan.specs.declared.plan.TermName.{TermName}
 use Rattle.pz_plan.specs.declared.plan.TermName.TheVariants as name
 use Rattle.pz_instances.specs.Equal.{same_instance}
 use Rattle.pz_instances.specs.Exclusion.{has_impossible}
-use Rattle.pz_base.specs.Lists.{product, firsts, added}
+use Rattle.pz_base.specs.Lists.{product, firsts, with_new}
 use Rattle.pz_game.specs.Pattern.{RuleRow}
-use Rattle.pz_rules.specs.Turning.{turned, class_directions}
+use Rattle.pz_rules.specs.Turning.{turned_direction, class_directions}
 
 -- the members of the name of this number
 abbrev pub members_at : List Denotation → ℕ → List ℕ
@@ -57,7 +57,7 @@ meaning_of direction picks None = Present
 meaning_of direction picks (Some lead.No) = Absent
 meaning_of direction picks (Some lead.Stationary) = Still
 meaning_of direction picks (Some (lead.Toward toward)) = Toward toward
-meaning_of direction picks (Some (lead.Turned turn)) = Toward (turned direction turn)
+meaning_of direction picks (Some (lead.Turned turn)) = Toward (turned_direction direction turn)
 meaning_of direction picks (Some (lead.OneOf k)) = picked_word (slice_get picks k)
 
 abbrev pub layer_of : List ℕ → ℕ → ℕ
@@ -115,4 +115,4 @@ instances_of table layers below plan = firsts same_instance (flat_map (possible_
 unfoldable pub kept_after : List ℕ → ℕ → Plan → Dir → List Instance → List Pick → List Instance
 kept_after layers below plan direction kept picks =
     let instance = instance_of layers below plan direction picks in
-    if is_possible instance then added same_instance kept instance else kept
+    if is_possible instance then with_new same_instance kept instance else kept

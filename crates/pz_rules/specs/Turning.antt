@@ -8,24 +8,24 @@ use Rattle.pz_grammar.specs.declared.token.Class.{Class}
 use Rattle.pz_grammar.specs.declared.token.Class.TheVariants as class
 
 -- rules.turning: the direction that `^`, `v`, `<` or `>` means in a rule of this direction
-abbrev pub turned : Dir → Turn → Dir
-turned Right turn.Up = Up
-turned Right turn.Down = Down
-turned Right turn.Back = Left
-turned Right turn.Ahead = Right
-turned Up turn.Up = Left
-turned Up turn.Down = Right
-turned Up turn.Back = Down
-turned Up turn.Ahead = Up
-turned Down turn.Up = Right
-turned Down turn.Down = Left
-turned Down turn.Back = Up
-turned Down turn.Ahead = Down
-turned Left turn.Up = Down
-turned Left turn.Down = Up
-turned Left turn.Back = Right
-turned Left turn.Ahead = Left
-turned Action t = Action
+abbrev pub turned_direction : Dir → Turn → Dir
+turned_direction Right turn.Up = Up
+turned_direction Right turn.Down = Down
+turned_direction Right turn.Back = Left
+turned_direction Right turn.Ahead = Right
+turned_direction Up turn.Up = Left
+turned_direction Up turn.Down = Right
+turned_direction Up turn.Back = Down
+turned_direction Up turn.Ahead = Up
+turned_direction Down turn.Up = Right
+turned_direction Down turn.Down = Left
+turned_direction Down turn.Back = Up
+turned_direction Down turn.Ahead = Down
+turned_direction Left turn.Up = Down
+turned_direction Left turn.Down = Up
+turned_direction Left turn.Back = Right
+turned_direction Left turn.Ahead = Left
+turned_direction Action t = Action
 
 abbrev pub sideways : List Dir
 sideways = Left ∷ Right ∷ []

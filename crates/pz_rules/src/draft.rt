@@ -1,10 +1,10 @@
 //! A program while its lines are read.
-#![tactic(auto, unfolding(crate::specs::Drafts::placed, crate::specs::Drafts::settled, crate::specs::Drafts::opened, crate::specs::Drafts::closed, crate::specs::Drafts::is_misplaced, crate::specs::Drafts::lateness, crate::specs::Drafts::before, crate::specs::Drafts::extended, crate::specs::Drafts::joins, crate::specs::Drafts::rule_added, crate::specs::Drafts::loop_added, crate::specs::Drafts::line_added))]
+#![tactic(auto, unfolding(crate::specs::Drafts::draft_with_group, crate::specs::Drafts::with_group_settled, crate::specs::Drafts::with_loop_opened, crate::specs::Drafts::with_loop_closed, crate::specs::Drafts::is_misplaced, crate::specs::Drafts::lateness, crate::specs::Drafts::before, crate::specs::Drafts::draft_with_rule, crate::specs::Drafts::joins, crate::specs::Drafts::rule_added, crate::specs::Drafts::loop_added, crate::specs::Drafts::line_added))]
 
 ghost use Rattle.std.specs.Prelude.{◌≡◌, ◌++◌, true, None, IfOk, IfSome, OnOk, if◌then◌else◌};
 ghost use Rattle.std.specs.Result.{result_map_both};
-ghost use Rattle.pz_rules.specs.Drafts.{placed, settled, opened, loop_of, with_loop, closed, is_misplaced, lateness, with_instances, before, extended, rule_added, loop_added, line_added};
-ghost use Rattle.pz_grammar.specs.Parsed.{parsed};
+ghost use Rattle.pz_rules.specs.Drafts.{draft_with_group, with_group_settled, with_loop_opened, loop_of, with_loop, with_loop_closed, is_misplaced, lateness, with_instances, before, draft_with_rule, rule_added, loop_added, line_added};
+ghost use Rattle.pz_grammar.specs.Parsed.{rule_of_tokens};
 ghost use Rattle.pz_grammar.specs.Words.{tokens_of};
 ghost use Rattle.pz_grammar.specs.Written.{is_whole};
 
@@ -71,7 +71,7 @@ impl Draft {
 /// Cuts a group into segments, and puts it in its place: into the open loop, or else as a block of its own.
 fn place(draft: &mut Draft, group: OpenGroup) -> Result<(), AllocError>
     requires { draft.now.group ≡ None }
-    ensures { OnOk result (draft.new ≡ placed draft.old group) }
+    ensures { OnOk result (draft.new ≡ draft_with_group draft.old group) }
 {
     let OpenGroup { is_late, instances } = group;
     let group = Group::new(instances)?;
@@ -83,7 +83,7 @@ fn place(draft: &mut Draft, group: OpenGroup) -> Result<(), AllocError>
 
 /// Puts the last group in its place, so that no rule can join it any more. Rule `rules.loop-places`.
 fn settle(draft: &mut Draft) -> Result<(), AllocError>
-    ensures draft { OnOk result (draft.new ≡ settled draft.old) }
+    ensures draft { OnOk result (draft.new ≡ with_group_settled draft.old) }
     ensures group { OnOk result (draft.new.group ≡ None) }
 {
     match draft.group.take() {
@@ -94,7 +94,7 @@ fn settle(draft: &mut Draft) -> Result<(), AllocError>
 
 /// The draft once no rule can join the last group any more.
 pub fn settled(mut draft: Draft) -> Result<Draft, AllocError>
-    ensures draft { IfOk result (λ out. out ≡ settled draft) }
+    ensures draft { IfOk result (λ out. out ≡ with_group_settled draft) }
     ensures group { IfOk result (λ out. out.group ≡ None) }
 {
     settle(&mut draft)?;
@@ -103,7 +103,7 @@ pub fn settled(mut draft: Draft) -> Result<Draft, AllocError>
 
 /// Begins a loop.
 fn open(alloc: Global, draft: &mut Draft) -> Result<(), AllocError>
-    ensures { OnOk result (draft.new ≡ opened draft.old) }
+    ensures { OnOk result (draft.new ≡ with_loop_opened draft.old) }
 {
     settle(draft)?;
     draft.repeated = Some(no_sides(alloc));
@@ -132,7 +132,7 @@ fn add_loop(done: &mut Sides<Block>, groups: Sides<Group>) -> Result<(), AllocEr
 
 /// Ends the open loop.
 fn close(draft: &mut Draft) -> Result<(), AllocError>
-    ensures { OnOk result (draft.new ≡ closed draft.old) }
+    ensures { OnOk result (draft.new ≡ with_loop_closed draft.old) }
 {
     settle(draft)?;
     match draft.repeated.take() {
@@ -196,7 +196,7 @@ fn settle_before(draft: &mut Draft, rule: &Rule) -> Result<(), AllocError>
 
 /// Adds the instances of a rule.
 fn extend(draft: &mut Draft, rule: &Rule, more: Expansion) -> Result<(), AllocError>
-    ensures { OnOk result (draft.new ≡ extended draft.old rule.now more) }
+    ensures { OnOk result (draft.new ≡ draft_with_rule draft.old rule.now more) }
 {
     let Expansion { instances, pairs } = more;
     settle_before(draft, rule)?;
@@ -257,7 +257,7 @@ fn add_loop_line(
 
 /// The rule that the words of a line are, if they are one.
 fn rule_of(alloc: Global, game: &Game, words: &[Name]) -> Result<Option<Rule>, AllocError>
-    ensures rule { IfOk result (λ rule. rule ≡ parsed (tokens_of game.now.names words.now)) }
+    ensures rule { IfOk result (λ rule. rule ≡ rule_of_tokens (tokens_of game.now.names words.now)) }
     ensures whole { IfOk result (λ rule. IfSome rule (λ rule. is_whole rule ≡ true)) }
 {
     let tokens = tokens_of(alloc, game, words)?;

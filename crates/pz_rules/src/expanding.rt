@@ -1,9 +1,9 @@
 //! The program of a game.
-#![tactic(auto, unfolding(crate::specs::Drafts::nothing, crate::specs::Drafts::finished, crate::specs::Drafts::program_of, crate::specs::Drafts::program_from))]
+#![tactic(auto, unfolding(crate::specs::Drafts::nothing, crate::specs::Drafts::program_of_draft, crate::specs::Drafts::program_of, crate::specs::Drafts::program_from))]
 
 ghost use Rattle.std.specs.Prelude.{◌≡◌, ◌≢◌, Ok, Err, IfOk, IfErr, map, Contains};
 ghost use Rattle.pz_base.specs.declared.fault.Code.TheVariants.{Memory};
-ghost use Rattle.pz_rules.specs.Drafts.{nothing, finished, program_of};
+ghost use Rattle.pz_rules.specs.Drafts.{nothing, program_of_draft, program_of};
 ghost use Rattle.pz_plan.specs.Fault.{code_of};
 ghost use Rattle.pz_program.specs.Instance.{IsProgramOf};
 
@@ -40,7 +40,7 @@ fn nothing(alloc: Global) -> Draft
 
 /// The program of a draft after the last line.
 fn finished(draft: Draft) -> Result<Program, AllocError>
-    ensures { IfOk result (λ program. program ≡ finished draft) }
+    ensures { IfOk result (λ program. program ≡ program_of_draft draft) }
 {
     let Sides { early, late } = settled(draft)?.into_done();
     Ok(Program {

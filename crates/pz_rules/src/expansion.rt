@@ -1,10 +1,10 @@
 //! The instances of a rule, or its first fault.
-#![tactic(auto, unfolding(crate::specs::Expansion::unless_clash, crate::specs::Expansion::expansion_within, crate::specs::Expansion::expanded))]
+#![tactic(auto, unfolding(crate::specs::Expansion::unless_clash, crate::specs::Expansion::expansion_within, crate::specs::Expansion::expansion_of_rule))]
 
 ghost use Rattle.std.specs.Prelude.{◌≡◌, ◌≤◌, ◌+◌, true, IfOk};
 ghost use Rattle.std.specs.Option.{SomeIff};
 ghost use Rattle.pz_rules.specs.Counting.{pair_count};
-ghost use Rattle.pz_rules.specs.Expansion.{unless_clash, expansion_within, expanded};
+ghost use Rattle.pz_rules.specs.Expansion.{unless_clash, expansion_within, expansion_of_rule};
 ghost use Rattle.pz_plan.specs.Shape.{AreShaped};
 ghost use Rattle.pz_grammar.specs.Written.{is_whole};
 
@@ -90,7 +90,7 @@ pub fn expanded(
     rule: &Rule,
 ) -> Result<Result<Expansion, RuleFault>, AllocError>
     requires whole { is_whole rule.now ≡ true }
-    ensures { IfOk result (λ more. more ≡ expanded table.now layers.now below pairs is_late rule.now) }
+    ensures { IfOk result (λ more. more ≡ expansion_of_rule table.now layers.now below pairs is_late rule.now) }
 {
     let plan = or_fault!(plan_of(patterns.alloc(), table, is_late, rule)?);
     expansion_within(patterns, table, layers, below, pairs, &plan)

@@ -2,7 +2,7 @@
 
 ghost use Rattle.std.specs.Prelude.{◌≡◌, [], IfOk, OnOk};
 ghost use Rattle.pz_instances.specs.Equal.{same_instance};
-ghost use Rattle.pz_base.specs.Lists.{added};
+ghost use Rattle.pz_base.specs.Lists.{with_new};
 
 use indexmap::IndexSet;
 use pz_instances::equal::same_instance;
@@ -106,7 +106,7 @@ impl Kept {
 
     /// Adds an instance, unless an equal one is already there.
     pub fn add(&mut self, instance: Instance) -> Result<(), AllocError>
-        ensures { OnOk result (self.new ≡ added same_instance self.old instance) }
+        ensures { OnOk result (self.new ≡ with_new same_instance self.old instance) }
     {
         self.forms.insert(Form { instance })?;
         Ok(())

@@ -1,14 +1,14 @@
 //! The directions that the words of a rule mean in one of its directions.
 
 ghost use Rattle.std.specs.Prelude.{◌≡◌};
-ghost use Rattle.pz_rules.specs.Turning.{turned, along, across, class_directions};
+ghost use Rattle.pz_rules.specs.Turning.{turned_direction, along, across, class_directions};
 
 use pz_game::direction::Dir;
 use pz_grammar::token::{Class, Turn};
 
 /// The direction that a turning word means in a rule of this direction. Rule `rules.turning`.
 pub fn turned(direction: Dir, turn: Turn) -> Dir
-    ensures { result ≡ turned direction turn }
+    ensures { result ≡ turned_direction direction turn }
 {
     match (direction, turn) {
         (Dir::Right, Turn::Up)

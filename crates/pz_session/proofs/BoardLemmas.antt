@@ -1,15 +1,15 @@
 -- All levels of a session are its game's, and a step that is cancelled leaves the level.
-use Rattle.pz_session.proofs.Common.{arith, ◌≡◌, ℕ, List, ◌∷◌, Option, Some, None, true, false, not, Result, Ok, Err, All, drop, refl, sym, subst, IfOk, GameParts, Commands, Program, has, cancel, Grid, IsOfGame, Outcome, given_input, must_cancel, with_cancel, ended, step_ended, step_of, rules_run, FrameKind, Stop, Link, GivesLink, is_idle, State, at_level, restart_link, effect, keeping, press_link, tick_link, All-head, All-tail, same_grid, Shown, PlayFault}
+use Rattle.pz_session.proofs.Common.{arith, ◌≡◌, ℕ, List, ◌∷◌, Option, Some, None, true, false, not, Result, Ok, Err, All, drop, refl, sym, subst, IfOk, GameParts, Commands, Program, has, cancel, Grid, IsOfGame, Outcome, given_input, must_cancel, with_cancel, end_of_step, step_ended, step_of, rules_run, FrameKind, Stop, Link, GivesLink, is_idle, State, at_level, restart_link, effect, keeping, press_link, tick_link, All-head, All-tail, same_grid, Shown, PlayFault}
 use Rattle.pz_game.specs.declared.direction.Dir.{Dir}
 use Rattle.pz_game.specs.Game.{players_of}
-use Rattle.pz_bare.specs.Loading.{loaded}
+use Rattle.pz_bare.specs.Loading.{level_of_entry}
 use Rattle.pz_grid.proofs.SameLemmas.{same_grid_is, same_grid_self}
 use Rattle.pz_turn.specs.declared.outcome.StepFault.{StepFault}
 use Rattle.pz_turn.specs.declared.stepping.StepEnd.{StepEnd}
 use Rattle.pz_case.specs.declared.item.FrameKind.TheVariants.{Move, Tick}
 
 -- a level that is loaded
-pub loaded_of_game : (game : GameParts) (index : ℕ) (grid : Grid) → grid ≡ loaded game index → IsOfGame game grid
+pub loaded_of_game : (game : GameParts) (index : ℕ) (grid : Grid) → grid ≡ level_of_entry game index → IsOfGame game grid
 loaded_of_game game index grid e = rw e (record { layers = refl; depth = refl })
 
 -- what holds of the past holds of the newest of it and of the rest
@@ -30,7 +30,7 @@ stays_cancelled game program grid input (Ok end) e = stays game program grid inp
 stays_cancelled game program grid input (Err fault) e = tt
 
 -- ---- whether a step changed the level
-ended_changed : (before after : Grid) (commands : Commands) → same_grid before (ended before after commands).level ≡ not (ended before after commands).changed
+ended_changed : (before after : Grid) (commands : Commands) → same_grid before (end_of_step before after commands).level ≡ not (end_of_step before after commands).changed
 ended_changed before after commands = grind (arith, same_grid_is before after, same_grid_is after before, same_grid_self before, same_grid_self after)
 
 pub tells : (game : GameParts) (program : Program) (grid : Grid) (input : Option Dir) (end : Outcome Grid) → step_of game program grid input ≡ Ok end → same_grid grid end.level ≡ not end.changed
@@ -40,7 +40,7 @@ tells game program grid input end = by_run (rules_run program (given_input (play
   by_run (Err fault) e = cc
   by_run (Ok gone) e =
       let commands = with_cancel (must_cancel game input grid gone.level) gone.commands in
-      let same : ended grid gone.level commands ≡ end = cc in
+      let same : end_of_step grid gone.level commands ≡ end = cc in
       rw (← same) (ended_changed grid gone.level commands)
 
 -- the effect of a step on the level that it began with is that on the one where it ends

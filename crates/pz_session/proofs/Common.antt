@@ -48,5 +48,5 @@ pub use Rattle.pz_sheet.specs.Grid.{Grid, IsOfGame, LevelState}
 pub use Rattle.pz_sheet.specs.Sameness.{same_grid}
 pub use Rattle.pz_turn.specs.Outcome.{Outcome}
 unfoldable pub use Rattle.pz_turn.specs.Step.{block_runs, blocks_run, rules_run, step_of}
-pub use Rattle.pz_turn.specs.Step.{ended, given_input, must_cancel, step_ended, with_cancel}
+pub use Rattle.pz_turn.specs.Step.{end_of_step, given_input, must_cancel, step_ended, with_cancel}
 unfoldable pub use Rattle.pz_turn.specs.Win.{has_won}

@@ -5,8 +5,8 @@ use Rattle.pz_game.specs.declared.win_line.WinLine.{WinLine}
 use Rattle.pz_program.specs.declared.instance.Block.TheVariants.{One}
 use Rattle.pz_game.specs.declared.pattern.Word.TheVariants.{Toward}
 use Rattle.pz_game.specs.Pattern.{RuleRow}
-use Rattle.pz_grid.specs.Places.{searched}
-use Rattle.pz_turn.specs.Applying.{applied}
+use Rattle.pz_grid.specs.Places.{places_or_limit}
+use Rattle.pz_turn.specs.Applying.{application_of}
 use Rattle.pz_turn.specs.Rest.{rest_of}
 use Rattle.pz_case.specs.declared.item.FrameKind.TheVariants as kind
 use Rattle.pz_case.specs.declared.item.Item.TheVariants.{Frame, Close}
@@ -119,7 +119,7 @@ gives_commands :
     -- a cancelled press shows the level that stays
     × (played_items (playing (game (free ∷ [])) (giving 10) (Press Right ∷ []))
     ≡ shows free 0 0 kind.Start at_start ∷ shows free 1 1 kind.Move at_start ∷ closes free at_start ∷ [])
-unfolding played_items play_from frames_as_items items_from frame_of start_link press_link tick_link undo_link restart_link won_link kept_link reached_link effect first_link with_past level_from step_of rules_run blocks_run block_runs rest_of applied searched has_won
+unfolding played_items play_from frames_as_items items_from frame_of start_link press_link tick_link undo_link restart_link won_link kept_link reached_link effect first_link with_past level_from step_of rules_run blocks_run block_runs rest_of application_of places_or_limit has_won
 gives_commands = (refl, refl, refl, refl)
 
 -- no Wall: each press wins; a load shows the next level, which has no past, and after the last one each input shows it

@@ -7,7 +7,7 @@ use Rattle.pz_program.specs.declared.instance.Program.{Program}
 use Rattle.pz_program.specs.Commands as command
 use Rattle.pz_program.specs.Instance.{IsProgramOf}
 use Rattle.pz_sheet.specs.Grid.{Grid, IsOfGame}
-use Rattle.pz_bare.specs.Loading.{loaded}
+use Rattle.pz_bare.specs.Loading.{level_of_entry}
 use Rattle.pz_sheet.specs.Sameness.{same_grid}
 use Rattle.pz_turn.specs.declared.outcome.StepFault.{StepFault}
 use Rattle.pz_turn.specs.Outcome.{Outcome}
@@ -64,8 +64,8 @@ loaded_at game program order recorded entry = record {
   order = order;
   recorded = recorded;
   entry = entry;
-  level = loaded game entry;
-  target = loaded game entry;
+  level = level_of_entry game entry;
+  target = level_of_entry game entry;
   past = [];
   before = None;
   is_over = false;

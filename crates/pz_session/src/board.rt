@@ -7,7 +7,7 @@ ghost use Rattle.pz_game.specs.Level.{is_playable, entry_at};
 ghost use Rattle.pz_program.specs.Instance.{IsProgramOf};
 ghost use Rattle.pz_sheet.specs.Grid.{IsOfGame};
 ghost use Rattle.pz_sheet.specs.Sameness.{same_grid};
-ghost use Rattle.pz_bare.specs.Loading.{loaded};
+ghost use Rattle.pz_bare.specs.Loading.{level_of_entry};
 ghost use Rattle.pz_turn.specs.Step.{step_of};
 ghost use Rattle.pz_turn.specs.declared.outcome.StepFault.TheVariants.{Memory};
 ghost use Rattle.pz_case.specs.FirstLevel.{level_from};
@@ -109,8 +109,8 @@ fn marked(alloc: Global, bare: &BareLevel) -> Result<Level, AllocError>
 fn opened(alloc: Global, game: &Game, entry: usize) -> Result<(Level, BareLevel), AllocError>
     requires playable { is_playable (entry_at game.now entry) ≡ true }
     requires within { entry < length game.now.levels }
-    ensures level { IfOk result (λ levels. levels.0.grid ≡ loaded game.now entry) }
-    ensures target { IfOk result (λ levels. levels.1.grid ≡ loaded game.now entry) }
+    ensures level { IfOk result (λ levels. levels.0.grid ≡ level_of_entry game.now entry) }
+    ensures target { IfOk result (λ levels. levels.1.grid ≡ level_of_entry game.now entry) }
 {
     let target = BareLevel::load(alloc, game, entry)?;
     match marked(alloc, &target) {

@@ -1,5 +1,5 @@
 -- The cells in which an older level differs are found one by one, and give it back.
-use Rattle.pz_sheet.proofs.Common.{Layering, ◌≡◌, inl, inr, ℕ, zero, suc, ◌+◌, ◌<◌, ◌≤◌, List, [], ◌∷◌, ◌++◌, Option, Some, None, Bool, true, false, not, cond, set, drop, length, ap, ◌∙◌, refl, arith, IsTrue, ◌↔◌, fold, length-append, get_or_default, cases_eq, set-append_seam, All, Cell, Piece, same_cell, same_cell_is, same_cell_self, CellChange, changed_from, changed_cells, with_cell, restored, differ_in, cell_there, Grid, SameSize, cell_of, IsNext, seen, IsSound, AreAlike}
+use Rattle.pz_sheet.proofs.Common.{Layering, ◌≡◌, inl, inr, ℕ, zero, suc, ◌+◌, ◌<◌, ◌≤◌, List, [], ◌∷◌, ◌++◌, Option, Some, None, Bool, true, false, not, cond, set, drop, length, ap, ◌∙◌, refl, arith, IsTrue, ◌↔◌, fold, length-append, get_or_default, cases_eq, set-append_seam, All, Cell, Piece, same_cell, same_cell_is, same_cell_self, CellChange, changed_from, changed_cells, with_cell, with_cells_back, differ_in, cell_there, Grid, SameSize, cell_of, IsNext, pieces_of_cell, IsSound, AreAlike}
 use Rattle.std.proofs.lemmas.List.{append-nil, append_assoc}
 use Rattle.std.proofs.Math.Seq.{drop-length}
 use Rattle.pz_base.proofs.ListLemmas.{drop-next}
@@ -9,7 +9,7 @@ use Rattle.pz_sheet.proofs.SameLemmas.{seen_alike, alike_seen, are_same}
 abbrev put_back : List (List (Option Piece)) → CellChange → List (List (Option Piece))
 put_back cells change = set cells change.number change.cell
 
-restored_cells : (changes : List CellChange) (grid : Grid) → restored changes grid ≡ record grid { cells = fold put_back grid.cells changes }
+restored_cells : (changes : List CellChange) (grid : Grid) → with_cells_back changes grid ≡ record grid { cells = fold put_back grid.cells changes }
 restored_cells [] grid = refl
 restored_cells (change ∷ changes) grid = restored_cells changes (with_cell grid change)
 
@@ -22,7 +22,7 @@ back_from front (cell ∷ cells) (old ∷ older) long =
     let rest = λ (x : List (Option Piece)). simp (append_assoc, length-append) at (back_from (front ++ x ∷ []) cells older (omega (arith, long))) in
     grind (arith, rest cell, rest old, same_cell_is cell old, set-append_seam front cell cells old)
 
-pub way_back : (grid older : Grid) → SameSize grid older → length grid.cells ≡ length older.cells → restored (changed_cells grid older) grid ≡ older
+pub way_back : (grid older : Grid) → SameSize grid older → length grid.cells ≡ length older.cells → with_cells_back (changed_cells grid older) grid ≡ older
 way_back grid older size long = grind (arith, restored_cells (changed_cells grid older) grid, back_from [] grid.cells older.cells long)
 
 -- ---- a loop over the cells of both
@@ -61,5 +61,5 @@ module _ (grid older : Grid) (long : length grid.cells ≡ length older.cells) w
 -- ---- one cell of two levels
 -- the words tell what is seen
 module _ (N : ℕ) (layering : Layering) (low : All (λ l. l < layering.depth) layering.layers) where
-  pub test_is : (cell other : Cell N) (r : Bool) → IsSound layering cell → IsSound layering other → (IsTrue r ↔ AreAlike cell other) → same_cell (seen layering cell) (seen layering other) ≡ r
-  test_is cell other r sound sound_other decides = grind (arith, decides, seen_alike N layering cell other sound sound_other, alike_seen N layering cell other low sound sound_other, same_cell_is (seen layering cell) (seen layering other), same_cell_self (seen layering cell))
+  pub test_is : (cell other : Cell N) (r : Bool) → IsSound layering cell → IsSound layering other → (IsTrue r ↔ AreAlike cell other) → same_cell (pieces_of_cell layering cell) (pieces_of_cell layering other) ≡ r
+  test_is cell other r sound sound_other decides = grind (arith, decides, seen_alike N layering cell other sound sound_other, alike_seen N layering cell other low sound sound_other, same_cell_is (pieces_of_cell layering cell) (pieces_of_cell layering other), same_cell_self (pieces_of_cell layering cell))

@@ -17,7 +17,7 @@ pub use Rattle.pz_cells.proofs.SameLemmas.{same_cell_is, same_cell_self}
 pub use Rattle.pz_cells.specs.Cell.{IsCell, IsOnLayer, still_place}
 pub use Rattle.pz_cells.specs.Drawing.{filled_cell, glyph_cell}
 pub use Rattle.pz_cells.specs.Layering.{IsLayering, Layering}
-pub use Rattle.pz_cells.specs.Lists.{AreAlike, AreMapped, IsSound, seen}
+pub use Rattle.pz_cells.specs.Lists.{AreAlike, AreMapped, IsSound, pieces_of_cell}
 pub use Rattle.pz_cells.specs.Pattern.{pattern_holds}
 pub use Rattle.pz_cells.specs.Sameness.{same_cell}
 pub use Rattle.pz_cells.specs.Shown.{AreLawful, Changes, Shows, place_of}
@@ -43,7 +43,7 @@ pub use Rattle.pz_planes.specs.declared.line.Way.{Way}
 pub use Rattle.pz_planes.specs.declared.line.Way.TheVariants.{Ahead, Back}
 pub use Rattle.pz_sets.specs.Sets.{AreApart, IsWithin, in_word, member}
 pub use Rattle.pz_sets.specs.Next.{IsNext}
-pub use Rattle.pz_sheet.specs.Changes.{CellChange, IsChangeOf, cell_there, changed_cells, changed_from, changes_seen, differ_in, restored, with_cell}
+pub use Rattle.pz_sheet.specs.Changes.{CellChange, IsChangeOf, cell_there, changed_cells, changed_from, changes_seen, differ_in, with_cells_back, with_cell}
 pub use Rattle.pz_sheet.specs.Grid.{BareState, Grid, IsLawful, SameSize, cell_at, layers_in, place_at, with_place}
 pub use Rattle.pz_sheet.specs.Holding.{IsSetFor}
 pub use Rattle.pz_sheet.specs.Line.{dir_along, dir_of, holds_in, line_count, line_length, runs_in, x_at, y_at}

@@ -1,6 +1,6 @@
 -- If all cells of a rule's row hold somewhere, each heading that the row asks for is noted, for the whole level and for the
 -- lines.
-use Rattle.pz_sheet.proofs.Common.{Layering, ◌≡◌, ◌+◌, ◌*◌, ◌%◌, ◌<◌, ℕ, List, [], ◌∷◌, Bool, true, false, not, inl, inr, suc, length, get_or, arith, ap, sym, ◌∙◌, IsTrue, ◌↔◌, All, list_any, cases_lt, get_or-map, div-mul-add, mod-mul-add, member, IsWithin, AreApart, Dir, Item, flag, heads, asks_toward, AreOf, AreRequired, flag_of, Cell, no_cell, met_all, asked_by, toward, is_toward, Grid, HoldsSomewhere, HoldsInLine, Axis, Horizontal, Vertical, HeadingSets, headings_of, line_count, HeadsWithin, grid_of, IsStored, IsNoted, seen}
+use Rattle.pz_sheet.proofs.Common.{Layering, ◌≡◌, ◌+◌, ◌*◌, ◌%◌, ◌<◌, ℕ, List, [], ◌∷◌, Bool, true, false, not, inl, inr, suc, length, get_or, arith, ap, sym, ◌∙◌, IsTrue, ◌↔◌, All, list_any, cases_lt, get_or-map, div-mul-add, mod-mul-add, member, IsWithin, AreApart, Dir, Item, flag, heads, asks_toward, AreOf, AreRequired, flag_of, Cell, no_cell, met_all, asked_by, toward, is_toward, Grid, HoldsSomewhere, HoldsInLine, Axis, Horizontal, Vertical, HeadingSets, headings_of, line_count, HeadsWithin, grid_of, IsStored, IsNoted, pieces_of_cell}
 use Rattle.pz_sheet.proofs.SheetLemmas.{cell_in}
 
 -- a number of both sets: they aren't apart
@@ -23,7 +23,7 @@ module _ (N width height : ℕ) (layering : Layering) (cells : List (Cell N)) (n
         let at = h.y * width + h.x in
         let cell = get_or cells at (no_cell N) in
         let within = cell_in width height (length cells) h.x h.y s.covers h.x_in h.y_in in
-        let met = met_all layering.depth layering.layers cell.objects cell.movement items s.law.layered (s.sound at (no_cell N) within) are (rw (← get_or-map (seen layering) cells at (no_cell N) [] within) h.holds) in
+        let met = met_all layering.depth layering.layers cell.objects cell.movement items s.law.layered (s.sound at (no_cell N) within) are (rw (← get_or-map (pieces_of_cell layering) cells at (no_cell N) [] within) h.holds) in
         (find items holds).1 (s.noted.each at (no_cell N) within) (flag layer dir) (asked_by (λ k. heads cell.movement k dir ≡ true) (λ it. is_toward (toward true it.word) dir) (λ it. it.layer) items layer (λ k d within. (met k d within).2 dir) asks)
 
     -- the same for the cells of a row

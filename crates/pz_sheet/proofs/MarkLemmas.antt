@@ -1,6 +1,6 @@
 -- What is noted in a line is what stands there. So where rules' cells hold one after another, the objects that they name as present are
 -- noted, and those that they name as absent are not.
-use Rattle.pz_sheet.proofs.Common.{common_steps, ◌≡◌, inl, inr, ℕ, ◌+◌, ◌*◌, ◌<◌, ◌≤◌, List, [], Option, Bool, true, false, length, get_or, arith, ap, sym, ◌∙◌, ◌↔◌, All, list_all, list_any, enumerate_from, range_with_len, cases_lt, false≢true, true_from_ne_false, get_or-map, get_or_default, list_any_none, list_any_at, length-range_with_len, get_or-range_with_len, member, Cell, Item, Piece, Layering, no_cell, member_seen, Axis, Horizontal, Vertical, Way, step_to, room_from, AreMarks, HeadingSets, PlaneSets, IsMissingIn, MayHold, MayRun, stands_in, lines_of, Grid, Line, Walk, cell_at, x_at, y_at, dir_of, holds_in, holds_along, runs_in, line_length, line_count, ArePlaced, AreMissing, is_in, stands_in_line, grid_of, IsStored, seen}
+use Rattle.pz_sheet.proofs.Common.{common_steps, ◌≡◌, inl, inr, ℕ, ◌+◌, ◌*◌, ◌<◌, ◌≤◌, List, [], Option, Bool, true, false, length, get_or, arith, ap, sym, ◌∙◌, ◌↔◌, All, list_all, list_any, enumerate_from, range_with_len, cases_lt, false≢true, true_from_ne_false, get_or-map, get_or_default, list_any_none, list_any_at, length-range_with_len, get_or-range_with_len, member, Cell, Item, Piece, Layering, no_cell, member_seen, Axis, Horizontal, Vertical, Way, step_to, room_from, AreMarks, HeadingSets, PlaneSets, IsMissingIn, MayHold, MayRun, stands_in, lines_of, Grid, Line, Walk, cell_at, x_at, y_at, dir_of, holds_in, holds_along, runs_in, line_length, line_count, ArePlaced, AreMissing, is_in, stands_in_line, grid_of, IsStored, pieces_of_cell}
 use Rattle.std.proofs.lemmas.List.Sums.{AllPass-from_list_all}
 use Rattle.pz_game.specs.Items.{names}
 use Rattle.pz_cells.specs.Pattern.{item_holds}
@@ -52,7 +52,7 @@ module _ (N width height : ℕ) (layering : Layering) (cells : List (Cell N)) (n
       let at = y * width + x in
       let cell = get_or cells at (no_cell N) in
       let there = cell_in width height (length cells) x y s.covers x_in y_in in
-      member_seen layering.depth layering.layers cell.objects cell.movement object s.law.layered (s.sound at (no_cell N) there) ∙ ap (λ (here : List (Option Piece)). is_in here object) (sym (get_or-map (seen layering) cells at (no_cell N) [] there))
+      member_seen layering.depth layering.layers cell.objects cell.movement object s.law.layered (s.sound at (no_cell N) there) ∙ ap (λ (here : List (Option Piece)). is_in here object) (sym (get_or-map (pieces_of_cell layering) cells at (no_cell N) [] there))
 
   known_in : (x y object : ℕ) → x < width → y < height → is_in (cell_at grid x y) object ≡ true → object < length layering.layers
   known_in x y object x_in y_in e = (s.sound (y * width + x) (no_cell N) (cell_in width height (length cells) x y s.covers x_in y_in)).of_game object (objects_of x y object x_in y_in ∙ e)

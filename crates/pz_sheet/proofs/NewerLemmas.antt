@@ -1,5 +1,5 @@
 -- A level becomes a newer one if it gets the newer one's cells wherever the changes that lead back say that the two differ.
-use Rattle.pz_sheet.proofs.Common.{common_steps, map, suc, restored, ◌≡◌, ℕ, ◌+◌, ◌<◌, List, [], ◌∷◌, Option, Some, None, false, length, get_or, ap, sym, ◌∙◌, refl, arith, fold, IsNext, Piece, same_cell, same_cell_is, same_cell_self, Change, CellChange, changed_from, changed_cells, changes_seen, with_cell, differ_in, cell_there, Grid, SameSize, cell_of}
+use Rattle.pz_sheet.proofs.Common.{common_steps, map, suc, with_cells_back, ◌≡◌, ℕ, ◌+◌, ◌<◌, List, [], ◌∷◌, Option, Some, None, false, length, get_or, ap, sym, ◌∙◌, refl, arith, fold, IsNext, Piece, same_cell, same_cell_is, same_cell_self, Change, CellChange, changed_from, changed_cells, changes_seen, with_cell, differ_in, cell_there, Grid, SameSize, cell_of}
 use Rattle.pz_sheet.proofs.ChangeLemmas.{way_back}
 
 -- cells of a newer level put where changes say
@@ -9,7 +9,7 @@ taken N newer changes grid = fold (λ g change. with_cell g (cell_there newer ch
 pub size_back : (newer grid : Grid) → SameSize newer grid → SameSize grid newer
 size_back newer grid size = record { width = sym size.width; height = sym size.height; depth = sym size.depth; layers = sym size.layers }
 
-taken_is : (N : ℕ) (newer : Grid) (changes : List (Change N)) (grid : Grid) → taken N newer changes grid ≡ restored (map (λ change. cell_there newer change.number) (changes_seen newer changes)) grid
+taken_is : (N : ℕ) (newer : Grid) (changes : List (Change N)) (grid : Grid) → taken N newer changes grid ≡ with_cells_back (map (λ change. cell_there newer change.number) (changes_seen newer changes)) grid
 taken_is N newer [] grid = refl
 taken_is N newer (change ∷ changes) grid = taken_is N newer changes (with_cell grid (cell_there newer change.index))
 
@@ -25,8 +25,8 @@ turned newer number (cell ∷ cells) (old ∷ older) here = grind (arith, same_e
 
 pub all_taken : (N : ℕ) (newer grid : Grid) (changes : List (Change N)) → SameSize newer grid → length newer.cells ≡ length grid.cells → changes_seen newer changes ≡ changed_cells newer grid → taken N newer changes grid ≡ newer
 all_taken N newer grid changes size long e =
-    taken_is N newer changes grid ∙ ap (λ (found : List CellChange). restored (map (λ change. cell_there newer change.number) found) grid) e
-    ∙ ap (λ (found : List CellChange). restored found grid) (turned newer 0 newer.cells grid.cells (λ k. ap (λ (n : ℕ). get_or newer.cells n []) (let e : 0 + k ≡ k = omega arith in e))) ∙ way_back grid newer (size_back newer grid size) (sym long)
+    taken_is N newer changes grid ∙ ap (λ (found : List CellChange). with_cells_back (map (λ change. cell_there newer change.number) found) grid) e
+    ∙ ap (λ (found : List CellChange). with_cells_back found grid) (turned newer 0 newer.cells grid.cells (λ k. ap (λ (n : ℕ). get_or newer.cells n []) (let e : 0 + k ≡ k = omega arith in e))) ∙ way_back grid newer (size_back newer grid size) (sym long)
 
 -- ---- cells taken where two levels differ, one after another
 -- up to the next cell that differs, and with it taken, none does

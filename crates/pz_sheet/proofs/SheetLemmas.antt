@@ -1,5 +1,5 @@
 -- A cell of a level in words, and what is seen of it.
-use Rattle.pz_sheet.proofs.Common.{IsLayering, Layering, ◌≡◌, ℕ, ◌+◌, ◌*◌, ◌<◌, ◌≤◌, List, [], Option, Some, None, Bool, true, false, not, set, length, get_or, ap, sym, ◌∙◌, refl, subst, arith, get_or-set_same, get_or-set_other, IfSome, MatchOption, lt-ltb, mul-add-lt, cases_eq, length-map, length-set, get_or-map, get_or_default, set-get_or, length-map-range_with_len, Dir, Cell, Piece, same_cell, same_cell_is, Item, IsCell, IsOnLayer, standing, place_of, on_its_layer, standing_by, Grid, BareState, IsLawful, cell_at, place_at, with_place, HeadingSets, IsWider, seen, IsSound, grid_of, IsNoted, IsStored}
+use Rattle.pz_sheet.proofs.Common.{IsLayering, Layering, ◌≡◌, ℕ, ◌+◌, ◌*◌, ◌<◌, ◌≤◌, List, [], Option, Some, None, Bool, true, false, not, set, length, get_or, ap, sym, ◌∙◌, refl, subst, arith, get_or-set_same, get_or-set_other, IfSome, MatchOption, lt-ltb, mul-add-lt, cases_eq, length-map, length-set, get_or-map, get_or_default, set-get_or, length-map-range_with_len, Dir, Cell, Piece, same_cell, same_cell_is, Item, IsCell, IsOnLayer, standing, place_of, on_its_layer, standing_by, Grid, BareState, IsLawful, cell_at, place_at, with_place, HeadingSets, IsWider, pieces_of_cell, IsSound, grid_of, IsNoted, IsStored}
 use Rattle.std.proofs.lemmas.List.Elements.{All-map, All-set}
 use Rattle.pz_game.specs.declared.limits.TheConstants.{MOST_LAYERS, MOST_OBJECTS}
 use Rattle.pz_cells.specs.declared.piece.Mover.{Mover}
@@ -15,7 +15,7 @@ only_false false h = refl
 
 -- a number of a seen cell is one of a cell in words
 pub seen_within : (N width height : ℕ) (layering : Layering) (cells : List (Cell N)) (grid : Grid) (at : ℕ) → grid_of width height layering cells ≡ grid → at < length grid.cells → at < length cells
-seen_within N width height layering cells grid at e h = grind (arith, e, length-map cells (seen layering))
+seen_within N width height layering cells grid at e h = grind (arith, e, length-map cells (pieces_of_cell layering))
 
 -- and of a cell of the lines
 pub within_lines : (columns rows width height count at : ℕ) → columns ≡ width → rows ≡ height → count ≡ width * height → at < count → at < columns * rows
@@ -27,22 +27,22 @@ cell_in width height count x y covers x_in y_in = omega (arith, mul-add-lt y wid
 
 -- what is seen of the cell of a number
 pub seen_at : (N width height : ℕ) (layering : Layering) (cells : List (Cell N)) (grid : Grid) (at : ℕ) (cell : Cell N) → grid_of width height layering cells ≡ grid → at < length cells → cell ≡ get_or cells at cell
-    → seen layering cell ≡ get_or grid.cells at []
-seen_at N width height layering cells grid at cell e h is = grind (arith, e, get_or-map (seen layering) cells at cell [] h)
+    → pieces_of_cell layering cell ≡ get_or grid.cells at []
+seen_at N width height layering cells grid at cell e h is = grind (arith, e, get_or-map (pieces_of_cell layering) cells at cell [] h)
 
 -- lawful words are seen as a cell of the game
-pub cell_seen : (N : ℕ) (layering : Layering) (cell : Cell N) → IsSound layering cell → IsCell layering.depth layering.layers (seen layering cell)
+pub cell_seen : (N : ℕ) (layering : Layering) (cell : Cell N) → IsSound layering cell → IsCell layering.depth layering.layers (pieces_of_cell layering cell)
 cell_seen N layering cell sound = record { deep = length-map-range_with_len (place_of layering.layers cell.objects cell.movement) 0 layering.depth; on_layers = on_its_layer layering.depth layering.layers cell.objects cell.movement sound }
 
 -- a level in words is seen as a lawful one
 pub lawful_seen : (N width height : ℕ) (layering : Layering) (cells : List (Cell N)) (notes : HeadingSets) → IsStored N width height layering cells notes → IsLawful (grid_of width height layering cells)
 lawful_seen N width height layering cells headings s = record {
-  covers = length-map cells (seen layering) ∙ s.covers;
+  covers = length-map cells (pieces_of_cell layering) ∙ s.covers;
   size = s.size;
   shallow = s.law.shallow;
   few = s.law.few;
   layered = s.law.layered;
-  stacked = All-map (IsCell layering.depth layering.layers) (seen layering) cells (λ k d within. cell_seen N layering (get_or cells k d) (s.sound k d within));
+  stacked = All-map (IsCell layering.depth layering.layers) (pieces_of_cell layering) cells (λ k d within. cell_seen N layering (get_or cells k d) (s.sound k d within));
 }
 
 -- and so is the level whose value that is

@@ -1,5 +1,5 @@
 -- A cell that heads nowhere is still. So is each cell of a line or of a level for which no heading is noted.
-use Rattle.pz_sheet.proofs.Common.{Layering, inl, inr, ◌≡◌, ◌+◌, ◌*◌, ◌/◌, ◌%◌, ◌<◌, ◌≤◌, ℕ, suc, List, [], ◌∷◌, Option, Bool, true, false, map, length, get_or, arith, sym, ◌∙◌, refl, subst, All, cases_lt, get_or-map, mod-mul-add, div-mul-add, member, IsWithin, heads, flag, Cell, Piece, still_place, place_of, Grid, HeadingSets, column_in, number_of, row_in, seen, IsSound, grid_of, IsNoted, AreNoted, IsStored, no_cell, cell_mapped}
+use Rattle.pz_sheet.proofs.Common.{Layering, inl, inr, ◌≡◌, ◌+◌, ◌*◌, ◌/◌, ◌%◌, ◌<◌, ◌≤◌, ℕ, suc, List, [], ◌∷◌, Option, Bool, true, false, map, length, get_or, arith, sym, ◌∙◌, refl, subst, All, cases_lt, get_or-map, mod-mul-add, div-mul-add, member, IsWithin, heads, flag, Cell, Piece, still_place, place_of, Grid, HeadingSets, column_in, number_of, row_in, pieces_of_cell, IsSound, grid_of, IsNoted, AreNoted, IsStored, no_cell, cell_mapped}
 use Rattle.std.proofs.Math.Nat.{mul-le-mul_right}
 use Rattle.std.proofs.lemmas.List.Elements.{All-map}
 use Rattle.pz_sheet.specs.Movement.{IsStillAt, AreStill, AreColumnsStill}
@@ -8,7 +8,7 @@ use Rattle.pz_cells.specs.Lists.{IsStilled, HeadNowhere}
 use Rattle.pz_sheet.proofs.SheetLemmas.{cell_in}
 use Rattle.pz_cells.proofs.ListLemmas.{AreWalked, still_shows}
 
-pub still_seen : (N : ℕ) (layering : Layering) (cell : Cell N) → IsSound layering cell → ((number : ℕ) → member cell.movement number ≡ false) → seen layering cell ≡ map still_place (seen layering cell)
+pub still_seen : (N : ℕ) (layering : Layering) (cell : Cell N) → IsSound layering cell → ((number : ℕ) → member cell.movement number ≡ false) → pieces_of_cell layering cell ≡ map still_place (pieces_of_cell layering cell)
 still_seen N layering cell sound none =
     cell_mapped layering.depth layering.layers cell.objects cell.movement cell.objects cell.movement still_place sound.of_game
     (λ layer. still_shows layering.layers (member cell.objects) (heads cell.movement layer) (heads cell.movement layer) layer (place_of layering.layers cell.objects cell.movement layer) (λ dir. none (flag layer dir)) (sound.shows layer))
@@ -57,7 +57,7 @@ module _ (N width height : ℕ) (layering : Layering) (cells : List (Cell N)) (n
   still_there x y x_in y_in nowhere =
       let at = y * width + x in
       let within = cell_in width height (length cells) x y s.covers x_in y_in in
-      grind (arith, still_seen N layering (get_or cells at (no_cell N)) (s.sound at (no_cell N) within) (nowhere (s.noted.each at (no_cell N) within)), get_or-map (seen layering) cells at (no_cell N) [] within)
+      grind (arith, still_seen N layering (get_or cells at (no_cell N)) (s.sound at (no_cell N) within) (nowhere (s.noted.each at (no_cell N) within)), get_or-map (pieces_of_cell layering) cells at (no_cell N) [] within)
 
   -- no heading is noted for the columns from one on and before another
   pub columns_are_still : (grid : Grid) → grid_of width height layering cells ≡ grid → (from end : ℕ) → end ≤ width → HaveNoneBetween notes.columns from end → AreColumnsStill grid from end
@@ -73,9 +73,9 @@ module _ (N width height : ℕ) (layering : Layering) (cells : List (Cell N)) (n
       rw (← e) (still_there x y x_in (omega (arith, below, within)) (λ noted. none_within _ (get_or notes.rows y []) (rw (div-mul-add y width x x_in) at noted.row) (λ number. none y number late below)))
 
   -- no heading is noted at all
-  pub all_are_still : ((number : ℕ) → member notes.whole number ≡ false) → map (seen layering) cells ≡ map (map still_place) (map (seen layering) cells)
+  pub all_are_still : ((number : ℕ) → member notes.whole number ≡ false) → map (pieces_of_cell layering) cells ≡ map (map still_place) (map (pieces_of_cell layering) cells)
   all_are_still none =
-      same_all (map still_place) (map (seen layering) cells) (All-map (λ cell. cell ≡ map still_place cell) (seen layering) cells
+      same_all (map still_place) (map (pieces_of_cell layering) cells) (All-map (λ cell. cell ≡ map still_place cell) (pieces_of_cell layering) cells
       (λ k d within. still_seen N layering (get_or cells k d) (s.sound k d within) (none_within (get_or cells k d).movement notes.whole (s.noted.each k d within).whole none)))
 
   pub all_head_nowhere : ((number : ℕ) → member notes.whole number ≡ false) → HeadNowhere cells

@@ -1,5 +1,5 @@
 -- Two levels of one size: the words tell in which cells they differ, and where nothing heads the planes of the rows do.
-use Rattle.pz_sheet.proofs.Common.{◌≡◌, ℕ, ◌+◌, ◌*◌, ◌/◌, ◌%◌, ◌<◌, ◌≤◌, List, [], Option, Some, None, Bool, false, true, refl, not, IsTrue, ◌↔◌, length, length-map, get_or, get_or-map, arith, ap, sym, ◌∙◌, cases_lt, div-mul-add, mod-mul-add, mul-add-lt, no_cell, in_word, member, PlaneSets, HeadingSets, stands_in, number_of, column_in, row_in, Cell, Layering, AreAlike, IsSound, seen, IsNext, IsNextDiffering, differ_in, BareState, SameSize, grid_of}
+use Rattle.pz_sheet.proofs.Common.{◌≡◌, ℕ, ◌+◌, ◌*◌, ◌/◌, ◌%◌, ◌<◌, ◌≤◌, List, [], Option, Some, None, Bool, false, true, refl, not, IsTrue, ◌↔◌, length, length-map, get_or, get_or-map, arith, ap, sym, ◌∙◌, cases_lt, div-mul-add, mod-mul-add, mul-add-lt, no_cell, in_word, member, PlaneSets, HeadingSets, stands_in, number_of, column_in, row_in, Cell, Layering, AreAlike, IsSound, pieces_of_cell, IsNext, IsNextDiffering, differ_in, BareState, SameSize, grid_of}
 use Rattle.std.proofs.Math.Bool.{not-not}
 use Rattle.pz_planes.specs.Planes.{AreSameAt, IsNextDifferingLine, IsNextDifferingPosition}
 use Rattle.pz_planes.specs.declared.planes.Differing.{Differing}
@@ -66,7 +66,7 @@ module _ (N width height : ℕ) (layering : Layering) (cells others : List (Cell
 module _ {N : ℕ} {here there : BareState} (a b : Inside N) (size : SameSize here.grid there.grid) (is : record { grid = grid_of a.width a.height a.layers a.cells.items } ≡ here) (is_other : record { grid = grid_of b.width b.height b.layers b.cells.items } ≡ there)
     (sheet : IsSheet N a.width a.height a.layers a.cells.items a.notes a.planes) (sheet_other : IsSheet N b.width b.height b.layers b.cells.items b.notes b.planes) where
   many : length here.grid.cells ≡ length a.cells.items
-  many = grind (arith, is, length-map a.cells.items (seen a.layers))
+  many = grind (arith, is, length-map a.cells.items (pieces_of_cell a.layers))
 
   same_width : a.width ≡ b.width
   same_width = grind (arith, is, is_other, size.width)
@@ -85,7 +85,7 @@ module _ {N : ℕ} {here there : BareState} (a b : Inside N) (size : SameSize he
   same_cells index r within decides =
       let within_other : index < length b.cells.items = omega (arith, within, as_many) in
       let sound : IsSound a.layers (get_or b.cells.items index (no_cell N)) = rw same_layers (sheet_other.stored.sound index (no_cell N) within_other) in
-      grind (arith, is, is_other, same_layers, get_or-map (seen a.layers) a.cells.items index (no_cell N) [] within, get_or-map (seen b.layers) b.cells.items index (no_cell N) [] within_other, test_is N a.layers sheet.stored.law.layered (get_or a.cells.items index (no_cell N)) (get_or b.cells.items index (no_cell N)) r (sheet.stored.sound index (no_cell N) within) sound decides)
+      grind (arith, is, is_other, same_layers, get_or-map (pieces_of_cell a.layers) a.cells.items index (no_cell N) [] within, get_or-map (pieces_of_cell b.layers) b.cells.items index (no_cell N) [] within_other, test_is N a.layers sheet.stored.law.layered (get_or a.cells.items index (no_cell N)) (get_or b.cells.items index (no_cell N)) r (sheet.stored.sound index (no_cell N) within) sound decides)
 
   alike_same : (index : ℕ) → index < length a.cells.items → AreAlike (get_or a.cells.items index (no_cell N)) (get_or b.cells.items index (no_cell N)) → differ_in here.grid there.grid index ≡ false
   alike_same index within same = same_cells index true within (λ _. same, λ _. refl)

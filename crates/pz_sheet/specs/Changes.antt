@@ -8,7 +8,7 @@ use Rattle.pz_sheet.specs.declared.changes.KnownChanges.{KnownChanges}
 use Rattle.pz_sheet.specs.Grid.{Grid, layers_in}
 use Rattle.pz_cells.specs.Layering.{Layering}
 use Rattle.pz_sheet.specs.Presence.{cell_of}
-use Rattle.pz_cells.specs.Lists.{seen, IsSound}
+use Rattle.pz_cells.specs.Lists.{pieces_of_cell, IsSound}
 
 -- a change: the number of a cell, and what stood there
 pub record CellChange : Type 0 where
@@ -27,7 +27,7 @@ changed_cells grid older = changed_from 0 grid.cells older.cells
 
 -- a change, seen by layers
 abbrev pub change_seen : {N : ℕ} → Layering → Change N → CellChange
-change_seen layering change = record { number = change.index; cell = seen layering change.cell }
+change_seen layering change = record { number = change.index; cell = pieces_of_cell layering change.cell }
 
 -- changes of a level's cells, seen by layers
 abbrev pub changes_seen : {N : ℕ} → Grid → List (Change N) → List CellChange
@@ -43,8 +43,8 @@ abbrev pub with_cell : Grid → CellChange → Grid
 with_cell grid change = record grid { cells = slice_set grid.cells change.number change.cell }
 
 -- the level with these cells put back
-abbrev pub restored : List CellChange → Grid → Grid
-restored changes grid = fold with_cell grid changes
+abbrev pub with_cells_back : List CellChange → Grid → Grid
+with_cells_back changes grid = fold with_cell grid changes
 
 -- two levels differ in the cell of this number
 abbrev pub differ_in : Grid → Grid → ℕ → Bool

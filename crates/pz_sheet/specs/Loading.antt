@@ -11,8 +11,8 @@ abbrev pub IsRoomFor : ℕ → GameParts → Type 0
 IsRoomFor words game = (length game.layers ≤ 128 * words) × (game.depth ≤ 25 * words)
 
 -- the level as it is drawn, before its background is filled
-abbrev pub drawn : GameParts → Drawing → Grid
-drawn game drawing = record {
+abbrev pub drawn_level : GameParts → Drawing → Grid
+drawn_level game drawing = record {
   width = drawing.width;
   height = drawing.height;
   depth = game.depth;
@@ -21,5 +21,5 @@ drawn game drawing = record {
 }
 
 -- the level with this piece in each cell where nothing stands on the layer
-abbrev pub filled : ℕ → Piece → Grid → Grid
-filled layer piece grid = record grid { cells = map (filled_cell layer piece) grid.cells }
+abbrev pub with_piece_everywhere : ℕ → Piece → Grid → Grid
+with_piece_everywhere layer piece grid = record grid { cells = map (filled_cell layer piece) grid.cells }

@@ -6,8 +6,8 @@ use Rattle.pz_cells.specs.Cell.{still_piece, still_place}
 use Rattle.pz_sheet.specs.Grid.{Grid, cell_at, with_place}
 
 -- a piece goes from a position to another, and is still there
-abbrev pub carried : Grid → ℕ → ℕ → Mover → ℕ → ℕ → Grid
-carried grid x y mover next_x next_y =
+abbrev pub with_piece_moved : Grid → ℕ → ℕ → Mover → ℕ → ℕ → Grid
+with_piece_moved grid x y mover next_x next_y =
     with_place (with_place grid x y mover.layer None) next_x next_y mover.layer (Some (still_piece mover.object))
 
 -- nothing at a position of the map heads anywhere
@@ -22,5 +22,5 @@ AreStill grid x from end = (y : ℕ) → from ≤ y → y < end → IsStillAt gr
 abbrev pub AreColumnsStill : Grid → ℕ → ℕ → Type 0
 AreColumnsStill grid from end = (x : ℕ) → from ≤ x → x < end → AreStill grid x 0 grid.height
 
-abbrev pub stilled : Grid → Grid
-stilled grid = record grid { cells = map (map still_place) grid.cells }
+abbrev pub still_level : Grid → Grid
+still_level grid = record grid { cells = map (map still_place) grid.cells }

@@ -15,8 +15,8 @@ pushed_place players dir (Some piece) =
     if is_one_of players piece.object then Some (record { object = piece.object; heading = Some dir }) else Some piece
 
 -- step.press
-abbrev pub pushed : List ℕ → Dir → Grid → Grid
-pushed players dir grid = record grid { cells = map (map (pushed_place players dir)) grid.cells }
+abbrev pub pushed_level : List ℕ → Dir → Grid → Grid
+pushed_level players dir grid = record grid { cells = map (map (pushed_place players dir)) grid.cells }
 
 -- the level with the player pushed only in the cell of this number
 abbrev pub pushed_at : List ℕ → Dir → ℕ → Grid → Grid

@@ -4,14 +4,14 @@ use Rattle.pz_sets.specs.Sets.{IsWithin}
 use Rattle.pz_game.specs.Size.{IsSize}
 use Rattle.pz_planes.specs.Notes.{HeadingSets}
 use Rattle.pz_planes.specs.Planes.{PlaneSets}
-use Rattle.pz_cells.specs.Lists.{seen, IsSound}
+use Rattle.pz_cells.specs.Lists.{pieces_of_cell, IsSound}
 use Rattle.pz_cells.specs.declared.cell.Cell.{Cell}
 use Rattle.pz_cells.specs.Layering.{Layering, IsLayering}
 use Rattle.pz_sheet.specs.Grid.{Grid}
 use Rattle.pz_sheet.specs.Noting.{ArePlaced}
 
 abbrev pub grid_of : {N : ℕ} → ℕ → ℕ → Layering → List (Cell N) → Grid
-grid_of width height layering cells = record { width = width; height = height; depth = layering.depth; layers = layering.layers; cells = map (seen layering) cells }
+grid_of width height layering cells = record { width = width; height = height; depth = layering.depth; layers = layering.layers; cells = map (pieces_of_cell layering) cells }
 
 -- a cell has only headings of this set
 abbrev pub HeadsWithin : (N : ℕ) → List ℕ → Cell N → Type 0

@@ -4,7 +4,7 @@ ghost use Rattle.std.specs.Prelude.{◌≡◌, ◌<◌, ◌≤◌, ◌*◌, ◌/
 ghost use Rattle.pz_sets.specs.Sets.{member};
 ghost use Rattle.pz_cells.specs.Cell.{IsOnLayer, moving_piece, still_piece};
 ghost use Rattle.pz_cells.specs.Layering.{IsLayering};
-ghost use Rattle.pz_cells.specs.Lists.{seen, IsSound};
+ghost use Rattle.pz_cells.specs.Lists.{pieces_of_cell, IsSound};
 ghost use Rattle.pz_planes.specs.Planes.{AreChanged, AreKnown, AreThere};
 ghost use Rattle.pz_sheet.specs.Changes.{with_cell};
 ghost use Rattle.pz_sheet.specs.Grid.{IsOnMap, layers_in, place_at, with_place};
@@ -31,7 +31,7 @@ impl<const N: usize> Sheet<N> {
     pub(crate) fn cell(&self, index: usize) -> &Cell<N>
         requires { index < length self.now.grid.cells }
         ensures sound { IsSound (layers_in self.now.grid) result.now }
-        ensures cell { seen (layers_in self.now.grid) result.now ≡ cell_of self.now.grid index }
+        ensures cell { pieces_of_cell (layers_in self.now.grid) result.now ≡ cell_of self.now.grid index }
     {
         &self.cells[index]
     }
@@ -51,7 +51,7 @@ impl<const N: usize> Sheet<N> {
         requires within { index < length self.old.grid.cells }
         requires sound { IsSound (layers_in self.old.grid) cell }
         ensures { self.new.grid ≡
-            with_cell self.old.grid (record { number = index; cell = seen (layers_in self.old.grid) cell.entry }) }
+            with_cell self.old.grid (record { number = index; cell = pieces_of_cell (layers_in self.old.grid) cell.entry }) }
     {
         let before = self.cells[index];
         self.cells[index] = cell;

@@ -62,7 +62,7 @@ impl KnownChanges {
 }
 
 impl<const N: usize> Sheet<N> {
-    ghost use Rattle.pz_sheet.specs.Changes.{changed_cells, changes_seen, IsChangeOf, with_cell, restored, differ_in, cell_there, TellsOf};
+    ghost use Rattle.pz_sheet.specs.Changes.{changed_cells, changes_seen, IsChangeOf, with_cell, with_cells_back, differ_in, cell_there, TellsOf};
 
     /// Makes this level equal to a newer one of the same size, and gives the way back: exactly the cells in which they differed, as they
     /// were. Err: memory was refused, and the level is unchanged.
@@ -75,7 +75,7 @@ impl<const N: usize> Sheet<N> {
             (λ changes. changes_seen newer.now.grid changes.items ≡ changed_cells newer.now.grid self.old.grid) }
         ensures of_level { IfOk result (λ changes. All (IsChangeOf newer.now.grid) changes.items) }
         ensures way_back { IfOk result
-            (λ changes. restored (changes_seen newer.now.grid changes.items) newer.now.grid ≡ self.old.grid) }
+            (λ changes. with_cells_back (changes_seen newer.now.grid changes.items) newer.now.grid ≡ self.old.grid) }
     {
         let changes = newer.changes_to(self)?;
         for change in &changes {
@@ -91,7 +91,7 @@ impl<const N: usize> Sheet<N> {
             (λ changes. changes_seen self.now.grid changes.items ≡ changed_cells self.now.grid older.now.grid) }
         ensures of_level { IfOk result (λ changes. All (IsChangeOf self.now.grid) changes.items) }
         ensures way_back { IfOk result
-            (λ changes. restored (changes_seen self.now.grid changes.items) self.now.grid ≡ older.now.grid) }
+            (λ changes. with_cells_back (changes_seen self.now.grid changes.items) self.now.grid ≡ older.now.grid) }
         ensures as_many { length self.now.grid.cells ≡ length older.now.grid.cells }
     {
         let mut changes = Vec::new(*self.cells.allocator());
@@ -107,7 +107,7 @@ impl<const N: usize> Sheet<N> {
     /// Puts the cells of an older level back.
     pub fn take_changes(&mut self, changes: &[Change<N>])
         requires { All (IsChangeOf self.old.grid) changes.now }
-        ensures restored { self.new.grid ≡ restored (changes_seen self.old.grid changes.now) self.old.grid }
+        ensures restored { self.new.grid ≡ with_cells_back (changes_seen self.old.grid changes.now) self.old.grid }
         ensures size { SameSize self.old.grid self.new.grid }
     {
         for change in changes {

@@ -2,7 +2,7 @@
 
 ghost use Rattle.std.specs.Prelude.{◌≡◌, ◌≤◌, ◌<◌, IfOk, All, length, slice_index};
 ghost use Rattle.pz_sheet.specs.Grid.{IsLawful};
-ghost use Rattle.pz_sheet.specs.Loading.{IsRoomFor, drawn, filled};
+ghost use Rattle.pz_sheet.specs.Loading.{IsRoomFor, drawn_level, with_piece_everywhere};
 
 use crate::Sheet;
 use crate::noting::{note_all, noted, renew_notes};
@@ -19,7 +19,7 @@ impl<const N: usize> Sheet<N> {
         requires short { N ≤ 4 }
         requires room { IsRoomFor N game.now }
         requires numbers { All (λ number. number < length game.now.values) drawing.now.cells }
-        ensures { IfOk result (λ sheet. sheet.grid ≡ drawn game.now drawing.now) }
+        ensures { IfOk result (λ sheet. sheet.grid ≡ drawn_level game.now drawing.now) }
     {
         let layers = Layers::of_game(alloc, game)?;
         let cells = glyph_cells(alloc, game, &layers, drawing.cells())?;
@@ -40,7 +40,7 @@ impl<const N: usize> Sheet<N> {
     pub fn fill(&mut self, layer: usize, piece: Piece)
         requires on_layer { (piece.object < length self.old.grid.layers) ×
             (slice_index self.old.grid.layers piece.object ≡ layer) }
-        ensures filled { self.new.grid ≡ filled layer piece self.old.grid }
+        ensures filled { self.new.grid ≡ with_piece_everywhere layer piece self.old.grid }
         ensures lawful { IsLawful self.new.grid }
     {
         fill_cells(&mut self.cells, &self.layers, layer, piece);

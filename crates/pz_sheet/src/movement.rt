@@ -7,7 +7,7 @@ ghost use Rattle.pz_cells.specs.Cell.{IsNextMover, still_place};
 ghost use Rattle.pz_cells.specs.Lists.{AreMapped, HeadNowhere, HaveSameObjects};
 ghost use Rattle.pz_sheet.specs.Seen.{IsStored};
 ghost use Rattle.pz_sheet.specs.Grid.{IsLawful, IsOnMap, cell_at};
-ghost use Rattle.pz_sheet.specs.Movement.{stilled, IsStillAt, AreStill, AreColumnsStill};
+ghost use Rattle.pz_sheet.specs.Movement.{still_level, IsStillAt, AreStill, AreColumnsStill};
 
 use crate::Sheet;
 use pz_cells::cell::Cell;
@@ -86,7 +86,7 @@ impl<const N: usize> Sheet<N> {
     /// Stills every piece.
     #[tactic(auto, using(crate::proofs::SheetLemmas::lawful_here))]
     pub fn still_all(&mut self)
-        ensures stilled { self.new.grid ≡ stilled self.old.grid }
+        ensures stilled { self.new.grid ≡ still_level self.old.grid }
         ensures lawful { IsLawful self.new.grid }
     {
         if is_empty(self.notes.whole()) {

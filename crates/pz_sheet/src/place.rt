@@ -6,7 +6,7 @@ ghost use Rattle.pz_game.specs.Pattern.{AreOf};
 ghost use Rattle.pz_cells.specs.Cell.{IsOnLayer, moving_piece, still_piece};
 ghost use Rattle.pz_cells.specs.Pattern.{pattern_holds};
 ghost use Rattle.pz_sheet.specs.Grid.{IsOnMap, cell_at, place_at};
-ghost use Rattle.pz_sheet.specs.Movement.{carried};
+ghost use Rattle.pz_sheet.specs.Movement.{with_piece_moved};
 ghost use Rattle.pz_sheet.specs.Rewriting.{with_rewritten, changes};
 
 use crate::Sheet;
@@ -32,7 +32,7 @@ impl<const N: usize> Sheet<N> {
         requires goal_on_map { IsOnMap self.old.grid next_x next_y }
         requires there { place_at self.old.grid x y mover.layer ≡ Some (moving_piece mover) }
         requires free { place_at self.old.grid next_x next_y mover.layer ≡ None }
-        ensures carried { self.new.grid ≡ carried self.old.grid x y mover next_x next_y }
+        ensures carried { self.new.grid ≡ with_piece_moved self.old.grid x y mover next_x next_y }
         ensures there { place_at self.new.grid next_x next_y mover.layer ≡ Some (still_piece mover.object) }
     {
         self.take_away(x, y, mover);

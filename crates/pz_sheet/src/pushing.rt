@@ -1,11 +1,11 @@
 //! A press gives its direction to the player.
 
 ghost use Rattle.std.specs.Prelude.{◌≡◌, ℕ, ◌<◌, false, length, map};
-ghost use Rattle.pz_cells.specs.Lists.{seen, IsSound};
+ghost use Rattle.pz_cells.specs.Lists.{pieces_of_cell, IsSound};
 ghost use Rattle.pz_sheet.specs.Grid.{IsLawful, cell_at};
 ghost use Rattle.pz_sheet.specs.Holding.{IsSetFor};
 ghost use Rattle.pz_sheet.specs.Presence.{AreMissing};
-ghost use Rattle.pz_sheet.specs.Pushing.{pushed_place, pushed_at, pushed};
+ghost use Rattle.pz_sheet.specs.Pushing.{pushed_place, pushed_at, pushed_level};
 
 use crate::Sheet;
 use crate::holding::set_of;
@@ -20,7 +20,7 @@ use pz_sets::words::is_disjoint;
 impl<const N: usize> Sheet<N> {
     /// Gives a direction to each of these objects in the level.
     pub fn push_all(&mut self, players: &[usize], dir: Dir)
-        ensures pushed { self.new.grid ≡ pushed players.now dir self.old.grid }
+        ensures pushed { self.new.grid ≡ pushed_level players.now dir self.old.grid }
         ensures lawful { IsLawful self.new.grid }
     {
         let set = set_of(players);
@@ -73,7 +73,7 @@ impl<const N: usize> Sheet<N> {
 fn push_cell<const N: usize>(cell: &mut Cell<N>, layers: &Layers<N>, players: &[usize], dir: Dir)
     requires sound { IsSound layers.now cell.old }
     ensures sound { IsSound layers.now cell.new }
-    ensures cell { seen layers.now cell.new ≡ map (pushed_place players.now dir) (seen layers.now cell.old) }
+    ensures cell { pieces_of_cell layers.now cell.new ≡ map (pushed_place players.now dir) (pieces_of_cell layers.now cell.old) }
 {
     for player in players {
         cell.turn(layers, *player, dir);

@@ -13,7 +13,7 @@ use Rattle.pz_base.specs.declared.fault.SourceFault.{SourceFault}
 use Rattle.pz_base.specs.declared.fault.Code.TheVariants as code
 use Rattle.pz_base.specs.Each.{each_ok}
 use Rattle.pz_game.specs.Level.{is_playable}
-use Rattle.pz_source.specs.Levels.{draws, glyph_of, glyphs_of, filled, row_of, rows_of, is_message, is_too_large, entry_of, entries_of, read_entries, levels_of}
+use Rattle.pz_source.specs.Levels.{draws, glyph_of, glyphs_of, row_of_length, row_of, rows_of, is_message, is_too_large, entry_of, entries_of, read_entries, levels_of}
 use Rattle.pz_game.specs.Game.{IsDrawnBy}
 use Rattle.pz_game.specs.declared.denotation.Denotation.{Denotation}
 use Rattle.pz_source.specs.declared.levels.TheConstants.{MOST_ENTRIES}
@@ -46,18 +46,18 @@ module _ (glyph : ℕ → Option ℕ) (count : ℕ) (some : 0 < count) (below : 
       by c None q = tt
       by c (Some k) q = below c k q
 
-  filled-below : (n last : ℕ) (row : List ℕ) → last < count → All (λ k. k < count) row → All (λ k. k < count) (filled n last row)
+  filled-below : (n last : ℕ) (row : List ℕ) → last < count → All (λ k. k < count) row → All (λ k. k < count) (row_of_length n last row)
   filled-below zero last row low all = All-nil (λ k. k < count)
-  filled-below (suc n) last [] low all = All-cons (λ k. k < count) last (filled n last []) low (filled-below n last [] low all)
+  filled-below (suc n) last [] low all = All-cons (λ k. k < count) last (row_of_length n last []) low (filled-below n last [] low all)
   filled-below (suc n) last (x ∷ row) low all =
       let first = All-head (λ k. k < count) x row all in
-      All-cons (λ k. k < count) x (filled n x row) first (filled-below n x row first (All-drop (λ k. k < count) 1 (x ∷ row) all))
+      All-cons (λ k. k < count) x (row_of_length n x row) first (filled-below n x row first (All-drop (λ k. k < count) 1 (x ∷ row) all))
 
   row-below : (width : ℕ) (line : Line) → IfOk (row_of glyph width line) (All (λ n. n < count))
   row-below width line = by (glyphs_of glyph (take width line.text)) (glyphs-below (take width line.text))
     where
       by : (o : Option (List ℕ)) → IfSome o (All (λ n. n < count))
-          → IfOk (option_map_or (λ row. Ok (filled width 0 row)) o (let fault : SourceFault = record { code = code.BadGlyph; line = line.number } in Err fault)) (All (λ n. n < count))
+          → IfOk (option_map_or (λ row. Ok (row_of_length width 0 row)) o (let fault : SourceFault = record { code = code.BadGlyph; line = line.number } in Err fault)) (All (λ n. n < count))
       by None low = tt
       by (Some row) low = filled-below width 0 row some low
 

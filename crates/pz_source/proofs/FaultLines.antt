@@ -6,7 +6,7 @@ use Rattle.std.specs.List.{All, list_any, flat_map, enumerate_from}
 use Rattle.std.specs.Str.{chars, bytes_eq}
 use Rattle.std.proofs.lemmas.List.Elements.{All-nil, All-cons, All-head, All-tail, All-append, All-push, All-drop, All-map, All-filter}
 use Rattle.pz_text.specs.Check.{number_of, too_long, misplaces, reaches_place, misplaced_heading, has_section, missing_section, lines_of}
-use Rattle.pz_text.specs.Cutting.{cut}
+use Rattle.pz_text.specs.Cutting.{lines_of_text}
 use Rattle.pz_base.specs.Fault.{first_fault, or_else, unless, and_then}
 use Rattle.pz_text.specs.Section.{lines_in, place_of}
 use Rattle.pz_base.specs.NameSet.{is_name_of, number_in}
@@ -33,7 +33,7 @@ use Rattle.pz_names.specs.Legend.{sides, said_by, defined_by, definition_of, def
 use Rattle.pz_names.specs.Legend as legend
 use Rattle.pz_base.specs.Each.{each_ok}
 use Rattle.pz_game.specs.Level.{is_playable}
-use Rattle.pz_source.specs.Levels.{is_message, closed, entries_of, glyph_of, glyphs_of, filled, row_of, rows_of, is_too_large, entry_of, read_entries, levels_of}
+use Rattle.pz_source.specs.Levels.{is_message, rows_if_any, entries_of, glyph_of, glyphs_of, row_of_length, row_of, rows_of, is_too_large, entry_of, read_entries, levels_of}
 use Rattle.pz_names.specs.Meaning.{meanings_of}
 use Rattle.pz_source.specs.Missing.{names_single, fault_of_needs}
 use Rattle.pz_names.specs.Objects.{object_names, is_blank, sprite_rows, paragraph_of, behind_paragraph, paragraphs_within, paragraphs_of, name_line_of, has_repeat, paragraph_at, misnames, objects_of}
@@ -250,7 +250,7 @@ module _ (n : ℕ) where
 
   -- LEVELS
 
-  closed-within : (rows : List Line) → All (IsWithin n) rows → All (All (IsWithin n)) (closed rows)
+  closed-within : (rows : List Line) → All (IsWithin n) rows → All (All (IsWithin n)) (rows_if_any rows)
   closed-within [] all = All-nil (All (IsWithin n))
   closed-within (row ∷ rows) all = All-cons (All (IsWithin n)) (row ∷ rows) [] all (All-nil (All (IsWithin n)))
 
@@ -261,18 +261,18 @@ module _ (n : ℕ) where
       (entries-within (rows ++ line ∷ []) lines (All-push (IsWithin n) rows line above (All-head (IsWithin n) line lines all)) (All-tail (IsWithin n) line lines all))
     where
       by : (blank message : Bool) → All (All (IsWithin n)) (entries_of [] lines) → All (All (IsWithin n)) (entries_of (rows ++ line ∷ []) lines)
-          → All (All (IsWithin n)) (if blank then closed rows ++ entries_of [] lines
-          else (if message then closed rows ++ (line ∷ []) ∷ entries_of [] lines else entries_of (rows ++ line ∷ []) lines))
-      by true message new longer = All-append (All (IsWithin n)) (closed rows) (entries_of [] lines) (closed-within rows above) new
+          → All (All (IsWithin n)) (if blank then rows_if_any rows ++ entries_of [] lines
+          else (if message then rows_if_any rows ++ (line ∷ []) ∷ entries_of [] lines else entries_of (rows ++ line ∷ []) lines))
+      by true message new longer = All-append (All (IsWithin n)) (rows_if_any rows) (entries_of [] lines) (closed-within rows above) new
       by false true new longer =
-          All-append (All (IsWithin n)) (closed rows) ((line ∷ []) ∷ entries_of [] lines) (closed-within rows above)
+          All-append (All (IsWithin n)) (rows_if_any rows) ((line ∷ []) ∷ entries_of [] lines) (closed-within rows above)
           (All-cons (All (IsWithin n)) (line ∷ []) (entries_of [] lines) (All-cons (IsWithin n) line [] (All-head (IsWithin n) line lines all) (All-nil (IsWithin n))) new)
       by false false new longer = longer
 
   row-fault : (glyph : ℕ → Option ℕ) (width : ℕ) (line : Line) → IsWithin n line → IfErr (row_of glyph width line) (Names n)
   row-fault glyph width line low = by (glyphs_of glyph (take width line.text))
     where
-      by : (o : Option (List ℕ)) → IfErr (option_map_or (λ row. Ok (filled width 0 row)) o (let fault : SourceFault = record { code = code.BadGlyph; line = line.number } in Err fault)) (Names n)
+      by : (o : Option (List ℕ)) → IfErr (option_map_or (λ row. Ok (row_of_length width 0 row)) o (let fault : SourceFault = record { code = code.BadGlyph; line = line.number } in Err fault)) (Names n)
       by None = (λ e. cc, low)
       by (Some row) = tt
 
@@ -393,9 +393,9 @@ module _ (n : ℕ) where
       by true = tt
       by false = (λ e. cc, omega arith)
 
-  lines-fault : (text : List ℕ) → All (IsWithin n) (cut (chars text)) → IfErr (lines_of text) (Names n)
+  lines-fault : (text : List ℕ) → All (IsWithin n) (lines_of_text (chars text)) → IfErr (lines_of text) (Names n)
   lines-fault text all =
-      let lines = cut (chars text) in
+      let lines = lines_of_text (chars text) in
       let whole : Result (List Line) SourceFault = unless (missing_section lines) (Ok lines) in
       unless-within n (too_long text) (unless (misplaced_heading lines) whole) (too_long-within text)
       (unless-within n (misplaced_heading lines) whole (first_fault-within n number_of misplaces [] lines heading-sound all)

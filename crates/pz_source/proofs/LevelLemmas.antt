@@ -4,7 +4,7 @@ use Rattle.std.specs.List.{slice_range, list_all}
 use Rattle.std.specs.Prelude.{if◌then◌else◌}
 use Rattle.std.proofs.lemmas.List.Folds.{list_all-append, list_all_at}
 use Rattle.std.proofs.lemmas.List.{get_or-drop}
-use Rattle.pz_source.specs.Levels.{entries_of, closed, is_message, is_entry, filled}
+use Rattle.pz_source.specs.Levels.{entries_of, rows_if_any, is_message, is_entry, row_of_length}
 use Rattle.pz_names.specs.Objects.{is_blank}
 use Rattle.pz_base.proofs.ListLemmas.{take-next}
 use Rattle.pz_text.specs.declared.line.Line.{Line}
@@ -16,12 +16,12 @@ drop-one (suc i) (x ∷ xs) = drop-one i xs ∙ ap (λ n. drop n (x ∷ xs)) (le
 
 -- one more cell of a row
 pub filled-step : (row : List ℕ) (width last i : ℕ) → i < width
-    → filled (width - i) last (drop i row) ≡ get_or row i last ∷ filled (width - (i + 1)) (get_or row i last) (drop (i + 1) row)
+    → row_of_length (width - i) last (drop i row) ≡ get_or row i last ∷ row_of_length (width - (i + 1)) (get_or row i last) (drop (i + 1) row)
 filled-step row width last i lt =
     let more : width - i ≡ suc (width - (i + 1)) = omega arith in
     let here : get_or (drop i row) 0 last ≡ get_or row i last = get_or-drop i row 0 last ∙ ap (λ n. get_or row n last) (let e : i + 0 ≡ i = omega arith in e) in
-    ap (λ n. filled n last (drop i row)) more
-    ∙ (ap (λ x. x ∷ filled (width - (i + 1)) x (drop 1 (drop i row))) here ∙ ap (λ r. get_or row i last ∷ filled (width - (i + 1)) (get_or row i last) r) (drop-one i row))
+    ap (λ n. row_of_length n last (drop i row)) more
+    ∙ (ap (λ x. x ∷ row_of_length (width - (i + 1)) x (drop 1 (drop i row))) here ∙ ap (λ r. get_or row i last ∷ row_of_length (width - (i + 1)) (get_or row i last) r) (drop-one i row))
 
 pub range-next : {A : Type 0} (xs : List A) (start place : ℕ) (x : A) → start ≤ place → place < length xs → x ≡ get_or xs place x
     → slice_range xs start (place + 1) ≡ slice_range xs start place ++ x ∷ []
@@ -38,19 +38,19 @@ pub entries-row : (rows : List Line) (line : Line) (more : List Line) → is_bla
 entries-row rows line more e m = rw (e, m) refl
 
 -- the first lines of the entries aren't blank
-entries-drawn : (rows lines : List Line) → list_all is_entry (closed rows) ≡ true → list_all is_entry (entries_of rows lines) ≡ true
+entries-drawn : (rows lines : List Line) → list_all is_entry (rows_if_any rows) ≡ true → list_all is_entry (entries_of rows lines) ≡ true
 entries-drawn rows [] h = h
 entries-drawn rows (line ∷ lines) h = by (is_blank line) refl (is_message line) (entries-drawn [] lines refl) (λ k. entries-drawn (rows ++ line ∷ []) lines k)
   where
-    longer : (rows : List Line) → list_all is_entry (closed rows) ≡ true → is_blank line ≡ false → list_all is_entry (closed (rows ++ line ∷ [])) ≡ true
+    longer : (rows : List Line) → list_all is_entry (rows_if_any rows) ≡ true → is_blank line ≡ false → list_all is_entry (rows_if_any (rows ++ line ∷ [])) ≡ true
     longer [] h e = rw e refl
     longer (row ∷ rows) h e = h
 
     by : (b : Bool) → is_blank line ≡ b → (m : Bool) → list_all is_entry (entries_of [] lines) ≡ true
-        → (list_all is_entry (closed (rows ++ line ∷ [])) ≡ true → list_all is_entry (entries_of (rows ++ line ∷ []) lines) ≡ true)
-        → list_all is_entry (if b then closed rows ++ entries_of [] lines else (if m then closed rows ++ (line ∷ []) ∷ entries_of [] lines else entries_of (rows ++ line ∷ []) lines)) ≡ true
-    by true e m next more = list_all-append is_entry (closed rows) (entries_of [] lines) ∙ rw (h, next) refl
-    by false e true next more = list_all-append is_entry (closed rows) ((line ∷ []) ∷ entries_of [] lines) ∙ rw (h, e, next) refl
+        → (list_all is_entry (rows_if_any (rows ++ line ∷ [])) ≡ true → list_all is_entry (entries_of (rows ++ line ∷ []) lines) ≡ true)
+        → list_all is_entry (if b then rows_if_any rows ++ entries_of [] lines else (if m then rows_if_any rows ++ (line ∷ []) ∷ entries_of [] lines else entries_of (rows ++ line ∷ []) lines)) ≡ true
+    by true e m next more = list_all-append is_entry (rows_if_any rows) (entries_of [] lines) ∙ rw (h, next) refl
+    by false e true next more = list_all-append is_entry (rows_if_any rows) ((line ∷ []) ∷ entries_of [] lines) ∙ rw (h, e, next) refl
     by false e false next more = more (longer rows h e)
 
 pub entry-drawn : (lines : List Line) (k : ℕ) (x : List Line) → k < length (entries_of [] lines) → x ≡ get_or (entries_of [] lines) k x → is_entry x ≡ true

@@ -5,11 +5,11 @@ use Rattle.std.specs.Option.{option_map_or}
 use Rattle.std.specs.Str.{chars}
 use Rattle.std.specs.List.{All, filter_map, cons_option, slice_split}
 use Rattle.std.proofs.lemmas.List.Elements.{All-nil, All-cons, All-head, All-tail}
-use Rattle.pz_text.specs.Characters.{trimmed}
+use Rattle.pz_text.specs.Characters.{trimmed_text}
 use Rattle.pz_text.specs.Comment.{outside, depth_after}
 use Rattle.pz_text.specs.Heading.{heading_in}
 use Rattle.pz_text.specs.Check.{too_long, misplaced_heading, missing_section, lines_of}
-use Rattle.pz_text.specs.Cutting.{is_left_out, lines_from, cut}
+use Rattle.pz_text.specs.Cutting.{is_left_out, lines_from, lines_of_text}
 use Rattle.pz_text.specs.Section.{is_heading_of, before_heading, behind_heading, lines_in}
 use Rattle.pz_base.specs.Fault.{first_fault, or_else, unless, and_then}
 use Rattle.pz_text.specs.declared.line.Section.{Section}
@@ -67,9 +67,9 @@ lines_from-numbered : (P : ℕ → Type 0) (section : Section) (depth number : �
     → All (λ line. P line.number) (lines_from section depth number raws)
 lines_from-numbered P section depth number [] each = All-nil (λ (line : Line). P line.number)
 lines_from-numbered P section depth number (raw ∷ more) each =
-    let line = trimmed raw in
+    let line = trimmed_text raw in
     let left = outside section true [] depth line in
-    let text = trimmed left in
+    let text = trimmed_text left in
     let heading = heading_in section text in
     let after = unwrap_or heading section in
     let read : Line = record { number = number; section = after; is_heading = is_some heading; text = text } in
@@ -120,15 +120,15 @@ and_then-ok P Q next (Ok x) read each = each x read
 and_then-ok P Q next (Err fault) read each = tt
 
 -- the lines of a text have the numbers of its lines
-pub cut-numbered : (P : ℕ → Type 0) (text : List ℕ) → ((k : ℕ) → 1 ≤ k → k ≤ length (slice_split (λ c. c == 10) text) → P k) → All (λ line. P line.number) (cut text)
+pub cut-numbered : (P : ℕ → Type 0) (text : List ℕ) → ((k : ℕ) → 1 ≤ k → k ≤ length (slice_split (λ c. c == 10) text) → P k) → All (λ line. P line.number) (lines_of_text text)
 cut-numbered P text each = lines_from-numbered P Prelude 0 1 (slice_split (λ c. c == 10) text) (λ k above below. each k above (omega arith))
 
-pub cut-within : (text : List ℕ) → All (IsWithin (length (slice_split (λ c. c == 10) text))) (cut text)
+pub cut-within : (text : List ℕ) → All (IsWithin (length (slice_split (λ c. c == 10) text))) (lines_of_text text)
 cut-within text = cut-numbered (λ k. k ≤ length (slice_split (λ c. c == 10) text)) text (λ k above below. below)
 
 -- and the lines that are read, if its headings are in order, are these
-pub lines-all : (P : Line → Type 0) (text : List ℕ) → All P (cut (chars text)) → IfOk (lines_of text) (All P)
+pub lines-all : (P : Line → Type 0) (text : List ℕ) → All P (lines_of_text (chars text)) → IfOk (lines_of text) (All P)
 lines-all P text all =
-    let lines = cut (chars text) in
+    let lines = lines_of_text (chars text) in
     let whole : Result (List Line) SourceFault = unless (missing_section lines) (Ok lines) in
     unless-ok (All P) (too_long text) (unless (misplaced_heading lines) whole) (unless-ok (All P) (misplaced_heading lines) whole (unless-ok (All P) (missing_section lines) (Ok lines) all))

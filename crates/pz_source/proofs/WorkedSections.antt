@@ -10,7 +10,7 @@ use Rattle.pz_game.specs.declared.denotation.Denotation.{Denotation}
 use Rattle.pz_game.specs.declared.denotation.Kind.{Kind}
 use Rattle.pz_game.specs.declared.denotation.Kind.TheVariants.{Object, Property, Aggregate}
 use Rattle.pz_names.specs.declared.name_line.NameLine.{NameLine}
-use Rattle.pz_source.specs.Layers.{layer_names, layer_lines, misplaced, fault_of_layers, layers_of}
+use Rattle.pz_source.specs.Layers.{layer_names, layer_lines, layer_fault, fault_of_layers, layers_of}
 use Rattle.pz_game.specs.Level.{is_playable}
 use Rattle.pz_source.specs.Levels.{entries_of, glyph_of, is_too_large, entry_of, levels_of, rows_of}
 use Rattle.pz_source.specs.Missing.{fault_of_needs}
@@ -105,10 +105,10 @@ unfolding encode_utf8
 layers_before_objects = refl
 
 -- the hundredth layer is the last that may be
-layer_100 : misplaced names values 99 (codes "wall" ∷ []) ≡ None
+layer_100 : layer_fault names values 99 (codes "wall" ∷ []) ≡ None
 layer_100 = refl
 
-layer_101 : misplaced names values 100 (codes "wall" ∷ []) ≡ Some code.TooLarge
+layer_101 : layer_fault names values 100 (codes "wall" ∷ []) ≡ Some code.TooLarge
 layer_101 = refl
 
 -- LEVELS

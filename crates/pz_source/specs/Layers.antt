@@ -35,14 +35,14 @@ abbrev pub name_line_at : NameLine → ℕ
 name_line_at line = line.number
 
 -- what is wrong with a layer, with `above` layers above it: an unknown name, an aggregate, or one layer too many
-abbrev pub misplaced : List (List ℕ) → List Denotation → ℕ → List (List ℕ) → Option Code
-misplaced names values above layer =
+abbrev pub layer_fault : List (List ℕ) → List Denotation → ℕ → List (List ℕ) → Option Code
+layer_fault names values above layer =
     if list_any (λ name. not (is_name_of names name)) layer then Some code.Unknown
     else (if list_any (λ name. is_of_kind Aggregate (kind_in names values name)) layer then Some code.Mixed
     else (if nat_le MOST_LAYERS above then Some code.TooLarge else None))
 
 abbrev pub misplaces : List (List ℕ) → List Denotation → List NameLine → NameLine → Option Code
-misplaces names values before layer = misplaced names values (length before) layer.names
+misplaces names values before layer = layer_fault names values (length before) layer.names
 
 -- the members of a name, by the numbers of the objects
 abbrev pub members_of : List (List ℕ) → List Denotation → List ℕ → List ℕ

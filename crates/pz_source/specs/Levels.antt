@@ -24,17 +24,17 @@ abbrev pub is_message : Line → Bool
 is_message line = begins_with_word line.text (codes "message")
 
 -- the rows of a level that ends here, if there are any
-abbrev pub closed : List Line → List (List Line)
-closed [] = []
-closed (row ∷ rows) = (row ∷ rows) ∷ []
+abbrev pub rows_if_any : List Line → List (List Line)
+rows_if_any [] = []
+rows_if_any (row ∷ rows) = (row ∷ rows) ∷ []
 
 -- text.blank-lines, levels.entries: the entries, each with its lines; `rows` are those of a level that is still open, and a
 -- blank line or a message ends it
 abbrev pub entries_of : List Line → List Line → List (List Line)
-entries_of rows [] = closed rows
+entries_of rows [] = rows_if_any rows
 entries_of rows (line ∷ lines) =
-    if is_blank line then closed rows ++ entries_of [] lines
-    else (if is_message line then closed rows ++ (line ∷ []) ∷ entries_of [] lines
+    if is_blank line then rows_if_any rows ++ entries_of [] lines
+    else (if is_message line then rows_if_any rows ++ (line ∷ []) ∷ entries_of [] lines
     else entries_of (rows ++ line ∷ []) lines)
 
 -- the lines of an entry: it has one, and the first isn't blank
@@ -58,14 +58,14 @@ abbrev pub glyphs_of : (ℕ → Option ℕ) → List ℕ → Option (List ℕ)
 glyphs_of glyph row = all_some (map glyph row)
 
 -- levels.short-rows: a row of n cells: the numbers in order, then the last of them again and again
-abbrev pub filled : ℕ → ℕ → List ℕ → List ℕ
-filled zero last row = []
-filled (suc n) last row = get_or row 0 last ∷ filled n (get_or row 0 last) (drop 1 row)
+abbrev pub row_of_length : ℕ → ℕ → List ℕ → List ℕ
+row_of_length zero last row = []
+row_of_length (suc n) last row = get_or row 0 last ∷ row_of_length n (get_or row 0 last) (drop 1 row)
 
 -- levels.long-rows: the cells of a row: a longer row is cut, a shorter one filled
 abbrev pub row_of : (ℕ → Option ℕ) → ℕ → Line → Result (List ℕ) SourceFault
 row_of glyph width line =
-    option_map_or (λ row. Ok (filled width 0 row)) (glyphs_of glyph (take width line.text))
+    option_map_or (λ row. Ok (row_of_length width 0 row)) (glyphs_of glyph (take width line.text))
     (Err (record { code = code.BadGlyph; line = line.number }))
 
 -- the cells of the rows of a level

@@ -4,7 +4,7 @@ ghost use Rattle.std.specs.Prelude.{◌≡◌, ◌==◌, ℕ, List, ◌<◌, ◌
 ghost use Rattle.std.specs.List.{list_any, filter_map};
 ghost use Rattle.pz_base.specs.Fault.{first_fault, unless, and_then};
 ghost use Rattle.pz_base.specs.declared.fault.Code.TheVariants as code;
-ghost use Rattle.pz_source.specs.Layers.{layer_words, layer_names, layer_lines, name_line_at, misplaced, misplaces, members_of, holds, entry_at, layer_of, lies_nowhere, fault_of_layers, layers_of};
+ghost use Rattle.pz_source.specs.Layers.{layer_words, layer_names, layer_lines, name_line_at, layer_fault, misplaces, members_of, holds, entry_at, layer_of, lies_nowhere, fault_of_layers, layers_of};
 
 use crate::rules::push_word;
 use pz_base::fault::{Code, SourceFault};
@@ -68,7 +68,7 @@ pub fn layer_lines(alloc: Global, lines: &[Line]) -> Result<Vec<NameLine>, Alloc
 
 /// What is wrong with a layer, if anything: `Unknown`, `Mixed` (an aggregate) or `TooLarge`. `above` is the number of layers above it.
 fn misplaced(names: &NameSet, values: &[Denotation], above: usize, layer: &[Name]) -> Option<Code>
-    ensures { result ≡ misplaced names.now values.now above layer.now }
+    ensures { result ≡ layer_fault names.now values.now above layer.now }
 {
     if has_unknown(names, layer) {
         Some(Code::Unknown)

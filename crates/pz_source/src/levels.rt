@@ -4,7 +4,7 @@ ghost use Rattle.std.specs.Prelude.{◌≡◌, ◌≤◌, ◌<◌, ◌+◌, ◌*
 ghost use Rattle.pz_base.specs.Fault.{and_then};
 ghost use Rattle.std.specs.List.{list_any, slice_range};
 ghost use Rattle.pz_game.specs.Level.{is_playable};
-ghost use Rattle.pz_source.specs.Levels.{is_message, closed, entries_of, is_entry, glyph_of, glyphs_of, filled, is_too_large, row_of, rows_of, entry_of, levels_of};
+ghost use Rattle.pz_source.specs.Levels.{is_message, rows_if_any, entries_of, is_entry, glyph_of, glyphs_of, row_of_length, is_too_large, row_of, rows_of, entry_of, levels_of};
 
 use crate::glyphs::Glyphs;
 use pz_base::fault::{Code, SourceFault};
@@ -78,7 +78,7 @@ fn pass<'a>(
 
 fn close<'a>(entries: &mut Vec<&'a [Line]>, rows: &'a [Line]) -> Result<(), AllocError>
     ensures { OnOk result (map (λ entry. entry.now) entries.new.items ≡
-        map (λ entry. entry.now) entries.old.items ++ closed rows.entry.now) }
+        map (λ entry. entry.now) entries.old.items ++ rows_if_any rows.entry.now) }
 {
     if !rows.is_empty() {
         entries.push(rows)?;
@@ -109,7 +109,7 @@ fn numbers_of(
 
 /// Adds a row of this width to the cells. A shorter row is filled with its own last glyph. Rule `levels.short-rows`.
 fn add_row(cells: &mut Vec<usize>, width: usize, row: &[usize]) -> Result<(), AllocError>
-    ensures cells { OnOk result (cells.new.items ≡ cells.old.items ++ filled width 0 row.now) }
+    ensures cells { OnOk result (cells.new.items ≡ cells.old.items ++ row_of_length width 0 row.now) }
     ensures count { OnOk result (length cells.new.items ≡ length cells.old.items + width) }
 {
     let mut last = 0;

@@ -2,10 +2,10 @@
 
 ghost use Rattle.std.specs.Prelude.{◌≡◌, ◌≤◌, ◌++◌, ◌∷◌, [], length, take, drop, map, if◌then◌else◌, IfOk, OnOk};
 ghost use Rattle.pz_base.specs.Name.{name_of};
-ghost use Rattle.pz_text.specs.Characters.{trimmed};
+ghost use Rattle.pz_text.specs.Characters.{trimmed_text};
 ghost use Rattle.pz_text.specs.Comment.{ends_word, word_after, is_first_after};
 ghost use Rattle.pz_text.specs.declared.line.Section.TheVariants.{Rules};
-ghost use Rattle.pz_source.specs.Rules.{closed, ended, words_from, rule_words};
+ghost use Rattle.pz_source.specs.Rules.{word_if_any, words_behind, words_from, rule_words};
 
 use pz_base::listed::Listed;
 use pz_base::name::Name;
@@ -28,7 +28,7 @@ pub(crate) fn push_word(
 }
 
 fn push_closed(alloc: Global, words: &mut Vec<Name>, word: &[char]) -> Result<(), AllocError>
-    ensures { OnOk result (words.new.items ≡ words.old.items ++ map name_of (closed word.now)) }
+    ensures { OnOk result (words.new.items ≡ words.old.items ++ map name_of (word_if_any word.now)) }
 {
     if word.is_empty() {
         return Ok(());
@@ -43,7 +43,7 @@ fn push_ended(
     cursor: &Cursor,
     c: char,
 ) -> Result<(), AllocError>
-    ensures { OnOk result (words.new.items ≡ words.old.items ++ map name_of (ended cursor.now.word.items c)) }
+    ensures { OnOk result (words.new.items ≡ words.old.items ++ map name_of (words_behind cursor.now.word.items c)) }
 {
     let word = cursor.word.as_slice();
     if c.is_whitespace() {
@@ -66,7 +66,7 @@ fn push_message(
 ) -> Result<(), AllocError>
     requires { 7 ≤ length word.now }
     ensures { OnOk result (words.new.items ≡
-        words.old.items ++ map name_of (take 7 word.now ∷ closed (trimmed (drop 7 word.now ++ rest.now)))) }
+        words.old.items ++ map name_of (take 7 word.now ∷ word_if_any (trimmed_text (drop 7 word.now ++ rest.now)))) }
 {
     let (message, begun) = word.split_at(7);
     push_word(alloc, words, message)?;
@@ -84,7 +84,7 @@ fn pass(
 ) -> Result<(), AllocError>
     ensures words { OnOk result
         (words.new.items ≡ words.old.items ++ map name_of
-        (if ends_word Rules cursor.old.is_first cursor.old.word.items c then ended cursor.old.word.items c else [])) }
+        (if ends_word Rules cursor.old.is_first cursor.old.word.items c then words_behind cursor.old.word.items c else [])) }
     ensures word { OnOk result (cursor.new.word.items ≡ word_after Rules cursor.old.is_first cursor.old.word.items c) }
     ensures first { OnOk result
         (cursor.new.is_first ≡ is_first_after Rules cursor.old.is_first cursor.old.word.items c) }

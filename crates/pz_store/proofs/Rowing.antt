@@ -10,7 +10,7 @@ use Rattle.pz_cells.specs.Sameness.{same_cell}
 use Rattle.pz_sheet.specs.Changes.{differ_in}
 use Rattle.pz_sheet.specs.Presence.{cell_of}
 use Rattle.pz_store.specs.Book.{AreDistinctCells, AreNumbers, BookState, CellSeen, Extends}
-use Rattle.pz_store.specs.Digest.{cell_word, mixed}
+use Rattle.pz_store.specs.Digest.{cell_word, digest_with}
 use Rattle.pz_store.specs.Levels.{AreRows, IsRow, level_of}
 use Rattle.pz_store.specs.Rows.{RowsState}
 use Rattle.std.proofs.Math.Seq.{drop-cons}
@@ -78,15 +78,15 @@ level_more frame cells rows news numbers grid is size are =
 
 -- the digest with one cell more
 pub digest_more : (objects : ℕ) (cells : List CellSeen) (numbers : List ℕ) (grid : Grid) (index number word digest total : ℕ) → AreNumbers cells numbers grid → slice_get numbers index ≡ Some number →
-    option_map (cell_word objects) (slice_get cells number) ≡ Some word → fold mixed digest (map (cell_word objects) (drop index grid.cells)) ≡ total →
-    fold mixed (mixed digest word) (map (cell_word objects) (drop (index + 1) grid.cells)) ≡ total
+    option_map (cell_word objects) (slice_get cells number) ≡ Some word → fold digest_with digest (map (cell_word objects) (drop index grid.cells)) ≡ total →
+    fold digest_with (digest_with digest word) (map (cell_word objects) (drop (index + 1) grid.cells)) ≡ total
 digest_more objects cells numbers grid index number word digest total are is told before =
     let within : index < length grid.cells = omega (arith, slice_get_within numbers index number is, are.long) in
     let more : index + 1 ≡ suc index = omega arith in
     let is_word : cell_word objects (cell_of grid index) ≡ word = same_Some (cell_word objects (cell_of grid index)) word (sym (ap (option_map (cell_word objects)) (are.each index number is)) ∙ told) in
-    ap (λ (n : ℕ). fold mixed (mixed digest word) (map (cell_word objects) (drop n grid.cells))) more
-    ∙ ap (λ (v : ℕ). fold mixed (mixed digest v) (map (cell_word objects) (drop (suc index) grid.cells))) (sym is_word)
-    ∙ ap (λ (l : List CellSeen). fold mixed digest (map (cell_word objects) l)) (sym (drop-cons grid.cells index [] within)) ∙ before
+    ap (λ (n : ℕ). fold digest_with (digest_with digest word) (map (cell_word objects) (drop n grid.cells))) more
+    ∙ ap (λ (v : ℕ). fold digest_with (digest_with digest v) (map (cell_word objects) (drop (suc index) grid.cells))) (sym is_word)
+    ∙ ap (λ (l : List CellSeen). fold digest_with digest (map (cell_word objects) l)) (sym (drop-cons grid.cells index [] within)) ∙ before
 
 -- two levels of the size of a third, with the same cells
 pub same_level : (frame a b : Grid) → SameSize frame a → SameSize frame b → length a.cells ≡ length b.cells → ((index : ℕ) → index < length a.cells → cell_of a index ≡ cell_of b index) → a ≡ b

@@ -15,8 +15,8 @@ unfoldable pub with_bit : ℕ → Bool → ℕ
 with_bit word is_set = (word * 2 + bit_of is_set) % 2 ^ 64
 
 -- a digest, mixed with one word more
-unfoldable pub mixed : ℕ → ℕ → ℕ
-mixed digest word = (((digest + word) % 2 ^ 64) * FACTOR) % 2 ^ 64
+unfoldable pub digest_with : ℕ → ℕ → ℕ
+digest_with digest word = (((digest + word) % 2 ^ 64) * FACTOR) % 2 ^ 64
 
 -- the first objects of a cell, as bits
 unfoldable pub cell_word : ℕ → List (Option Piece) → ℕ
@@ -25,4 +25,4 @@ cell_word (suc objects) cell = with_bit (cell_word objects cell) (is_in cell obj
 
 -- the digest of a level, by the first objects of its game
 abbrev pub digest_of : ℕ → Grid → ℕ
-digest_of objects grid = fold mixed 0 (map (cell_word objects) grid.cells)
+digest_of objects grid = fold digest_with 0 (map (cell_word objects) grid.cells)

@@ -2,7 +2,7 @@
 
 ghost use Rattle.std.specs.Prelude.{◌≡◌, ◌<◌, ◌%◌, ◌*◌, ◌+◌, ◌^◌, length};
 ghost use Rattle.pz_sheet.specs.Presence.{cell_of, is_in};
-ghost use Rattle.pz_store.specs.Digest.{bit_of, cell_word, mixed, with_bit};
+ghost use Rattle.pz_store.specs.Digest.{bit_of, cell_word, digest_with, with_bit};
 
 use pz_bare::BareLevel;
 
@@ -19,9 +19,9 @@ fn with_bit(word: u64, is_set: bool) -> u64
 }
 
 /// A digest, mixed with one word more.
-#[tactic(auto, unfolding(crate::specs::Digest::mixed))]
+#[tactic(auto, unfolding(crate::specs::Digest::digest_with))]
 pub(crate) fn mixed(digest: u64, word: u64) -> u64
-    ensures { result ≡ mixed digest word }
+    ensures { result ≡ digest_with digest word }
 {
     digest.wrapping_add(word).wrapping_mul(FACTOR)
 }

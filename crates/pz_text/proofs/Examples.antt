@@ -4,7 +4,7 @@ use Rattle.std.specs.Prelude.{true, false, Some, Err, codes, map}
 use Rattle.std.specs.Str.{chars}
 use Rattle.pz_text.specs.Check.{lines_of, misplaced_heading}
 use Rattle.pz_text.specs.Comment.{outside}
-use Rattle.pz_text.specs.Cutting.{cut}
+use Rattle.pz_text.specs.Cutting.{lines_of_text}
 use Rattle.pz_text.specs.declared.line.Line.{Line}
 use Rattle.pz_text.specs.declared.line.Section.TheVariants.{Prelude, Objects, Legend, Rules, Levels}
 use Rattle.pz_base.specs.declared.fault.Code.TheVariants as code
@@ -66,7 +66,7 @@ legend_message : outside Legend true [] 0 (codes "message (x") ≡ codes "messag
 legend_message = refl
 
 -- void lines and lines of `=` are left out, blank ones stand, and a heading begins its section
-lines : cut (joined (codes "title (" ∷ codes "===" ∷ codes " OBJECTS ( x" ∷ codes "a (" ∷ [] ∷ codes ") " ∷ codes "= =" ∷ [] ∷ codes "legend" ∷ []))
+lines : lines_of_text (joined (codes "title (" ∷ codes "===" ∷ codes " OBJECTS ( x" ∷ codes "a (" ∷ [] ∷ codes ") " ∷ codes "= =" ∷ [] ∷ codes "legend" ∷ []))
     ≡ record { number = 1; section = Prelude; is_heading = false; text = codes "title (" }
     ∷ record { number = 3; section = Objects; is_heading = true; text = codes "OBJECTS ( x" }
     ∷ record { number = 4; section = Objects; is_heading = false; text = codes "a" }
@@ -79,15 +79,15 @@ unfolding joined
 lines = refl
 
 -- `objects(x)` is one plain word of the prelude, and no heading
-glued_heading : map (λ (line : Line). line.is_heading) (cut (codes "objects(x)")) ≡ false ∷ []
+glued_heading : map (λ (line : Line). line.is_heading) (lines_of_text (codes "objects(x)")) ≡ false ∷ []
 glued_heading = refl
 
 -- a heading that is repeated, and one that comes after a later one
-repeated : misplaced_heading (cut (joined (codes "OBJECTS" ∷ codes "a" ∷ codes " Objects " ∷ []))) ≡ Some (record { code = code.Section; line = 3 })
+repeated : misplaced_heading (lines_of_text (joined (codes "OBJECTS" ∷ codes "a" ∷ codes " Objects " ∷ []))) ≡ Some (record { code = code.Section; line = 3 })
 unfolding joined
 repeated = refl
 
-late : misplaced_heading (cut (joined (codes "levels" ∷ codes "OBJECTS" ∷ []))) ≡ Some (record { code = code.Section; line = 2 })
+late : misplaced_heading (lines_of_text (joined (codes "levels" ∷ codes "OBJECTS" ∷ []))) ≡ Some (record { code = code.Section; line = 2 })
 unfolding joined
 late = refl
 

@@ -2,15 +2,15 @@
 use Rattle.std.specs.Prelude.{ℕ, ◌-◌, Bool, false, ◌==◌, List, length, slice_get}
 use Rattle.std.specs.Option.{option_map_or}
 use Rattle.std.specs.Str.{bytes_eq, skip_leading_whitespace, drop_trailing_whitespace}
-use Rattle.pz_base.specs.Name.{folded}
+use Rattle.pz_base.specs.Name.{lower_case}
 
 -- text.white-space: without the white space at both ends; all white space of Unicode counts
-abbrev pub trimmed : List ℕ → List ℕ
-trimmed cs = drop_trailing_whitespace (skip_leading_whitespace cs)
+abbrev pub trimmed_text : List ℕ → List ℕ
+trimmed_text cs = drop_trailing_whitespace (skip_leading_whitespace cs)
 
 -- the characters spell a keyword, in any case; the keyword itself is in small letters
 abbrev pub is_word : List ℕ → List ℕ → Bool
-is_word cs word = bytes_eq (folded cs) word
+is_word cs word = bytes_eq (lower_case cs) word
 
 -- the last character is this one
 abbrev pub ends_in : ℕ → List ℕ → Bool

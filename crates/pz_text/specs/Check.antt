@@ -4,7 +4,7 @@ use Rattle.std.specs.List.{list_any}
 use Rattle.std.specs.Str.{chars}
 use Rattle.pz_base.specs.Fault.{first_fault, unless}
 use Rattle.pz_text.specs.Section.{place_of, is_heading_of}
-use Rattle.pz_text.specs.Cutting.{cut}
+use Rattle.pz_text.specs.Cutting.{lines_of_text}
 use Rattle.pz_text.specs.declared.check.TheConstants.{MOST_BYTES}
 use Rattle.pz_text.specs.declared.line.Section.{Section}
 use Rattle.pz_text.specs.declared.line.Section.TheVariants.{Objects, Legend, Layers, Levels}
@@ -46,6 +46,6 @@ missing_section lines =
 abbrev pub lines_of : List ℕ → Result (List Line) SourceFault
 lines_of bytes =
     unless (too_long bytes)
-    (unless (misplaced_heading (cut (chars bytes)))
-    (unless (missing_section (cut (chars bytes)))
-    (Ok (cut (chars bytes)))))
+    (unless (misplaced_heading (lines_of_text (chars bytes)))
+    (unless (missing_section (lines_of_text (chars bytes)))
+    (Ok (lines_of_text (chars bytes)))))

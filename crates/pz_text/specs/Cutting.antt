@@ -1,7 +1,7 @@
 -- The lines of a source.
 use Rattle.std.specs.Prelude.{ℕ, ◌+◌, Bool, true, ◌&&◌, ◌||◌, ◌==◌, if◌then◌else◌, nat_lt, List, [], ◌∷◌, ◌++◌, length, is_some, unwrap_or}
 use Rattle.std.specs.List.{slice_split}
-use Rattle.pz_text.specs.Characters.{trimmed}
+use Rattle.pz_text.specs.Characters.{trimmed_text}
 use Rattle.pz_text.specs.Comment.{outside, depth_after}
 use Rattle.pz_text.specs.Heading.{heading_in}
 use Rattle.pz_text.specs.declared.line.Section.{Section}
@@ -25,9 +25,9 @@ is_left_out depth line left text =
 abbrev pub lines_from : Section → ℕ → ℕ → List (List ℕ) → List Line
 lines_from section depth number [] = []
 lines_from section depth number (raw ∷ more) =
-    let line = trimmed raw in
+    let line = trimmed_text raw in
     let left = outside section true [] depth line in
-    let text = trimmed left in
+    let text = trimmed_text left in
     let heading = heading_in section text in
     let after = unwrap_or heading section in
     (if is_left_out depth line left text then []
@@ -35,5 +35,5 @@ lines_from section depth number (raw ∷ more) =
     ++ lines_from after (depth_after section true [] depth line) (number + 1) more
 
 -- text.lines: the lines of a text; a line ends at a line feed
-abbrev pub cut : List ℕ → List Line
-cut text = lines_from Prelude 0 1 (slice_split (λ c. c == 10) text)
+abbrev pub lines_of_text : List ℕ → List Line
+lines_of_text text = lines_from Prelude 0 1 (slice_split (λ c. c == 10) text)

@@ -2,7 +2,7 @@
 
 ghost use Rattle.std.specs.Prelude.{◌≡◌, ◌≤◌, length, IfOk};
 ghost use Rattle.std.specs.Str.{chars};
-ghost use Rattle.pz_text.specs.Characters.{trimmed, is_word, ends_in};
+ghost use Rattle.pz_text.specs.Characters.{trimmed_text, is_word, ends_in};
 
 use std::alloc::{AllocError, Global};
 
@@ -16,7 +16,7 @@ pub fn characters(alloc: Global, text: &str) -> Result<Vec<char>, AllocError>
 
 /// The characters without the white space at both ends. Rule `text.white-space`.
 pub fn trimmed(line: &[char]) -> &[char]
-    ensures value { result.now ≡ trimmed line.now }
+    ensures value { result.now ≡ trimmed_text line.now }
     ensures shorter { length result.now ≤ length line.now }
 {
     let mut rest = line;

@@ -2,9 +2,9 @@
 
 ghost use Rattle.std.specs.Prelude.{◌≡◌, ◌≤◌, ◌<◌, ◌+◌, ◌++◌, ◌∷◌, ◌^◌, ◌==◌, ℕ, List, [], length, map, true, IfOk, option_to_list};
 ghost use Rattle.std.specs.List.{slice_split};
-ghost use Rattle.pz_text.specs.Characters.{trimmed};
+ghost use Rattle.pz_text.specs.Characters.{trimmed_text};
 ghost use Rattle.pz_text.specs.Comment.{outside, depth_after};
-ghost use Rattle.pz_text.specs.Cutting.{holds_only, is_left_out, lines_from, cut};
+ghost use Rattle.pz_text.specs.Cutting.{holds_only, is_left_out, lines_from, lines_of_text};
 
 use crate::characters::trimmed;
 use crate::comment::{opens_bracket, outside};
@@ -63,7 +63,7 @@ fn line_of(
     requires left { left.now ≡ outside before.section true [] before.depth line.now }
     requires depth { depth ≡ depth_after before.section true [] before.depth line.now }
     ensures lines { IfOk result
-        (λ r. (raw : List ℕ) (more : List (List ℕ)) → line.now ≡ trimmed raw →
+        (λ r. (raw : List ℕ) (more : List (List ℕ)) → line.now ≡ trimmed_text raw →
         lines_from before.section before.depth number (raw ∷ more) ≡
         option_to_list r.0 ++ lines_from r.1.section r.1.depth (number + 1) more) }
     ensures behind { IfOk result (λ r. r.1.depth ≡ depth) }
@@ -108,7 +108,7 @@ fn read_line(
 /// The lines of a text, without comments. Blank lines are kept. Void lines and lines of only `=` are left out. Rule `text.lines`.
 pub fn cut(alloc: Global, text: &[char]) -> Result<Vec<Line>, AllocError>
     requires { length text.now < 2 ^ 31 }
-    ensures { IfOk result (λ lines. lines.items ≡ cut text.now) }
+    ensures { IfOk result (λ lines. lines.items ≡ lines_of_text text.now) }
 {
     let parts = raw_lines(alloc, text)?;
     let mut lines = Vec::new(alloc);

@@ -10,8 +10,8 @@ use Rattle.pz_turn.specs.declared.outcome.StepFault.{StepFault}
 use Rattle.pz_turn.specs.declared.outcome.StepFault.TheVariants.{MatchLimit}
 use Rattle.pz_turn.specs.Combinations.{combinations}
 use Rattle.pz_turn.specs.Applying.{places_of_rows, applied_at, applied_to, applied_with}
-unfoldable use Rattle.pz_turn.specs.Applying.{applied}
-use Rattle.pz_turn.specs.Outcome.{Outcome, untouched}
+unfoldable use Rattle.pz_turn.specs.Applying.{application_of}
+use Rattle.pz_turn.specs.Outcome.{Outcome, nothing_run}
 use Rattle.pz_trace.proofs.Carrying.{carries_applied}
 use Rattle.pz_trace.specs.Firings.{Fired, are_some, has_fired, told_if, fired_at, fired_to, fired_with}
 unfoldable use Rattle.pz_trace.specs.Firings.{firing_of}
@@ -47,11 +47,11 @@ agrees_with : (instance : Instance) (grid : Grid) (found : Result (List (List Pl
 agrees_with instance grid (Err fault) = refl
 agrees_with instance grid (Ok lists) = agrees_to instance grid (combinations lists)
 
-pub agrees : (instance : Instance) (grid : Grid) → Agrees (applied instance grid) (firing_of instance grid)
-unfolding applied firing_of
+pub agrees : (instance : Instance) (grid : Grid) → Agrees (application_of instance grid) (firing_of instance grid)
+unfolding application_of firing_of
 agrees instance grid = agrees_with instance grid (places_of_rows grid instance.scan instance.left)
 
-none_are : (grid : Grid) (gave : Result Fired StepFault) → Agrees (Ok (untouched grid)) gave → gave ≡ Ok (record { level = grid; places = [] })
+none_are : (grid : Grid) (gave : Result Fired StepFault) → Agrees (Ok (nothing_run grid)) gave → gave ≡ Ok (record { level = grid; places = [] })
 none_are grid (Err fault) agree = absurd agree
 none_are grid (Ok gave) agree = grind (arith, agree, no_places gave.places) where
   no_places : (places : List (List Place)) → false ≡ are_some places → places ≡ []
@@ -59,9 +59,9 @@ none_are grid (Ok gave) agree = grind (arith, agree, no_places gave.places) wher
   no_places (first ∷ more) none = absurd cc
 
 -- an instance that leaves the level untouched doesn't fire
-pub none_fires : (instance : Instance) (grid : Grid) → applied instance grid ≡ Ok (untouched grid) → firing_of instance grid ≡ Ok (record { level = grid; places = [] })
+pub none_fires : (instance : Instance) (grid : Grid) → application_of instance grid ≡ Ok (nothing_run grid) → firing_of instance grid ≡ Ok (record { level = grid; places = [] })
 none_fires instance grid is =
-    let known : Agrees (applied instance grid) (firing_of instance grid) = agrees instance grid in
+    let known : Agrees (application_of instance grid) (firing_of instance grid) = agrees instance grid in
     none_are grid (firing_of instance grid) (rw is at known)
 
 -- it fires at these combinations

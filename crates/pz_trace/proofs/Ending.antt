@@ -9,10 +9,10 @@ use Rattle.pz_program.specs.declared.commands.Commands.{Commands}
 use Rattle.pz_program.specs.declared.instance.Block.{Block}
 use Rattle.pz_program.specs.declared.instance.Program.{Program}
 use Rattle.pz_sheet.specs.Grid.{Grid}
-use Rattle.pz_grid.specs.Movement.{resolved}
+use Rattle.pz_grid.specs.Movement.{after_movement}
 use Rattle.pz_turn.specs.declared.outcome.StepFault.{StepFault}
-use Rattle.pz_turn.specs.Outcome.{Outcome, untouched, followed_by, joined}
-use Rattle.pz_turn.specs.Step.{given_input, moved, then_moved, step_ended}
+use Rattle.pz_turn.specs.Outcome.{Outcome, nothing_run, followed_by, outcome_behind}
+use Rattle.pz_turn.specs.Step.{given_input, with_movement, then_moved, step_ended}
 unfoldable use Rattle.pz_turn.specs.Step.{block_runs, blocks_run, rules_run, step_of}
 use Rattle.pz_turn.proofs.Passes.{either_comm}
 use Rattle.pz_turn.proofs.Segments.{follow_pass}
@@ -42,7 +42,7 @@ Ends later f = (so_far before : Outcome Grid) → end_after before (later (stand
 module _ (part : ℕ → Part) (later : Standing → Course) (f : Outcome Grid → Result (Outcome Grid) StepFault) (ends : Ends later f) where
   -- one block, which gave this, and those behind it
   one_ends : (number : ℕ) (blocks : List Block) → ((so_far before : Outcome Grid) → end_after before (blocks_from part (suc number) later blocks (standing_of so_far)) ≡ on_ok f (fold step (Ok so_far) blocks))
-      → (so_far before : Outcome Grid) (r : Result (Outcome Grid) StepFault) → end_after before (going_on (part number) (standing_of so_far) (blocks_from part (suc number) later blocks) r) ≡ on_ok f (fold step (joined so_far r) blocks)
+      → (so_far before : Outcome Grid) (r : Result (Outcome Grid) StepFault) → end_after before (going_on (part number) (standing_of so_far) (blocks_from part (suc number) later blocks) r) ≡ on_ok f (fold step (outcome_behind so_far r) blocks)
   one_ends number blocks behind so_far before (Err fault) = ap (on_ok f) (sym (fold_stays step (Err fault) (λ x. refl) blocks))
   one_ends number blocks behind so_far before (Ok gave) = behind (record { level = gave.level; commands = either so_far.commands gave.commands; changed = so_far.changed || gave.changed }) gave
 
@@ -64,12 +64,12 @@ module _ (asked : Asked) where
 
   -- from the movement on
   abbrev at_movement : Outcome Grid → Result (Outcome Grid) StepFault
-  at_movement so_far = on_ok at_end (fold step (Ok (moved so_far)) asked.program.late)
+  at_movement so_far = on_ok at_end (fold step (Ok (with_movement so_far)) asked.program.late)
 
   movement_ends : (so_far before : Outcome Grid) → end_after before (movement_from asked (standing_of so_far)) ≡ at_movement so_far
   movement_ends so_far before =
-      ap (λ (c : Commands). end_after (change_between so_far.level (resolved so_far.level)) (late_from asked 0 (record { level = resolved so_far.level; commands = c }))) (either_none so_far.commands)
-      ∙ late_ends (moved so_far) (change_between so_far.level (resolved so_far.level))
+      ap (λ (c : Commands). end_after (change_between so_far.level (after_movement so_far.level)) (late_from asked 0 (record { level = after_movement so_far.level; commands = c }))) (either_none so_far.commands)
+      ∙ late_ends (with_movement so_far) (change_between so_far.level (after_movement so_far.level))
 
   early_ends : (so_far before : Outcome Grid) → end_after before (early_from asked 0 (standing_of so_far)) ≡ on_ok at_movement (fold step (Ok so_far) asked.program.early)
   early_ends so_far before = blocks_end Early (movement_from asked) at_movement movement_ends 0 asked.program.early so_far before
@@ -78,7 +78,7 @@ module _ (asked : Asked) where
 rules_end : (asked : Asked) (early : Result (Outcome Grid) StepFault) → on_ok (at_movement asked) early ≡ step_ended asked.game asked.input asked.grid (followed_by (then_moved early) (blocks_run asked.program.late))
 unfolding blocks_run
 rules_end asked (Err fault) = refl
-rules_end asked (Ok o) = ends (fold step (Ok (moved o)) asked.program.late) ∙ ap (step_ended asked.game asked.input asked.grid) (sym (follow_pass block_runs (Ok (moved o)) asked.program.late)) where
+rules_end asked (Ok o) = ends (fold step (Ok (with_movement o)) asked.program.late) ∙ ap (step_ended asked.game asked.input asked.grid) (sym (follow_pass block_runs (Ok (with_movement o)) asked.program.late)) where
   ends : (r : Result (Outcome Grid) StepFault) → on_ok (at_end asked) r ≡ step_ended asked.game asked.input asked.grid r
   ends (Err fault) = refl
   ends (Ok o) = refl
@@ -88,4 +88,4 @@ unfolding stages_of step_of rules_run blocks_run
 stages_end game program grid input =
     let asked : Asked = record { game = game; program = program; grid = grid; input = input } in
     let start = given_input (players_of game) input grid in
-    early_ends asked (untouched start) (change_between grid start) ∙ rules_end asked (fold step (Ok (untouched start)) program.early)
+    early_ends asked (nothing_run start) (change_between grid start) ∙ rules_end asked (fold step (Ok (nothing_run start)) program.early)

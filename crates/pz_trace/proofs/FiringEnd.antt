@@ -11,9 +11,9 @@ use Rattle.pz_sheet.specs.Grid.{Grid}
 use Rattle.pz_grid.specs.declared.placing.Place.{Place}
 use Rattle.pz_turn.specs.declared.outcome.StepFault.{StepFault}
 use Rattle.pz_turn.specs.declared.resting.TheConstants.{PASSES}
-use Rattle.pz_turn.specs.Outcome.{Outcome, joined, followed_by}
+use Rattle.pz_turn.specs.Outcome.{Outcome, outcome_behind, followed_by}
 use Rattle.pz_turn.specs.Rest.{Runs, pass_of, rest_of, group_runs}
-use Rattle.pz_turn.specs.Applying.{applied}
+use Rattle.pz_turn.specs.Applying.{application_of}
 unfoldable use Rattle.pz_turn.specs.Step.{block_runs}
 use Rattle.pz_turn.proofs.Segments.{follow_pass}
 use Rattle.pz_turn.proofs.Unchanged.{Leaves, applied_leaves}
@@ -60,14 +60,14 @@ module _ (moment : Moment) (line : ℕ) (scan : Dir) (later : Later) (grid : Gri
   told_ends (Err fault) (Ok firing_and_later) never leaves = absurd never
   told_ends (Ok gave) (Err fault) never leaves = absurd never
 
-instance_ends : (rules : List RuleLine) (moment : Moment) (instance : Instance) → Ends (told_instance rules moment instance) (applied instance)
-instance_ends rules moment instance later grid any = told_ends moment _ instance.scan later grid any (applied instance grid) (firing_of instance grid) (agrees instance grid) (applied_leaves instance grid)
+instance_ends : (rules : List RuleLine) (moment : Moment) (instance : Instance) → Ends (told_instance rules moment instance) (application_of instance)
+instance_ends rules moment instance later grid any = told_ends moment _ instance.scan later grid any (application_of instance grid) (firing_of instance grid) (agrees instance grid) (applied_leaves instance grid)
 
 -- ---- a pass
 module _ {I : Type 0} (tells : ℕ → I → Telling) (runs : I → Runs Grid) (each : (number : ℕ) (item : I) → Ends (tells number item) (runs item)) where
   -- two outcomes, one after the other
   twice : (later : Later) (any changed : Bool) (first : Outcome Grid) (r : Result (Outcome Grid) StepFault)
-      → on_ok (then_later later (any || first.changed) (changed || first.changed)) r ≡ on_ok (then_later later any changed) (joined first r)
+      → on_ok (then_later later (any || first.changed) (changed || first.changed)) r ≡ on_ok (then_later later any changed) (outcome_behind first r)
   twice later any changed first (Err fault) = refl
   twice later any changed first (Ok second) =
       ap₂ (λ (a c : Bool). end_behind (at second.level a) (later c second.level)) (or_assoc any first.changed second.changed) (or_assoc changed first.changed second.changed)
@@ -100,13 +100,13 @@ module _ (tells : ℕ → Telling) (runs : Runs Grid) (each : (number : ℕ) →
 
   -- behind a first pass that changed something
   twice_more : (number : ℕ) (later : Later) (any : Bool) (first : Outcome Grid) (r : Result (Outcome Grid) StepFault) → first.changed ≡ true
-      → on_ok (then_later later (any || true) (nat_lt 0 (suc number))) r ≡ on_ok (then_later later any (nat_lt 0 number)) (joined first r)
+      → on_ok (then_later later (any || true) (nat_lt 0 (suc number))) r ≡ on_ok (then_later later any (nat_lt 0 number)) (outcome_behind first r)
   twice_more number later any first (Err fault) changes = refl
   twice_more number later any first (Ok second) changes = grind (arith, changes, or-true any, or-true (nat_lt 0 number))
 
   behind_first : (left : ℕ) → Rests left → (number : ℕ) (later : Later) (any : Bool) (first : Outcome Grid) (b : Bool) → first.changed ≡ b
       → end_behind (at first.level (any || b)) (if b then told_rest tells left (suc number) later first.level else later (nat_lt 0 number) first.level)
-      ≡ on_ok (then_later later any (nat_lt 0 number)) (if b then joined first (rest_of left runs first.level) else Ok first)
+      ≡ on_ok (then_later later any (nat_lt 0 number)) (if b then outcome_behind first (rest_of left runs first.level) else Ok first)
   behind_first left ends number later any first true changes = ends (suc number) later first.level (any || true) ∙ twice_more number later any first (rest_of left runs first.level) changes
   behind_first left ends number later any first false none = grind (arith, none, or-false (nat_lt 0 number))
 
@@ -125,14 +125,14 @@ module _ (tells : ℕ → Telling) (runs : Runs Grid) (each : (number : ℕ) →
       ∙ ap (on_ok (then_later later any (nat_lt 0 number))) (sym (rest_by_first left runs grid))
 
 -- ---- a block
-group_ends : (rules : List RuleLine) (round number : ℕ) (group : List Instance) → Ends (told_group rules round number group) (group_runs PASSES applied group)
+group_ends : (rules : List RuleLine) (round number : ℕ) (group : List Instance) → Ends (told_group rules round number group) (group_runs PASSES application_of group)
 group_ends rules round number group later grid any =
-    rest_ends (told_pass rules round number group) (pass_of applied group)
-    (λ pass. pass_ends (λ at. told_instance rules (record { round = round; group = number; pass = pass; instance = at })) applied (λ at. instance_ends rules (record { round = round; group = number; pass = pass; instance = at })) group)
+    rest_ends (told_pass rules round number group) (pass_of application_of group)
+    (λ pass. pass_ends (λ at. told_instance rules (record { round = round; group = number; pass = pass; instance = at })) application_of (λ at. instance_ends rules (record { round = round; group = number; pass = pass; instance = at })) group)
     PASSES 0 later grid any
 
-round_ends : (rules : List RuleLine) (groups : List (List Instance)) (round : ℕ) → Ends (told_round rules groups round) (pass_of (group_runs PASSES applied) groups)
-round_ends rules groups round = pass_ends (told_group rules round) (group_runs PASSES applied) (group_ends rules round) groups
+round_ends : (rules : List RuleLine) (groups : List (List Instance)) (round : ℕ) → Ends (told_round rules groups round) (pass_of (group_runs PASSES application_of) groups)
+round_ends rules groups round = pass_ends (told_group rules round) (group_runs PASSES application_of) (group_ends rules round) groups
 
 ok_ends : (grid : Grid) (r : Result (Outcome Grid) StepFault) → on_ok (then_later nothing_later false false) r ≡ without_commands r
 ok_ends grid (Err fault) = refl
@@ -140,7 +140,7 @@ ok_ends grid (Ok gave) = refl
 
 pub firings_end : (rules : List RuleLine) (block : Block) (grid : Grid) → end_in grid (firings_of rules block grid) ≡ without_commands (block_runs block grid)
 unfolding firings_of block_runs
-firings_end rules (One group) grid = group_ends rules 0 0 group nothing_later grid false ∙ ok_ends grid (group_runs PASSES applied group grid)
+firings_end rules (One group) grid = group_ends rules 0 0 group nothing_later grid false ∙ ok_ends grid (group_runs PASSES application_of group grid)
 firings_end rules (Loop groups) grid =
-    rest_ends (told_round rules groups) (pass_of (group_runs PASSES applied) groups) (round_ends rules groups) PASSES 0 nothing_later grid false
-    ∙ ok_ends grid (rest_of PASSES (pass_of (group_runs PASSES applied) groups) grid)
+    rest_ends (told_round rules groups) (pass_of (group_runs PASSES application_of) groups) (round_ends rules groups) PASSES 0 nothing_later grid false
+    ∙ ok_ends grid (rest_of PASSES (pass_of (group_runs PASSES application_of) groups) grid)

@@ -7,36 +7,36 @@ use Rattle.std.specs.Prelude.{if◌then◌else◌}
 use Rattle.pz_program.specs.Commands.{no_commands, either}
 use Rattle.pz_turn.specs.declared.outcome.StepFault.{StepFault}
 use Rattle.pz_turn.specs.declared.outcome.StepFault.TheVariants.{LoopLimit}
-use Rattle.pz_turn.specs.Outcome.{Outcome, untouched, joined, followed_by}
+use Rattle.pz_turn.specs.Outcome.{Outcome, nothing_run, outcome_behind, followed_by}
 use Rattle.pz_turn.specs.Rest.{Runs, passes, ends, ends_after, is_last, up_to}
 unfoldable use Rattle.pz_turn.specs.Rest.{rest_of}
 use Rattle.pz_turn.proofs.Passes.{either_assoc, either_comm}
 
 module _ {L : Type 0} where
-  pub joined_untouched : (level : L) (r : Result (Outcome L) StepFault) → joined (untouched level) r ≡ r
+  pub joined_untouched : (level : L) (r : Result (Outcome L) StepFault) → outcome_behind (nothing_run level) r ≡ r
   joined_untouched level (Err fault) = refl
   joined_untouched level (Ok o) = grind (arith, either_comm no_commands o.commands, either_comm o.commands no_commands)
 
-  joined_none : (o : Outcome L) → joined o (Ok (untouched o.level)) ≡ Ok o
+  joined_none : (o : Outcome L) → outcome_behind o (Ok (nothing_run o.level)) ≡ Ok o
   joined_none o = grind (arith, either_comm o.commands no_commands, or-false o.changed)
 
-  joined_follow : (o : Outcome L) (a : Result (Outcome L) StepFault) (run : Runs L) → followed_by (joined o a) run ≡ joined o (followed_by a run)
+  joined_follow : (o : Outcome L) (a : Result (Outcome L) StepFault) (run : Runs L) → followed_by (outcome_behind o a) run ≡ outcome_behind o (followed_by a run)
   joined_follow o (Err fault) run = refl
   joined_follow o (Ok p) run = twice (run p.level) where
     twice : (r : Result (Outcome L) StepFault)
-        → joined (record { level = p.level; commands = either o.commands p.commands; changed = o.changed || p.changed }) r ≡ joined o (joined p r)
+        → outcome_behind (record { level = p.level; commands = either o.commands p.commands; changed = o.changed || p.changed }) r ≡ outcome_behind o (outcome_behind p r)
     twice r = grind (arith, either_assoc, or_assoc)
 
-  ends_joined : (pass : Runs L) (o : Outcome L) (a : Result (Outcome L) StepFault) → ends_after pass (joined o a) ≡ ends_after pass a
+  ends_joined : (pass : Runs L) (o : Outcome L) (a : Result (Outcome L) StepFault) → ends_after pass (outcome_behind o a) ≡ ends_after pass a
   ends_joined pass o (Err fault) = refl
   ends_joined pass o (Ok p) = refl
 
   -- the passes behind the first one
-  passes_behind : (pass : Runs L) (level : L) (o : Outcome L) → pass level ≡ Ok o → (n : ℕ) → passes pass (suc n) level ≡ joined o (passes pass n o.level)
+  passes_behind : (pass : Runs L) (level : L) (o : Outcome L) → pass level ≡ Ok o → (n : ℕ) → passes pass (suc n) level ≡ outcome_behind o (passes pass n o.level)
   passes_behind pass level o is zero = joined_untouched level (pass level) ∙ is ∙ sym (joined_none o)
   passes_behind pass level o is (suc n) = ap (λ (r : Result (Outcome L) StepFault). followed_by r pass) (passes_behind pass level o is n) ∙ joined_follow o (passes pass n o.level) pass
 
-  up_behind : (pass : Runs L) (level : L) (o : Outcome L) → pass level ≡ Ok o → (last : Option ℕ) → up_to pass level (option_map suc last) ≡ joined o (up_to pass o.level last)
+  up_behind : (pass : Runs L) (level : L) (o : Outcome L) → pass level ≡ Ok o → (last : Option ℕ) → up_to pass level (option_map suc last) ≡ outcome_behind o (up_to pass o.level last)
   up_behind pass level o is None = refl
   up_behind pass level o is (Some n) = passes_behind pass level o is (suc n)
 
@@ -55,7 +55,7 @@ find_behind test before same (suc n) a =
 -- what a first pass gave, and what follows it
 abbrev pub rested : {L : Type 0} → ℕ → Runs L → Result (Outcome L) StepFault → Result (Outcome L) StepFault
 rested left pass (Err fault) = Err fault
-rested left pass (Ok o) = if o.changed then joined o (rest_of left pass o.level) else Ok o
+rested left pass (Ok o) = if o.changed then outcome_behind o (rest_of left pass o.level) else Ok o
 
 module _ {L : Type 0} (left : ℕ) (pass : Runs L) (level : L) where
   abbrev later : Option ℕ
@@ -66,7 +66,7 @@ module _ {L : Type 0} (left : ℕ) (pass : Runs L) (level : L) where
   unfolding rest_of
   first_pass (Err fault) is = joined_untouched level (pass level) ∙ is
   first_pass (Ok o) is = by o.changed refl where
-    by : (b : Bool) → o.changed ≡ b → up_to pass level (cond (not b) (Some 0) later) ≡ (if b then joined o (rest_of left pass o.level) else Ok o)
+    by : (b : Bool) → o.changed ≡ b → up_to pass level (cond (not b) (Some 0) later) ≡ (if b then outcome_behind o (rest_of left pass o.level) else Ok o)
     by false none = joined_untouched level (pass level) ∙ is
     by true some =
         let same : (k : ℕ) → is_last pass level (suc k) ≡ is_last pass o.level k = λ k. ap (ends_after pass) (passes_behind pass level o is k) ∙ ends_joined pass o (passes pass k o.level) in

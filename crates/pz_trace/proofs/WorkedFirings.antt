@@ -11,7 +11,7 @@ use Rattle.pz_program.specs.declared.instance.Instance.{Instance}
 use Rattle.pz_program.specs.declared.instance.Block.TheVariants.{One, Loop}
 use Rattle.pz_sheet.specs.Grid.{Grid}
 use Rattle.pz_grid.specs.declared.placing.Place.{Place}
-unfoldable use Rattle.pz_grid.specs.Places.{searched}
+unfoldable use Rattle.pz_grid.specs.Places.{places_or_limit}
 use Rattle.pz_turn.specs.declared.outcome.StepFault.TheVariants.{LoopLimit}
 use Rattle.pz_trace.specs.Firings.{FiringState, over, nothing_later, told_pass}
 unfoldable use Rattle.pz_trace.specs.Firings.{firing_of, firings_of, told_rest}
@@ -62,7 +62,7 @@ fires :
     × (firing_of crates (strip (bare ∷ one 2 ∷ [])) ≡ Ok (record { level = strip (bare ∷ one 2 ∷ []); places = [] }))
     -- at (0, 0) the cell becomes a crate and then the player again, which counts; at (1, 0) the other cell a crate; the rest no longer holds
     × (firing_of turns (strip (one 1 ∷ one 1 ∷ bare ∷ [])) ≡ Ok (record { level = strip (one 1 ∷ one 2 ∷ bare ∷ []); places = (place 0 ∷ place 0 ∷ []) ∷ (place 1 ∷ place 0 ∷ []) ∷ [] }))
-unfolding firing_of searched
+unfolding firing_of places_or_limit
 fires = (refl, refl, refl)
 
 -- an instance that fired at one place
@@ -88,5 +88,5 @@ blocks :
       firings = at 0 0 0 0 0 (one 2 ∷ []) ∷ at 0 0 0 1 0 (one 1 ∷ []) ∷ at 0 0 1 0 0 (one 2 ∷ []) ∷ at 0 0 1 1 0 (one 1 ∷ []) ∷ [];
       stop = Some LoopLimit;
     })
-unfolding firings_of told_rest firing_of searched
+unfolding firings_of told_rest firing_of places_or_limit
 blocks = (refl, refl, refl, refl)

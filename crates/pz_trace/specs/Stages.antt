@@ -11,10 +11,10 @@ use Rattle.pz_program.specs.declared.instance.Block.{Block}
 use Rattle.pz_program.specs.declared.instance.Program.{Program}
 use Rattle.pz_sheet.specs.Grid.{Grid}
 use Rattle.pz_sheet.specs.Sameness.{same_grid}
-use Rattle.pz_grid.specs.Movement.{resolved}
+use Rattle.pz_grid.specs.Movement.{after_movement}
 use Rattle.pz_turn.specs.declared.outcome.StepFault.{StepFault}
-use Rattle.pz_turn.specs.Outcome.{Outcome, untouched}
-use Rattle.pz_turn.specs.Step.{block_runs, given_input, must_cancel, with_cancel, ended}
+use Rattle.pz_turn.specs.Outcome.{Outcome, nothing_run}
+use Rattle.pz_turn.specs.Step.{block_runs, given_input, must_cancel, with_cancel, end_of_step}
 use Rattle.pz_trace.specs.declared.stage.Part.{Part}
 use Rattle.pz_trace.specs.declared.stage.Part.TheVariants.{Input, Early, Movement, Late, End}
 
@@ -72,7 +72,7 @@ pub record Asked : Type 0 where
 -- stages.end: the end: the step may be cancelled, and then ends with the level before it
 abbrev pub end_of : Asked → Standing → Outcome Grid
 end_of asked standing =
-    ended asked.grid standing.level (with_cancel (must_cancel asked.game asked.input asked.grid standing.level) standing.commands)
+    end_of_step asked.grid standing.level (with_cancel (must_cancel asked.game asked.input asked.grid standing.level) standing.commands)
 
 abbrev pub end_from : Asked → Standing → Course
 end_from asked standing = with_stage_before (record { part = End; gave = end_of asked standing }) over
@@ -83,7 +83,7 @@ late_from asked number standing = blocks_from Late number (end_from asked) (drop
 
 -- stages.movement: from the movement on
 abbrev pub movement_from : Asked → Standing → Course
-movement_from asked standing = going_on Movement standing (late_from asked 0) (Ok (change_between standing.level (resolved standing.level)))
+movement_from asked standing = going_on Movement standing (late_from asked 0) (Ok (change_between standing.level (after_movement standing.level)))
 
 -- stages.early: from the early block of this number on
 abbrev pub early_from : Asked → ℕ → Standing → Course
@@ -101,7 +101,7 @@ stages_of game program grid input =
 
 -- what the last of these stages gave, or else nothing has happened
 abbrev pub last_gave : Grid → List StageState → Outcome Grid
-last_gave grid stages = fold (λ before stage. stage.gave) (untouched grid) stages
+last_gave grid stages = fold (λ before stage. stage.gave) (nothing_run grid) stages
 
 -- how a step with these stages ends
 abbrev pub end_in : Grid → Course → Result (Outcome Grid) StepFault

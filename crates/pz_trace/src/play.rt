@@ -6,9 +6,9 @@ ghost use Rattle.pz_program.specs.Commands.{either};
 ghost use Rattle.pz_program.specs.Instance.{IsBlockOf};
 ghost use Rattle.pz_sheet.specs.Grid.{IsOfGame, SameSize};
 ghost use Rattle.pz_sheet.specs.Sameness.{same_grid};
-ghost use Rattle.pz_grid.specs.Movement.{resolved};
+ghost use Rattle.pz_grid.specs.Movement.{after_movement};
 ghost use Rattle.pz_turn.specs.Outcome.{GivesBoth, UnlessMemory};
-ghost use Rattle.pz_turn.specs.Step.{block_runs, ended, given_input};
+ghost use Rattle.pz_turn.specs.Step.{block_runs, end_of_step, given_input};
 
 use crate::stage::{Part, Stage};
 use bitflags::Flags;
@@ -38,7 +38,7 @@ fn give_input(game: &Game, level: &mut Level, before: &Level, input: Option<Dir>
 /// Moves what heads somewhere. Whether the level differs then.
 fn move_all(game: &Game, level: &mut Level) -> Result<bool, AllocError>
     requires level_of { IsOfGame game.now level.old.grid }
-    ensures moved { IfOk result (λ changed. level.new.grid ≡ resolved level.old.grid) }
+    ensures moved { IfOk result (λ changed. level.new.grid ≡ after_movement level.old.grid) }
     ensures changed { IfOk result (λ changed. changed ≡ not (same_grid level.new.grid level.old.grid)) }
     ensures size { SameSize level.old.grid level.new.grid }
 {
@@ -70,7 +70,7 @@ fn run_block(
 fn end_level(before: &Level, level: &mut Level, commands: Commands) -> Result<bool, AllocError>
     requires size { SameSize before.now.grid level.old.grid }
     ensures end { IfOk result
-        (λ changed. ended before.now.grid level.old.grid commands ≡
+        (λ changed. end_of_step before.now.grid level.old.grid commands ≡
         record { level = level.new.grid; commands = commands; changed = changed }) }
     ensures size { SameSize before.now.grid level.new.grid }
 {

@@ -12,7 +12,7 @@ pub use Rattle.std.proofs.lemmas.Result.{err_from_is_err_and}
 pub use Rattle.std.specs.List.{All, enumerate_from, find, flat_map, list_all, list_any, range_with_len, zip}
 pub use Rattle.std.specs.Prelude.{IfOk, codes}
 pub use Rattle.pz_cells.proofs.SameLemmas.{same_cell_is, same_cell_self}
-pub use Rattle.pz_cells.specs.Rewriting.{kept, new_heading, replaced, rewritten_cell, rewritten_place}
+pub use Rattle.pz_cells.specs.Rewriting.{kept, new_heading, piece_after, rewritten_cell, rewritten_place}
 pub use Rattle.pz_cells.specs.declared.piece.Piece.{Piece}
 pub use Rattle.pz_game.specs.Game.{players_of}
 pub use Rattle.pz_game.specs.Pattern.{AreRowsOf, AsksAmong, IsRowOf, RuleRow}
@@ -24,8 +24,8 @@ pub use Rattle.pz_grid.proofs.CountLemmas.{searched-gapless, searched-small}
 pub use Rattle.pz_grid.proofs.FoundLemmas.{searched-gives, searched-within}
 pub use Rattle.pz_grid.proofs.MovementLemmas.{same_size_on}
 pub use Rattle.pz_grid.specs.Places.{along, holds_at, places, position_of, row_of_one, still_holds}
-unfoldable pub use Rattle.pz_grid.specs.Places.{searched}
-pub use Rattle.pz_grid.specs.Rewriting.{Rewriting, in_rewrite, rewritten, rewritten_along, rewritten_at, rewritten_row}
+unfoldable pub use Rattle.pz_grid.specs.Places.{places_or_limit}
+pub use Rattle.pz_grid.specs.Rewriting.{Rewriting, in_rewrite, after_rewriting, rewritten_along, rewritten_at, rewritten_row}
 pub use Rattle.pz_grid.specs.declared.placing.Place.{Place}
 pub use Rattle.pz_program.specs.Commands.{cancel, either, no_commands}
 pub use Rattle.pz_program.specs.Instance.{IsBlockOf, IsGroupOf, IsInstanceOf}
@@ -37,12 +37,12 @@ pub use Rattle.pz_sheet.specs.Grid.{Grid, IsLawful, SameSize, cell_at}
 pub use Rattle.pz_turn.specs.Calm.{AreCalmFrom, IsCalm}
 pub use Rattle.pz_turn.specs.Combinations.{combinations}
 pub use Rattle.pz_turn.specs.Applying.{HasNoEffect, IsOfOneCell, after_row, applied_at, applied_to, applied_with, found_or_stop, given_commands, one_rewritten, outcome_of, places_of_rows}
-unfoldable pub use Rattle.pz_turn.specs.Applying.{applied}
-pub use Rattle.pz_turn.specs.Outcome.{GivesOutcome, Outcome, followed_by, joined, untouched}
+unfoldable pub use Rattle.pz_turn.specs.Applying.{application_of}
+pub use Rattle.pz_turn.specs.Outcome.{GivesOutcome, Outcome, followed_by, outcome_behind, nothing_run}
 pub use Rattle.pz_turn.specs.Rest.{Runs, ends, ends_after, group_runs, is_last, pass_of, passes, rests, up_to}
 unfoldable pub use Rattle.pz_turn.specs.Rest.{rest_of}
 unfoldable pub use Rattle.pz_turn.specs.Step.{block_runs, blocks_run, rules_run, step_of}
-pub use Rattle.pz_turn.specs.Step.{ended, given_input, keeps_player, step_ended, then_moved, with_cancel}
+pub use Rattle.pz_turn.specs.Step.{end_of_step, given_input, keeps_player, step_ended, then_moved, with_cancel}
 pub use Rattle.pz_turn.specs.Win.{fits_both, fits_if, line_holds}
 unfoldable pub use Rattle.pz_turn.specs.Win.{has_won}
 pub use Rattle.pz_turn.specs.declared.outcome.Given.{Given}

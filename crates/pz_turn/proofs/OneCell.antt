@@ -1,6 +1,6 @@
 -- An instance of one cell rewrites only the cells of its places, and a cell that was rewritten stays if it is rewritten again. So it
 -- needn't be asked at a place whether it still holds there, and run again it changes nothing.
-use Rattle.pz_turn.proofs.Common.{◌≡◌, ◌⊎◌, ℕ, zero, suc, ◌<◌, List, [], ◌∷◌, map, fold, get_or, length, Option, Some, None, Ok, Bool, true, false, ◌&&◌, cond, nat_eq, refl, ap, sym, subst, ◌∙◌, arith, inl, inr, Dir, Instance, RuleRow, AreRowsOf, IsRowOf, Place, Grid, IsLawful, cell_at, row_of_one, still_holds, along, holds_at, places, searched, Rewriting, in_rewrite, rewritten_at, found_or_stop, applied_at, outcome_of, applied, one_rewritten, IsOfOneCell, IsCalm, common_steps, Item, Piece, kept, replaced, new_heading, rewritten_place, rewritten_cell, Word, ext_get_or, get_or-map-range_with_len, length-map-range_with_len, cases_Bool, All-head, Contains-append_right, and-true, or-false, same_cell_self, searched-gapless, searched-gives}
+use Rattle.pz_turn.proofs.Common.{◌≡◌, ◌⊎◌, ℕ, zero, suc, ◌<◌, List, [], ◌∷◌, map, fold, get_or, length, Option, Some, None, Ok, Bool, true, false, ◌&&◌, cond, nat_eq, refl, ap, sym, subst, ◌∙◌, arith, inl, inr, Dir, Instance, RuleRow, AreRowsOf, IsRowOf, Place, Grid, IsLawful, cell_at, row_of_one, still_holds, along, holds_at, places, places_or_limit, Rewriting, in_rewrite, rewritten_at, found_or_stop, applied_at, outcome_of, application_of, one_rewritten, IsOfOneCell, IsCalm, common_steps, Item, Piece, kept, piece_after, new_heading, rewritten_place, rewritten_cell, Word, ext_get_or, get_or-map-range_with_len, length-map-range_with_len, cases_Bool, All-head, Contains-append_right, and-true, or-false, same_cell_self, searched-gapless, searched-gives}
 use Rattle.std.specs.Prelude.{Contains}
 use Rattle.pz_game.specs.Items.{placed_on, tells_of}
 use Rattle.pz_game.specs.Pattern.{AreOf}
@@ -14,7 +14,7 @@ heads_again word told here object = grind arith
 kept_again : (left right : List Item) (here : Option Piece) → kept left right (kept left right here) ≡ kept left right here
 kept_again left right here = grind arith
 
-replaced_again : (placed : Option Item) (told : Bool) (left right : List Item) (here : Option Piece) → replaced placed told left right (replaced placed told left right here) ≡ replaced placed told left right here
+replaced_again : (placed : Option Item) (told : Bool) (left right : List Item) (here : Option Piece) → piece_after placed told left right (piece_after placed told left right here) ≡ piece_after placed told left right here
 replaced_again placed told left right here = grind (arith, kept_again left right here, λ (item : Item). heads_again item.word told here item.object)
 
 -- a cell that is rewritten twice from the same left to the same right is as it was after the first time
@@ -124,7 +124,7 @@ module _ (instance : Instance) (left right : List Item) (one : IsOfOneCell insta
   leaves (place ∷ found) end settled = grind (arith, asks_settled false (in_rewrite end false) place (settled place), leaves found end settled)
 
   -- what was found are all places of the row
-  all_of_one : (grid : Grid) (row_now : RuleRow) (found : List Place) → instance.left ≡ row_now ∷ [] → found_or_stop (searched grid row_now instance.scan) ≡ Ok found → found ≡ places grid row instance.scan
+  all_of_one : (grid : Grid) (row_now : RuleRow) (found : List Place) → instance.left ≡ row_now ∷ [] → found_or_stop (places_or_limit grid row_now instance.scan) ≡ Ok found → found ≡ places grid row instance.scan
   all_of_one grid row_now found only is = searched-gives grid row instance.scan found (grind (arith, one.left, only, is))
 
   module _ (grid : Grid) (found : List Place) (all : found ≡ places grid row instance.scan) where
@@ -133,7 +133,7 @@ module _ (instance : Instance) (left right : List Item) (one : IsOfOneCell insta
     applied_unasked = unasked found (in_rewrite grid false) (λ place in_found. inl (holds_from_place grid row instance.scan place (subst (λ (ps : List Place). Contains ps place) all in_found)))
 
     -- it is calm behind its change
-    calm : (now : Grid) → (fold rewrites (in_rewrite grid false) found).grid ≡ now → IsLawful now → IsCalm applied instance.commands now instance
+    calm : (now : Grid) → (fold rewrites (in_rewrite grid false) found).grid ≡ now → IsLawful now → IsCalm application_of instance.commands now instance
     calm now is lawful = by (places now row instance.scan) (ap found_or_stop (searched-gapless now row instance.scan lawful refl)) where
       settled : (place : Place) → IsSettled false now place
       settled place = subst (λ (g : Grid). IsSettled false g place) is (settled_end found (in_rewrite grid false) place (elim (cases_Bool (holds grid place)) [
@@ -141,8 +141,8 @@ module _ (instance : Instance) (left right : List Item) (one : IsOfOneCell insta
         | inr fails ↦ inl (inl fails)
       ]))
 
-      by : (held : List Place) → found_or_stop (searched now row instance.scan) ≡ Ok held → IsCalm applied instance.commands now instance
-      by [] found_now = calm_untouched applied instance.commands now instance (row_applied instance now row (Ok []) one.left found_now)
+      by : (held : List Place) → found_or_stop (places_or_limit now row instance.scan) ≡ Ok held → IsCalm application_of instance.commands now instance
+      by [] found_now = calm_untouched application_of instance.commands now instance (row_applied instance now row (Ok []) one.left found_now)
       by (place ∷ held) found_now = record {
         gives = instance.commands;
         quiet = row_ends instance now row (place ∷ held) (in_rewrite now false) one.left found_now (omega arith) (sym (leaves (place ∷ held) now settled));
@@ -150,8 +150,8 @@ module _ (instance : Instance) (left right : List Item) (one : IsOfOneCell insta
       }
 
   -- how it ends, if it has places, and what is left to do then
-  pub cell_ends : (grid : Grid) (row_now : RuleRow) (found : List Place) (end : Rewriting) → instance.left ≡ row_now ∷ [] → found_or_stop (searched grid row_now instance.scan) ≡ Ok found → 0 < length found → end ≡ fold rewrites (in_rewrite grid false) found
-      → (applied instance grid ≡ Ok (outcome_of end instance.commands)) × (IsLawful end.grid → IsCalm applied instance.commands end.grid instance)
+  pub cell_ends : (grid : Grid) (row_now : RuleRow) (found : List Place) (end : Rewriting) → instance.left ≡ row_now ∷ [] → found_or_stop (places_or_limit grid row_now instance.scan) ≡ Ok found → 0 < length found → end ≡ fold rewrites (in_rewrite grid false) found
+      → (application_of instance grid ≡ Ok (outcome_of end instance.commands)) × (IsLawful end.grid → IsCalm application_of instance.commands end.grid instance)
   cell_ends grid row_now found end only is some ends =
       let all = all_of_one grid row_now found only is in
       (row_ends instance grid row_now found end only is some (ends ∙ sym (applied_unasked grid found all)), calm grid found all end.grid (ap (λ (r : Rewriting). r.grid) (sym ends)))

@@ -1,5 +1,5 @@
 -- Passes: one that leaves calm items out gives what the whole pass gives; and when a loop of passes ends.
-use Rattle.pz_turn.proofs.Common.{◌≡◌, ℕ, suc, ◌+◌, ◌<◌, ◌≤◌, Result, Ok, Err, List, [], ◌∷◌, Bool, true, false, cond, ◌||◌, ◌⊎◌, inl, inr, fold, take, drop, length, get_or, refl, ap, sym, ◌∙◌, arith, subst, cases_lt, or_parts, take_more, take-append-drop, get_or-drop, length-drop, get_or_default, Commands, no_commands, either, StepFault, Outcome, untouched, followed_by, joined, Runs, pass_of, ends, IsCalm, AreCalmFrom, fold-append, not, Some, None, at_drop_more, add-one, below_more, find, range_with_len, passes, ends_after, is_last, up_to, rest_of, fold_stays, length-range_with_len, get_or-range_with_len}
+use Rattle.pz_turn.proofs.Common.{◌≡◌, ℕ, suc, ◌+◌, ◌<◌, ◌≤◌, Result, Ok, Err, List, [], ◌∷◌, Bool, true, false, cond, ◌||◌, ◌⊎◌, inl, inr, fold, take, drop, length, get_or, refl, ap, sym, ◌∙◌, arith, subst, cases_lt, or_parts, take_more, take-append-drop, get_or-drop, length-drop, get_or_default, Commands, no_commands, either, StepFault, Outcome, nothing_run, followed_by, outcome_behind, Runs, pass_of, ends, IsCalm, AreCalmFrom, fold-append, not, Some, None, at_drop_more, add-one, below_more, find, range_with_len, passes, ends_after, is_last, up_to, rest_of, fold_stays, length-range_with_len, get_or-range_with_len}
 use Rattle.std.specs.Int.RustNames.{bit_or}
 use Rattle.std.proofs.lemmas.Nat.{or_comm}
 use Rattle.std.proofs.lemmas.Nat.Bits.{bit_at_or, same_from_bits}
@@ -7,7 +7,7 @@ use Rattle.std.proofs.lemmas.List.Recursion.{found_at, found_nowhere}
 use lib.Bits.{or_self}
 
 -- one more instance, which may stop
-pub fold_more : {L I : Type 0} (applied : I → Runs L) (o : Outcome L) (r : Result (Outcome L) StepFault) (xs : List I) (i : ℕ) (x : I) → i < length xs → x ≡ get_or xs i x → applied x o.level ≡ r → fold (λ so_far y. followed_by so_far (applied y)) (joined o r) (drop (i + 1) xs) ≡ fold (λ so_far y. followed_by so_far (applied y)) (Ok o) (drop i xs)
+pub fold_more : {L I : Type 0} (applied : I → Runs L) (o : Outcome L) (r : Result (Outcome L) StepFault) (xs : List I) (i : ℕ) (x : I) → i < length xs → x ≡ get_or xs i x → applied x o.level ≡ r → fold (λ so_far y. followed_by so_far (applied y)) (outcome_behind o r) (drop (i + 1) xs) ≡ fold (λ so_far y. followed_by so_far (applied y)) (Ok o) (drop i xs)
 fold_more applied o r xs i x in_range at gives = grind (arith, at_drop_more (fold (λ so_far y. followed_by so_far (applied y)) (Ok o)) xs i x in_range, at, gives)
 
 -- a stop at the next instance is the stop of the rest of the group
@@ -54,8 +54,8 @@ module _ {L I : Type 0} (runs : I → Runs L) (items : List I) where
     pub calm : (number : ℕ) (other : I) → behind ≤ number → number < n → IsCalm runs o.commands o.level (get_or items number other)
 
   -- one item more
-  pass_more : (start : L) (n : ℕ) (item : I) (o r : Outcome L) → n < length items → item ≡ get_or items n item → pass_of runs (take n items) start ≡ Ok o → runs item o.level ≡ Ok r → pass_of runs (take (n + 1) items) start ≡ joined o (Ok r)
-  pass_more start n item o r within is so_far gives = grind (arith, take_more items n item within, fold-append step (Ok (untouched start)) (take n items) (get_or items n item ∷ []), is, so_far, gives)
+  pass_more : (start : L) (n : ℕ) (item : I) (o r : Outcome L) → n < length items → item ≡ get_or items n item → pass_of runs (take n items) start ≡ Ok o → runs item o.level ≡ Ok r → pass_of runs (take (n + 1) items) start ≡ outcome_behind o (Ok r)
+  pass_more start n item o r within is so_far gives = grind (arith, take_more items n item within, fold-append step (Ok (nothing_run start)) (take n items) (get_or items n item ∷ []), is, so_far, gives)
 
   -- where it changed something, only those behind it may be calm, and the item itself
   pub passing_changed : (start : L) (calm_from n : ℕ) (item : I) (o r : Outcome L) (behind first : ℕ) → n < length items → item ≡ get_or items n item → Passing start calm_from n o behind → runs item o.level ≡ Ok r → r.changed ≡ true
@@ -95,7 +95,7 @@ module _ {L I : Type 0} (runs : I → Runs L) (items : List I) where
 
   -- the pass, behind its first items
   split : (start : L) (n : ℕ) (o : Outcome L) → pass_of runs (take n items) start ≡ Ok o → pass_of runs items start ≡ fold step (Ok o) (drop n items)
-  split start n o so_far = grind (arith, take-append-drop n items, fold-append step (Ok (untouched start)) (take n items) (drop n items), so_far)
+  split start n o so_far = grind (arith, take-append-drop n items, fold-append step (Ok (nothing_run start)) (take n items) (drop n items), so_far)
 
   -- a stop at the next item is the pass's
   pub passing_stops : (start : L) (calm_from n : ℕ) (item : I) (o : Outcome L) (behind : ℕ) (fault : StepFault) → n < length items → item ≡ get_or items n item → Passing start calm_from n o behind → runs item o.level ≡ Err fault → pass_of runs items start ≡ Err fault
@@ -109,13 +109,13 @@ module _ {L I : Type 0} (runs : I → Runs L) (items : List I) where
       let here = calm 0 x (omega arith) in
       let later = calm_fold commands level xs (λ number other below. calm (suc number) other (omega (arith, below))) (either given here.gives) in (
         later.0,
-        ap (λ (r : Result (Outcome L) StepFault). fold step (joined (record { level = level; commands = given; changed = false }) r) xs) here.quiet ∙ later.1,
+        ap (λ (r : Result (Outcome L) StepFault). fold step (outcome_behind (record { level = level; commands = given; changed = false }) r) xs) here.quiet ∙ later.1,
         later.2 ∙ (sym (either_assoc commands given here.gives) ∙ known_still commands given here.gives here.known),
       )
 
   -- with a pass that changed nothing before calm items a group is at rest
   pub calm_rest : (o : Outcome L) (given : Commands) (changed : Bool) (after : L) (calm_from : ℕ) → AreCalmFrom runs o.commands o.level items calm_from → pass_of runs (cond changed items (take calm_from items)) o.level ≡ Ok (record { level = after; commands = given; changed = changed }) → changed ≡ false → after ≡ o.level
-      → (ends (pass_of runs items o.level) ≡ true) × (joined o (pass_of runs items o.level) ≡ Ok (record { level = after; commands = either o.commands given; changed = o.changed || changed }))
+      → (ends (pass_of runs items o.level) ≡ true) × (outcome_behind o (pass_of runs items o.level) ≡ Ok (record { level = after; commands = either o.commands given; changed = o.changed || changed }))
   calm_rest o given true after calm_from calm is quiet keeps = cc
   calm_rest o given false after calm_from calm is quiet keeps =
       let before = is ∙ ap (λ (level : L). Ok (record { level = level; commands = given; changed = false })) keeps in
@@ -134,7 +134,7 @@ pub calm_alone : {L I : Type 0} (runs : I → Runs L) (given : Commands) (level 
 calm_alone runs given level item calm = record { gives = calm.gives; quiet = pass_alone runs item level ∙ calm.quiet; known = calm.known }
 
 -- a run that is known to do nothing is calm
-pub calm_untouched : {L I : Type 0} (runs : I → Runs L) (given : Commands) (level : L) (item : I) → runs item level ≡ Ok (untouched level) → IsCalm runs given level item
+pub calm_untouched : {L I : Type 0} (runs : I → Runs L) (given : Commands) (level : L) (item : I) → runs item level ≡ Ok (nothing_run level) → IsCalm runs given level item
 calm_untouched runs given level item is = record { gives = no_commands; quiet = is; known = either_comm given no_commands }
 
 -- ---- when a loop of passes ends
@@ -154,16 +154,16 @@ pub record Running {L : Type 0} (pass : Runs L) (start : L) (n : ℕ) (outcome :
   pub went_on : (k : ℕ) → k < n → is_last pass start k ≡ false
 
 -- the next pass stops or changes nothing
-pub rest_ends : {L : Type 0} (limit : ℕ) (pass : Runs L) (start : L) (n : ℕ) (o : Outcome L) → Running pass start n o → n < limit → ends (pass o.level) ≡ true → rest_of limit pass start ≡ joined o (pass o.level)
+pub rest_ends : {L : Type 0} (limit : ℕ) (pass : Runs L) (start : L) (n : ℕ) (o : Outcome L) → Running pass start n o → n < limit → ends (pass o.level) ≡ true → rest_of limit pass start ≡ outcome_behind o (pass o.level)
 unfolding rest_of
 rest_ends {L} limit pass start n o running in_range here =
     let last : is_last pass start n ≡ true = ap (ends_after pass) running.so_far ∙ here in
     ap (up_to pass start) (find_first (is_last pass start) limit n in_range running.went_on last) ∙ ap (λ r. followed_by r pass) running.so_far
 
 -- one more pass, which changed something
-pub running_more : {L : Type 0} (pass : Runs L) (start : L) (n : ℕ) (o p q : Outcome L) → Running pass start n o → pass o.level ≡ Ok p → p.changed ≡ true → joined o (Ok p) ≡ Ok q → Running pass start (n + 1) q
+pub running_more : {L : Type 0} (pass : Runs L) (start : L) (n : ℕ) (o p q : Outcome L) → Running pass start n o → pass o.level ≡ Ok p → p.changed ≡ true → outcome_behind o (Ok p) ≡ Ok q → Running pass start (n + 1) q
 running_more pass start n o p q running gives changes both =
     record {
-      so_far = rw add-one (ap (λ r. followed_by r pass) running.so_far ∙ ap (joined o) gives ∙ both);
+      so_far = rw add-one (ap (λ r. followed_by r pass) running.so_far ∙ ap (outcome_behind o) gives ∙ both);
       went_on = λ k below. below_more (λ k. is_last pass start k ≡ false) n running.went_on (ap (ends_after pass) running.so_far ∙ ap ends gives ∙ ap not changes) k below;
     }

@@ -1,5 +1,5 @@
 -- What has not changed is as it was.
-use Rattle.pz_turn.proofs.Common.{untouched, arith, ◌≡◌, ℕ, ◌+◌, ◌*◌, List, [], ◌∷◌, Option, Some, None, Bool, true, false, not, fold, Result, Ok, Err, refl, ◌∙◌, IfOk, enumerate_from, zip, find, range_with_len, or_parts, set-get_or, Dir, Instance, RuleRow, Place, Grid, cell_at, position_of, Rewriting, in_rewrite, rewritten_at, rewritten_along, rewritten_row, StepFault, Given, Outcome, followed_by, joined, GivesOutcome, applied_at, given_commands, applied, pass_of, is_last, rest_of, rests, Item, rewritten_cell, same_cell_is}
+use Rattle.pz_turn.proofs.Common.{nothing_run, arith, ◌≡◌, ℕ, ◌+◌, ◌*◌, List, [], ◌∷◌, Option, Some, None, Bool, true, false, not, fold, Result, Ok, Err, refl, ◌∙◌, IfOk, enumerate_from, zip, find, range_with_len, or_parts, set-get_or, Dir, Instance, RuleRow, Place, Grid, cell_at, position_of, Rewriting, in_rewrite, rewritten_at, rewritten_along, rewritten_row, StepFault, Given, Outcome, followed_by, outcome_behind, GivesOutcome, applied_at, given_commands, application_of, pass_of, is_last, rest_of, rests, Item, rewritten_cell, same_cell_is}
 use Rattle.pz_cells.specs.Sameness.{same_cell}
 use Rattle.pz_turn.proofs.Segments.{follow_pass}
 
@@ -33,8 +33,8 @@ kept_applied_at instance so_far places h =
 abbrev pub Leaves : Grid → Result (Outcome Grid) StepFault → Type 0
 Leaves grid result = (o : Outcome Grid) → result ≡ Ok o → o.changed ≡ false → o.level ≡ grid
 
-pub applied_leaves : (instance : Instance) (grid : Grid) → Leaves grid (applied instance grid)
-unfolding applied
+pub applied_leaves : (instance : Instance) (grid : Grid) → Leaves grid (application_of instance grid)
+unfolding application_of
 applied_leaves instance grid o e h = grind (arith, λ (all : List (List Place)). kept_fold (applied_at instance) (kept_applied_at instance) all (in_rewrite grid false), e, h)
 
 -- the same of a call that answers the outcome
@@ -42,18 +42,18 @@ pub call_leaves : (grid level : Grid) (outcome : Result (Outcome Grid) StepFault
 call_leaves grid level outcome (Err fault) leaves gives = tt
 call_leaves grid level outcome (Ok given) leaves gives = λ none. leaves _ gives none
 
-leaves_more : (x : Instance) (xs : List Instance) (grid : Grid) (o : Outcome Grid) → ((level : Grid) → Leaves level (pass_of applied xs level)) → followed_by (joined (untouched grid) (applied x grid)) (pass_of applied xs) ≡ Ok o → o.changed ≡ false → o.level ≡ grid
+leaves_more : (x : Instance) (xs : List Instance) (grid : Grid) (o : Outcome Grid) → ((level : Grid) → Leaves level (pass_of application_of xs level)) → followed_by (outcome_behind (nothing_run grid) (application_of x grid)) (pass_of application_of xs) ≡ Ok o → o.changed ≡ false → o.level ≡ grid
 leaves_more x xs grid o rest both h = grind (arith, applied_leaves x grid, rest, both, h)
 
-pub pass_leaves : (group : List Instance) (grid : Grid) → Leaves grid (pass_of applied group grid)
+pub pass_leaves : (group : List Instance) (grid : Grid) → Leaves grid (pass_of application_of group grid)
 pass_leaves [] grid o e h = cc
-pass_leaves (x ∷ xs) grid o e h = leaves_more x xs grid o (pass_leaves xs) (follow_pass applied (joined (untouched grid) (applied x grid)) xs ∙ e) h
+pass_leaves (x ∷ xs) grid o e h = leaves_more x xs grid o (pass_leaves xs) (follow_pass application_of (outcome_behind (nothing_run grid) (application_of x grid)) xs ∙ e) h
 
 find_passes : (p : ℕ → Bool) (xs : List ℕ) (n : ℕ) → find p xs ≡ Some n → p n ≡ true
 find_passes p [] n e = cc
 find_passes p (x ∷ xs) n e = grind (arith, find_passes p xs n, e)
 
 -- a group at rest: one more pass changes nothing
-pub rest_rests : (limit : ℕ) (group : List Instance) (grid : Grid) (o : Outcome Grid) → rest_of limit (pass_of applied group) grid ≡ Ok o → rests (pass_of applied group o.level) ≡ true
+pub rest_rests : (limit : ℕ) (group : List Instance) (grid : Grid) (o : Outcome Grid) → rest_of limit (pass_of application_of group) grid ≡ Ok o → rests (pass_of application_of group o.level) ≡ true
 unfolding rest_of
-rest_rests limit group grid o e = grind (arith, λ (n : ℕ). find_passes (is_last (pass_of applied group) grid) (range_with_len 0 limit) n, λ (level : Grid). pass_leaves group level, e)
+rest_rests limit group grid o e = grind (arith, λ (n : ℕ). find_passes (is_last (pass_of application_of group) grid) (range_with_len 0 limit) n, λ (level : Grid). pass_leaves group level, e)

@@ -1,5 +1,5 @@
 -- Worked cases of instances, groups, steps and wins.
-use Rattle.pz_turn.proofs.Common.{◌≡◌, ℕ, List, [], ◌∷◌, Option, Some, None, Bool, true, false, Ok, Err, length, refl, codes, GameParts, Commands, Instance, Program, RuleRow, Grid, searched, combinations, cancel, no_commands, applied, pass_of, rest_of, group_runs, block_runs, blocks_run, rules_run, step_of, has_won, Item, Word, One, Piece, LoopLimit, PASSES}
+use Rattle.pz_turn.proofs.Common.{◌≡◌, ℕ, List, [], ◌∷◌, Option, Some, None, Bool, true, false, Ok, Err, length, refl, codes, GameParts, Commands, Instance, Program, RuleRow, Grid, places_or_limit, combinations, cancel, no_commands, application_of, pass_of, rest_of, group_runs, block_runs, blocks_run, rules_run, step_of, has_won, Item, Word, One, Piece, LoopLimit, PASSES}
 use Rattle.pz_game.specs.declared.denotation.Denotation.{Denotation}
 use Rattle.pz_game.specs.declared.denotation.Kind.{Kind}
 use Rattle.pz_game.specs.declared.denotation.Kind.TheVariants.{Object, Property, Aggregate}
@@ -81,7 +81,7 @@ steps :
     × (step_of game pushing (strip (one 1 ∷ one 2 ∷ one 3 ∷ [])) None ≡ Ok (record { level = strip (one 1 ∷ one 2 ∷ one 3 ∷ []); commands = no_commands; changed = false }))
     -- a step that is cancelled by a rule ends with the level before it
     × (step_of game taking (strip (one 1 ∷ bare ∷ one 2 ∷ [])) (Some Right) ≡ Ok (record { level = strip (one 1 ∷ bare ∷ one 2 ∷ []); commands = cancel; changed = false }))
-unfolding step_of rules_run blocks_run block_runs rest_of applied searched
+unfolding step_of rules_run blocks_run block_runs rest_of application_of places_or_limit
 steps = (refl, refl, refl, refl, refl)
 
 -- [ Crate ] [ Player ] -> [ ] [ Player ]: both places of the first row, each with the player's, tested again
@@ -95,13 +95,13 @@ turn_one = rule (row ((item 1 Present ∷ []) ∷ []) ∷ row ((item 1 Present �
 
 applies :
     -- each crate is eaten once
-    (applied eat (strip (one 2 ∷ one 1 ∷ one 2 ∷ [])) ≡ Ok (record { level = strip (bare ∷ one 1 ∷ bare ∷ []); commands = cancel; changed = true }))
+    (application_of eat (strip (one 2 ∷ one 1 ∷ one 2 ∷ [])) ≡ Ok (record { level = strip (bare ∷ one 1 ∷ bare ∷ []); commands = cancel; changed = true }))
     -- without a crate there is no combination, and no command
-    × (applied eat (strip (bare ∷ one 1 ∷ [])) ≡ Ok (record { level = strip (bare ∷ one 1 ∷ []); commands = no_commands; changed = false }))
-    × (applied turn_one (strip (one 1 ∷ one 1 ∷ bare ∷ [])) ≡ Ok (record { level = strip (one 1 ∷ one 2 ∷ bare ∷ []); commands = no_commands; changed = true }))
+    × (application_of eat (strip (bare ∷ one 1 ∷ [])) ≡ Ok (record { level = strip (bare ∷ one 1 ∷ []); commands = no_commands; changed = false }))
+    × (application_of turn_one (strip (one 1 ∷ one 1 ∷ bare ∷ [])) ≡ Ok (record { level = strip (one 1 ∷ one 2 ∷ bare ∷ []); commands = no_commands; changed = true }))
     -- [ Player ] -> [ Player ] cancel: the command is given though nothing changes
-    × (applied (rule (row ((item 1 Present ∷ []) ∷ []) ∷ []) (row ((item 1 Present ∷ []) ∷ []) ∷ []) cancel) (strip (one 1 ∷ [])) ≡ Ok (record { level = strip (one 1 ∷ []); commands = cancel; changed = false }))
-unfolding applied searched
+    × (application_of (rule (row ((item 1 Present ∷ []) ∷ []) ∷ []) (row ((item 1 Present ∷ []) ∷ []) ∷ []) cancel) (strip (one 1 ∷ [])) ≡ Ok (record { level = strip (one 1 ∷ []); commands = cancel; changed = false }))
+unfolding application_of places_or_limit
 applies = (refl, refl, refl, refl)
 
 -- [ Player ] -> [ Crate ] and + [ Crate ] -> [ Player ]: each pass gives the level before it, and yet the group is not at rest
@@ -113,12 +113,12 @@ abbrev spread : List (List Instance)
 spread = (rule (row ((item 1 Present ∷ []) ∷ (item 1 Absent ∷ item 2 Absent ∷ item 3 Absent ∷ []) ∷ []) ∷ []) (row ((item 1 Present ∷ []) ∷ (item 2 Present ∷ []) ∷ []) ∷ []) no_commands ∷ []) ∷ (rule (row ((item 2 Present ∷ []) ∷ []) ∷ []) (row ((item 1 Present ∷ []) ∷ []) ∷ []) no_commands ∷ []) ∷ []
 
 rests_and_loops :
-    (rest_of 4 (pass_of applied to_and_fro) (strip (one 1 ∷ [])) ≡ Err LoopLimit)
+    (rest_of 4 (pass_of application_of to_and_fro) (strip (one 1 ∷ [])) ≡ Err LoopLimit)
     -- one after another the groups spread once
-    × (pass_of (group_runs PASSES applied) spread (strip (one 1 ∷ bare ∷ bare ∷ bare ∷ [])) ≡ Ok (record { level = strip (one 1 ∷ one 1 ∷ bare ∷ bare ∷ []); commands = no_commands; changed = true }))
+    × (pass_of (group_runs PASSES application_of) spread (strip (one 1 ∷ bare ∷ bare ∷ bare ∷ [])) ≡ Ok (record { level = strip (one 1 ∷ one 1 ∷ bare ∷ bare ∷ []); commands = no_commands; changed = true }))
     -- as a loop they spread over the level
-    × (rest_of PASSES (pass_of (group_runs PASSES applied) spread) (strip (one 1 ∷ bare ∷ bare ∷ bare ∷ [])) ≡ Ok (record { level = strip (one 1 ∷ one 1 ∷ one 1 ∷ one 1 ∷ []); commands = no_commands; changed = true }))
-unfolding rest_of applied searched
+    × (rest_of PASSES (pass_of (group_runs PASSES application_of) spread) (strip (one 1 ∷ bare ∷ bare ∷ bare ∷ [])) ≡ Ok (record { level = strip (one 1 ∷ one 1 ∷ one 1 ∷ one 1 ∷ []); commands = no_commands; changed = true }))
+unfolding rest_of application_of places_or_limit
 rests_and_loops = (refl, refl, refl)
 
 abbrev crates : Grid

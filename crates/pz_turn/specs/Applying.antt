@@ -12,8 +12,8 @@ use Rattle.pz_grid.specs.declared.placing.GridFault.{GridFault}
 use Rattle.pz_grid.specs.declared.placing.GridFault.TheVariants as grid
 use Rattle.pz_grid.specs.declared.placing.Place.{Place}
 use Rattle.pz_sheet.specs.Grid.{Grid}
-use Rattle.pz_grid.specs.Places.{row_of_one, searched, still_matches}
-use Rattle.pz_grid.specs.Rewriting.{Rewriting, in_rewrite, rewritten, rewritten_row}
+use Rattle.pz_grid.specs.Places.{row_of_one, places_or_limit, still_matches}
+use Rattle.pz_grid.specs.Rewriting.{Rewriting, in_rewrite, after_rewriting, rewritten_row}
 use Rattle.pz_turn.specs.declared.outcome.StepFault.{StepFault}
 use Rattle.pz_turn.specs.declared.outcome.StepFault.TheVariants.{MatchLimit}
 use Rattle.pz_turn.specs.declared.applying.TheConstants.{COMBINATION_LIMIT, FEW_CELLS}
@@ -43,12 +43,12 @@ after_row (Ok (place ∷ found)) rest = preceded_by (place ∷ found) rest
 -- the places of each row, up to the first row without one
 abbrev pub places_of_rows : Grid → Dir → List RuleRow → Result (List (List Place)) StepFault
 places_of_rows grid dir [] = Ok []
-places_of_rows grid dir (row ∷ rows) = after_row (found_or_stop (searched grid row dir)) (places_of_rows grid dir rows)
+places_of_rows grid dir (row ∷ rows) = after_row (found_or_stop (places_or_limit grid row dir)) (places_of_rows grid dir rows)
 
 -- match.tested-again: an instance rewrites at a combination of places, if all its rows hold there in the level so far
 abbrev pub applied_at : Instance → Rewriting → List Place → Rewriting
 applied_at instance so_far places =
-    if still_matches so_far.grid instance places then rewritten instance places so_far else so_far
+    if still_matches so_far.grid instance places then after_rewriting instance places so_far else so_far
 
 -- match.commands: the commands are given if there is a combination
 abbrev pub given_commands : List (List Place) → Commands → Commands
@@ -69,8 +69,8 @@ applied_with instance grid (Err fault) = Err fault
 applied_with instance grid (Ok lists) = applied_to instance grid (combinations lists)
 
 -- an instance, applied to a level
-unfoldable pub applied : Instance → Grid → Result (Outcome Grid) StepFault
-applied instance grid = applied_with instance grid (places_of_rows grid instance.scan instance.left)
+unfoldable pub application_of : Instance → Grid → Result (Outcome Grid) StepFault
+application_of instance grid = applied_with instance grid (places_of_rows grid instance.scan instance.left)
 
 -- rules.no-right: an instance without effect on a level: it has no right and no commands, and its one row can't have too many
 -- places, because it has no gap or the level has few cells

@@ -10,7 +10,7 @@ use Rattle.pz_sheet.specs.Grid.{Grid}
 use Rattle.pz_turn.specs.declared.outcome.StepFault.TheVariants.{Memory}
 use Rattle.pz_turn.specs.declared.resting.TheConstants.{PASSES}
 use Rattle.pz_turn.specs.Combinations.{combinations}
-use Rattle.pz_turn.specs.Applying.{applied}
+use Rattle.pz_turn.specs.Applying.{application_of}
 use Rattle.pz_turn.specs.Outcome.{Outcome}
 use Rattle.pz_turn.specs.Rest.{pass_of, rest_of, rests}
 use Rattle.pz_turn.specs.Step.{step_of}
@@ -21,11 +21,11 @@ IsCounted = (lists : List (List Place)) → length (combinations lists) ≡ prod
 
 -- a pass that changes nothing leaves the level as it was
 abbrev pub QuietPassLeaves : Type 0
-QuietPassLeaves = (group : List Instance) (grid : Grid) (end : Outcome Grid) → pass_of applied group grid ≡ Ok end → end.changed ≡ false → end.level ≡ grid
+QuietPassLeaves = (group : List Instance) (grid : Grid) (end : Outcome Grid) → pass_of application_of group grid ≡ Ok end → end.changed ≡ false → end.level ≡ grid
 
 -- one more pass over a group that has come to rest changes nothing and doesn't stop
 abbrev pub RestLasts : Type 0
-RestLasts = (group : List Instance) (grid : Grid) (end : Outcome Grid) → rest_of PASSES (pass_of applied group) grid ≡ Ok end → rests (pass_of applied group end.level) ≡ true
+RestLasts = (group : List Instance) (grid : Grid) (end : Outcome Grid) → rest_of PASSES (pass_of application_of group) grid ≡ Ok end → rests (pass_of application_of group end.level) ≡ true
 
 -- want of memory is never the stop of a step: it can end a call, but no rule of the language ends a step with it
 abbrev pub NeverEndsForMemory : Type 0

@@ -13,13 +13,13 @@ pub record Outcome (L : Type 0) : Type 0 where
   pub changed : Bool
 
 -- the outcome of running nothing
-abbrev pub untouched : {L : Type 0} → L → Outcome L
-untouched level = record { level = level; commands = no_commands; changed = false }
+abbrev pub nothing_run : {L : Type 0} → L → Outcome L
+nothing_run level = record { level = level; commands = no_commands; changed = false }
 
 -- two outcomes, one after the other: the commands of both, and a change if there was one in either
-abbrev pub joined : {L : Type 0} → Outcome L → Result (Outcome L) StepFault → Result (Outcome L) StepFault
-joined first (Err fault) = Err fault
-joined first (Ok second) = Ok (record {
+abbrev pub outcome_behind : {L : Type 0} → Outcome L → Result (Outcome L) StepFault → Result (Outcome L) StepFault
+outcome_behind first (Err fault) = Err fault
+outcome_behind first (Ok second) = Ok (record {
   level = second.level;
   commands = either first.commands second.commands;
   changed = first.changed || second.changed;
@@ -28,7 +28,7 @@ joined first (Ok second) = Ok (record {
 -- step.commands: a run, and then another on the level that it left, unless the first stopped
 abbrev pub followed_by : {L : Type 0} → Result (Outcome L) StepFault → (L → Result (Outcome L) StepFault) → Result (Outcome L) StepFault
 followed_by (Err fault) run = Err fault
-followed_by (Ok first) run = joined first (run first.level)
+followed_by (Ok first) run = outcome_behind first (run first.level)
 
 -- P of what a call answers, or Q of its stop: want of memory, which is no stop of the language, says nothing
 abbrev pub UnlessMemory : {X : Type 0} → Result X StepFault → (X → Type 0) → (StepFault → Type 0) → Type 0

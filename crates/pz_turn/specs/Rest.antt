@@ -5,7 +5,7 @@ use Rattle.std.specs.Prelude.{ℕ, zero, suc, Bool, true, false, not, Option, So
 use Rattle.std.specs.List.{find, range_with_len}
 use Rattle.pz_turn.specs.declared.outcome.StepFault.{StepFault}
 use Rattle.pz_turn.specs.declared.outcome.StepFault.TheVariants.{LoopLimit}
-use Rattle.pz_turn.specs.Outcome.{Outcome, untouched, followed_by}
+use Rattle.pz_turn.specs.Outcome.{Outcome, nothing_run, followed_by}
 
 -- what a run gives, for each level that it starts from
 abbrev pub Runs : Type 0 → Type 0
@@ -14,11 +14,11 @@ Runs L = L → Result (Outcome L) StepFault
 -- a pass: the instances of a group in order
 abbrev pub pass_of : {L I : Type 0} → (I → Runs L) → List I → Runs L
 pass_of applied group level =
-    fold (λ so_far instance. followed_by so_far (applied instance)) (Ok (untouched level)) group
+    fold (λ so_far instance. followed_by so_far (applied instance)) (Ok (nothing_run level)) group
 
 -- n passes in a row
 abbrev pub passes : {L : Type 0} → Runs L → ℕ → Runs L
-passes pass zero level = Ok (untouched level)
+passes pass zero level = Ok (nothing_run level)
 passes pass (suc n) level = followed_by (passes pass n level) pass
 
 -- a pass stops or changes nothing

@@ -13,31 +13,31 @@ use Rattle.pz_program.specs.declared.instance.Program.{Program}
 use Rattle.pz_program.specs.Commands.{cancel, has, either}
 use Rattle.pz_cells.specs.declared.piece.Piece.{Piece}
 use Rattle.pz_sheet.specs.Grid.{Grid}
-use Rattle.pz_grid.specs.Movement.{resolved}
+use Rattle.pz_grid.specs.Movement.{after_movement}
 use Rattle.pz_sheet.specs.Presence.{holds_one}
-use Rattle.pz_sheet.specs.Pushing.{pushed}
+use Rattle.pz_sheet.specs.Pushing.{pushed_level}
 use Rattle.pz_sheet.specs.Sameness.{same_grid}
 use Rattle.pz_turn.specs.declared.outcome.StepFault.{StepFault}
 use Rattle.pz_turn.specs.declared.resting.TheConstants.{PASSES}
-use Rattle.pz_turn.specs.Applying.{applied}
+use Rattle.pz_turn.specs.Applying.{application_of}
 use Rattle.pz_turn.specs.Outcome.{Outcome, followed_by}
 use Rattle.pz_turn.specs.Rest.{Runs, pass_of, rest_of, group_runs}
 
 -- a group or a loop of groups, run to rest
 unfoldable pub block_runs : Block → Runs Grid
-block_runs (One group) = rest_of PASSES (pass_of applied group)
-block_runs (Loop groups) = rest_of PASSES (pass_of (group_runs PASSES applied) groups)
+block_runs (One group) = rest_of PASSES (pass_of application_of group)
+block_runs (Loop groups) = rest_of PASSES (pass_of (group_runs PASSES application_of) groups)
 
 -- blocks in order
 unfoldable pub blocks_run : List Block → Runs Grid
 blocks_run blocks = pass_of block_runs blocks
 
-abbrev pub moved : Outcome Grid → Outcome Grid
-moved end = record { level = resolved end.level; commands = end.commands; changed = end.changed }
+abbrev pub with_movement : Outcome Grid → Outcome Grid
+with_movement end = record { level = after_movement end.level; commands = end.commands; changed = end.changed }
 
 abbrev pub then_moved : Result (Outcome Grid) StepFault → Result (Outcome Grid) StepFault
 then_moved (Err fault) = Err fault
-then_moved (Ok end) = Ok (moved end)
+then_moved (Ok end) = Ok (with_movement end)
 
 -- step.order: the rules of a step: early blocks, movement, late blocks
 unfoldable pub rules_run : Program → Runs Grid
@@ -46,7 +46,7 @@ rules_run program grid = followed_by (then_moved (blocks_run program.early grid)
 -- a press gives its direction to the player; a tick gives none
 abbrev pub given_input : List ℕ → Option Dir → Grid → Grid
 given_input players None grid = grid
-given_input players (Some dir) grid = pushed players dir grid
+given_input players (Some dir) grid = pushed_level players dir grid
 
 -- if the cell held a player before, it holds one after
 abbrev pub keeps_player : List ℕ → List (Option Piece) × List (Option Piece) → Bool
@@ -67,8 +67,8 @@ with_cancel true commands = either commands cancel
 with_cancel false commands = commands
 
 -- play.cancel: a cancelled step ends with the level before it; any other has changed the level if the two differ
-abbrev pub ended : Grid → Grid → Commands → Outcome Grid
-ended before after commands =
+abbrev pub end_of_step : Grid → Grid → Commands → Outcome Grid
+end_of_step before after commands =
     if has commands cancel
     then record { level = before; commands = commands; changed = false }
     else record { level = after; commands = commands; changed = not (same_grid after before) }
@@ -77,7 +77,7 @@ ended before after commands =
 abbrev pub step_ended : GameParts → Option Dir → Grid → Result (Outcome Grid) StepFault → Result (Outcome Grid) StepFault
 step_ended game input before (Err fault) = Err fault
 step_ended game input before (Ok end) =
-    Ok (ended before end.level (with_cancel (must_cancel game input before end.level) end.commands))
+    Ok (end_of_step before end.level (with_cancel (must_cancel game input before end.level) end.commands))
 
 -- a step from a level: a press with its direction, or a tick
 unfoldable pub step_of : GameParts → Program → Grid → Option Dir → Result (Outcome Grid) StepFault

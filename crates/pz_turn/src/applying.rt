@@ -5,12 +5,12 @@ ghost use Rattle.pz_game.specs.declared.direction.Dir.{Dir};
 ghost use Rattle.pz_program.specs.Instance.{IsInstanceOf};
 ghost use Rattle.pz_game.specs.Pattern.{IsRowOf, AreRowsOf};
 ghost use Rattle.pz_sheet.specs.Grid.{SameSize};
-ghost use Rattle.pz_grid.specs.Places.{places, searched};
+ghost use Rattle.pz_grid.specs.Places.{places, places_or_limit};
 ghost use Rattle.pz_grid.specs.Rewriting.{in_rewrite};
 ghost use Rattle.pz_turn.specs.Calm.{IsCalm};
 ghost use Rattle.pz_turn.specs.Combinations.{combinations};
-ghost use Rattle.pz_turn.specs.Applying.{found_or_stop, places_of_rows, applied_at, applied, given_commands, HasNoEffect};
-ghost use Rattle.pz_turn.specs.Outcome.{Gives, GivesOutcome, UnlessMemory, untouched};
+ghost use Rattle.pz_turn.specs.Applying.{found_or_stop, places_of_rows, applied_at, application_of, given_commands, HasNoEffect};
+ghost use Rattle.pz_turn.specs.Outcome.{Gives, GivesOutcome, UnlessMemory, nothing_run};
 
 use crate::one_cell::{cells_of, rewrite_each};
 use crate::outcome::{Given, StepFault};
@@ -50,7 +50,7 @@ impl From<GridFault> for StepFault {
 /// The places of a row, unless there are too many. Rule `match.limit`.
 fn search(alloc: Global, level: &Level, row: &Row, dir: Dir) -> Result<Listed<Place>, StepFault>
     requires of_game { IsRowOf level.now.grid.layers row.now }
-    ensures { Gives (found_or_stop (searched level.now.grid row.now dir)) (λ found. found) result }
+    ensures { Gives (found_or_stop (places_or_limit level.now.grid row.now dir)) (λ found. found) result }
 {
     let found = places(alloc, level, row, dir)??;
     Ok(Listed::new(found))
@@ -90,7 +90,7 @@ fn may_have_place(level: &Level, row: &Row) -> bool
 /// row has no place and no row before it has a gap. A row with a gap before it must be searched, because it might have too many places.
 fn is_left_out(level: &Level, instance: &Instance) -> bool
     requires of_game { AreRowsOf level.now.grid.layers instance.now.left }
-    ensures { result ≡ true → applied instance.now level.now.grid ≡ Ok (untouched level.now.grid) }
+    ensures { result ≡ true → application_of instance.now level.now.grid ≡ Ok (nothing_run level.now.grid) }
 {
     // (brings the proof the law of levels)
     let _ = level.width();
@@ -117,7 +117,7 @@ pub fn take_places(
 ) -> Result<Option<Vec<Listed<Place>>>, StepFault>
     requires of_game { AreRowsOf level.now.grid.layers instance.now.left }
     ensures { UnlessMemory result
-        (λ found. MatchOption found (applied instance.now level.now.grid ≡ Ok (untouched level.now.grid))
+        (λ found. MatchOption found (application_of instance.now level.now.grid ≡ Ok (nothing_run level.now.grid))
         (λ lists. places_of_rows level.now.grid instance.now.scan instance.now.left ≡ Ok lists.items))
         (λ fault. places_of_rows level.now.grid instance.now.scan instance.now.left ≡ Err fault) }
 {
@@ -209,7 +209,7 @@ fn given_commands(lists: &[Listed<Place>], commands: Commands) -> Commands
 /// Applies an instance of any number of rows.
 fn apply_rows(alloc: Global, level: &mut Level, instance: &Instance) -> Result<Given, StepFault>
     requires of_game { IsInstanceOf level.old.grid.layers instance.now }
-    ensures outcome { GivesOutcome (applied instance.now level.old.grid) level.new.grid result }
+    ensures outcome { GivesOutcome (application_of instance.now level.old.grid) level.new.grid result }
     ensures calm { IfOk result (λ given. given.calm ≡ false) }
     ensures size { SameSize level.old.grid level.new.grid }
 {
@@ -255,9 +255,9 @@ fn apply_row(
 ) -> Result<Given, StepFault>
     requires of_game { IsInstanceOf level.old.grid.layers instance.now }
     requires only { instance.now.left ≡ row.now ∷ [] }
-    ensures outcome { GivesOutcome (applied instance.now level.old.grid) level.new.grid result }
+    ensures outcome { GivesOutcome (application_of instance.now level.old.grid) level.new.grid result }
     ensures calm { IfOk result
-        (λ given. given.calm ≡ true → IsCalm applied given.commands level.new.grid instance.now) }
+        (λ given. given.calm ≡ true → IsCalm application_of given.commands level.new.grid instance.now) }
     ensures size { SameSize level.old.grid level.new.grid }
 {
     let found = search(alloc, level, row, instance.scan)?;
@@ -287,9 +287,9 @@ fn apply_row(
 /// `COMBINATION_LIMIT` combinations.
 fn apply(alloc: Global, level: &mut Level, instance: &Instance) -> Result<Given, StepFault>
     requires of_game { IsInstanceOf level.old.grid.layers instance.now }
-    ensures outcome { GivesOutcome (applied instance.now level.old.grid) level.new.grid result }
+    ensures outcome { GivesOutcome (application_of instance.now level.old.grid) level.new.grid result }
     ensures calm { IfOk result
-        (λ given. given.calm ≡ true → IsCalm applied given.commands level.new.grid instance.now) }
+        (λ given. given.calm ≡ true → IsCalm application_of given.commands level.new.grid instance.now) }
     ensures size { SameSize level.old.grid level.new.grid }
 {
     if is_left_out(level, instance) {
@@ -306,7 +306,7 @@ impl Runnable for Instance {
 
     ghost is_of = { λ layers whole instance. IsInstanceOf layers instance };
 
-    ghost runs = { λ whole instance. applied instance };
+    ghost runs = { λ whole instance. application_of instance };
 
     fn run(&self, _whole: &(), alloc: Global, level: &mut Level) -> Result<Given, StepFault> {
         apply(alloc, level, self)

@@ -4,8 +4,8 @@ ghost use Rattle.std.specs.Prelude.{◌≡◌, Ok, IfOk, true, false};
 ghost use Rattle.pz_program.specs.Instance.{IsGroupOf};
 ghost use Rattle.pz_program.specs.Segments.{IsSegmentOf, instances_in};
 ghost use Rattle.pz_sheet.specs.Grid.{SameSize};
-ghost use Rattle.pz_turn.specs.Applying.{applied};
-ghost use Rattle.pz_turn.specs.Outcome.{GivesOutcome, untouched};
+ghost use Rattle.pz_turn.specs.Applying.{application_of};
+ghost use Rattle.pz_turn.specs.Outcome.{GivesOutcome, nothing_run};
 ghost use Rattle.pz_turn.specs.Rest.{pass_of, rest_of, group_runs};
 ghost use Rattle.pz_turn.specs.declared.resting.TheConstants.{PASSES};
 
@@ -21,7 +21,7 @@ fn is_left_out(level: &Level, group: &Group, segment: &Segment) -> bool
     requires of_game { IsGroupOf level.now.grid.layers group.now }
     requires of_group { IsSegmentOf group.now segment.now }
     ensures { result ≡ true →
-        pass_of applied (instances_in group.now segment.now) level.now.grid ≡ Ok (untouched level.now.grid) }
+        pass_of application_of (instances_in group.now segment.now) level.now.grid ≡ Ok (nothing_run level.now.grid) }
 {
     // (brings the proof the law of levels)
     let _ = level.width();
@@ -34,7 +34,7 @@ impl Runnable for Segment {
 
     ghost is_of = { λ layers group segment. IsGroupOf layers group × IsSegmentOf group segment };
 
-    ghost runs = { λ group segment. pass_of applied (instances_in group segment) };
+    ghost runs = { λ group segment. pass_of application_of (instances_in group segment) };
 
     fn run(&self, group: &Group, alloc: Global, level: &mut Level) -> Result<Given, StepFault> {
         if is_left_out(level, group, self) {
@@ -51,7 +51,7 @@ pub(crate) fn rest_group(
     group: &Group,
 ) -> Result<Given, StepFault>
     requires of_game { IsGroupOf level.old.grid.layers group.now }
-    ensures outcome { GivesOutcome (rest_of PASSES (pass_of applied group.now) level.old.grid) level.new.grid result }
+    ensures outcome { GivesOutcome (rest_of PASSES (pass_of application_of group.now) level.old.grid) level.new.grid result }
     ensures kept { IfOk result (λ given. given.changed ≡ false → level.new.grid ≡ level.old.grid) }
     ensures calm { IfOk result (λ given. given.calm ≡ false) }
     ensures size { SameSize level.old.grid level.new.grid }
@@ -65,7 +65,7 @@ impl Runnable for Group {
 
     ghost is_of = { λ layers whole group. IsGroupOf layers group };
 
-    ghost runs = { λ whole group. group_runs PASSES applied group };
+    ghost runs = { λ whole group. group_runs PASSES application_of group };
 
     fn run(&self, _whole: &(), alloc: Global, level: &mut Level) -> Result<Given, StepFault> {
         rest_group(alloc, level, self)

@@ -2,7 +2,7 @@
 
 ghost use Rattle.pz_program.specs.Instance.{AreGroupsOf};
 ghost use Rattle.pz_sheet.specs.Grid.{IsLawful, IsOfGame, SameSize};
-ghost use Rattle.pz_turn.specs.Applying.{applied};
+ghost use Rattle.pz_turn.specs.Applying.{application_of};
 ghost use Rattle.pz_turn.specs.Outcome.{GivesBoth};
 ghost use Rattle.pz_turn.specs.Rest.{pass_of, rest_of, group_runs};
 
@@ -25,7 +25,7 @@ pub fn rest_loop(
     requires level_of { IsOfGame game.now level.old.grid }
     requires groups_of { AreGroupsOf game.now.layers groups.now }
     ensures outcome { GivesBoth
-        (rest_of PASSES (pass_of (group_runs PASSES applied) groups.now) level.old.grid) level.new.grid result }
+        (rest_of PASSES (pass_of (group_runs PASSES application_of) groups.now) level.old.grid) level.new.grid result }
     ensures size { SameSize level.old.grid level.new.grid }
     ensures lawful { IsLawful level.new.grid }
 {

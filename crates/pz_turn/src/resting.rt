@@ -4,7 +4,7 @@ ghost use Rattle.std.specs.Prelude.{◌≡◌, Result, Ok, IfOk, All, take, cond
 ghost use Rattle.pz_program.specs.Instance.{IsGroupOf};
 ghost use Rattle.pz_sheet.specs.Grid.{Grid, IsLawful, IsOfGame, SameSize};
 ghost use Rattle.pz_turn.specs.Calm.{AreCalmFrom, IsCalm};
-ghost use Rattle.pz_turn.specs.Applying.{applied};
+ghost use Rattle.pz_turn.specs.Applying.{application_of};
 ghost use Rattle.pz_turn.specs.Outcome.{Outcome, GivesOutcome, GivesBoth, UnlessMemory};
 ghost use Rattle.pz_turn.specs.Rest.{pass_of, rest_of};
 ghost use Rattle.pz_turn.specs.declared.outcome.StepFault.{StepFault};
@@ -173,7 +173,7 @@ pub fn rest(
 ) -> Result<(Commands, bool), StepFault>
     requires level_of { IsOfGame game.now level.old.grid }
     requires group_of { IsGroupOf game.now.layers group.now }
-    ensures outcome { GivesBoth (rest_of PASSES (pass_of applied group.now) level.old.grid) level.new.grid result }
+    ensures outcome { GivesBoth (rest_of PASSES (pass_of application_of group.now) level.old.grid) level.new.grid result }
     ensures size { SameSize level.old.grid level.new.grid }
     ensures lawful { IsLawful level.new.grid }
 {

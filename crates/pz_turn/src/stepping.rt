@@ -7,7 +7,7 @@ ghost use Rattle.pz_program.specs.Instance.{IsBlockOf, IsProgramOf};
 ghost use Rattle.pz_sheet.specs.Grid.{IsLawful, IsOfGame, SameSize};
 ghost use Rattle.pz_sheet.specs.Presence.{holds_one, cell_of};
 ghost use Rattle.pz_turn.specs.Outcome.{GivesOutcome};
-ghost use Rattle.pz_turn.specs.Step.{block_runs, blocks_run, rules_run, given_input, keeps_player, has_stayed, must_cancel, with_cancel, ended, step_of};
+ghost use Rattle.pz_turn.specs.Step.{block_runs, blocks_run, rules_run, given_input, keeps_player, has_stayed, must_cancel, with_cancel, end_of_step, step_of};
 ghost use Rattle.pz_turn.specs.declared.outcome.StepFault.TheVariants.{Memory};
 
 use crate::group::rest_group;
@@ -164,7 +164,7 @@ pub fn with_cancel(cancelled: bool, commands: Commands) -> Commands
 fn end_of(before: &Level, after: Level, commands: Commands) -> Result<StepEnd, AllocError>
     requires size { SameSize before.now.grid after.grid }
     ensures end { IfOk result
-        (λ end. ended before.now.grid after.grid commands ≡
+        (λ end. end_of_step before.now.grid after.grid commands ≡
         record { level = end.level.grid; commands = end.commands; changed = end.changed }) }
     ensures size { IfOk result (λ end. SameSize before.now.grid end.level.grid) }
     ensures lawful { IfOk result (λ end. IsLawful end.level.grid) }

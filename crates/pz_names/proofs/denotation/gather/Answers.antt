@@ -2,7 +2,7 @@ use Rattle.std.proofs.Common.{◌≡◌, ◌<◌, ◌+◌, length, refl, ap, sym
 use Rattle.std.specs.Prelude.{option_and_then}
 use Rattle.std.proofs.lemmas.List.{at_drop_more, drop_all}
 use Rattle.pz_game.specs.declared.denotation.Denotation.{Denotation}
-use Rattle.pz_names.specs.Denotation.{with_mentions, gathered, known_at}
+use Rattle.pz_names.specs.Denotation.{with_mentions, members_of_parts, known_at}
 use Rattle.pz_names.proofs.MemberLemmas.{gathered-step}
 use Rattle.pz_names.proofs.denotation.gather.Goals as goal
 
@@ -16,7 +16,7 @@ loop-part-preserved c =
     let added : c.add_mentions.new.mentions.items ≡ with_mentions mentions d.members = c.in_ok-add_mentions.ensures.mentions ∙ ap (with_mentions mentions) c.items.ensures in
     record {
       gathered =
-          ap (λ m. gathered known m (drop (i + 1) parts)) added
+          ap (λ m. members_of_parts known m (drop (i + 1) parts)) added
           ∙ (gathered-step known mentions parts i d c.loop-part-test.true (sym c.in-Some.ensures) ∙ c.loop-part.invariant.gathered);
       marked = c.in_ok-add_mentions.ensures.marked;
     }
@@ -32,10 +32,10 @@ returns-in_default c =
     let mentions = c.loop-part.mentions.items in
     let in_range : i < length parts = omega arith in
     sym c.loop-part.invariant.gathered
-    ∙ (at_drop_more (gathered known mentions) parts i 0 in_range
-    ∙ ap (option_and_then (λ (d : Denotation). gathered known (with_mentions mentions d.members) (drop (i + 1) parts))) (sym c.in_default.ensures))
+    ∙ (at_drop_more (members_of_parts known mentions) parts i 0 in_range
+    ∙ ap (option_and_then (λ (d : Denotation). members_of_parts known (with_mentions mentions d.members) (drop (i + 1) parts))) (sym c.in_default.ensures))
 
 pub returns : goal.returns
 returns c =
     sym c.loop-part.invariant.gathered
-    ∙ ap (gathered (known_at c.args.known.now) c.loop-part.mentions.items) (drop_all c.loop-part.part-index c.args.parts.now c.loop-part-test.false)
+    ∙ ap (members_of_parts (known_at c.args.known.now) c.loop-part.mentions.items) (drop_all c.loop-part.part-index c.args.parts.now c.loop-part-test.false)

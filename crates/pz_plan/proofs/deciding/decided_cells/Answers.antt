@@ -1,5 +1,5 @@
 use Rattle.std.proofs.Common.{◌≡◌, ◌+◌, Some, None, drop, refl, ap, sym, ◌∙◌}
-use Rattle.pz_plan.specs.Deciding.{joined, decided_terms, decided_cells}
+use Rattle.pz_plan.specs.Deciding.{both_or_none, decided_terms, decided_cells}
 use Rattle.pz_plan.proofs.Joining.{after, after-some, after-nothing, after-all, cells-at}
 use Rattle.pz_plan.proofs.deciding.decided_cells.Goals as goal
 
@@ -31,7 +31,7 @@ returns-in_default c =
     let out = c.loop-cell.out.items in
     let decided = decided_terms choices (record { row = row; cell = i }) in
     let one : decided cell ≡ None = ap decided (sym c.items.ensures) ∙ (sym c.in_ok-terms.ensures ∙ c.in_default.is) in
-    sym (ap (λ o. after out (joined o (decided_cells choices row (i + 1) (drop (i + 1) cells)))) one)
+    sym (ap (λ o. after out (both_or_none o (decided_cells choices row (i + 1) (drop (i + 1) cells)))) one)
     ∙ (sym (cells-at choices row out cells i cell c.loop-cell-test.true c.index-cells-cell.is) ∙ c.loop-cell.invariant)
 
 pub returns : goal.returns

@@ -1,5 +1,5 @@
 use Rattle.std.proofs.Common.{◌≡◌, ◌+◌, Some, None, drop, refl, ap, sym, ◌∙◌}
-use Rattle.pz_plan.specs.Deciding.{joined, decided_row, decided_rows}
+use Rattle.pz_plan.specs.Deciding.{both_or_none, decided_row, decided_rows}
 use Rattle.pz_plan.proofs.Joining.{after, after-some, after-nothing, after-all, rows-at}
 use Rattle.pz_plan.proofs.deciding.decided_rows.Goals as goal
 
@@ -27,7 +27,7 @@ returns-in_default c =
     let row = c.index-rows-number.result in
     let out = c.loop-number.out.items in
     let one : decided_row choices i row ≡ None = sym c.in_ok-terms.ensures ∙ c.in_default.is in
-    sym (ap (λ o. after out (joined o (decided_rows choices (i + 1) (drop (i + 1) rows)))) one)
+    sym (ap (λ o. after out (both_or_none o (decided_rows choices (i + 1) (drop (i + 1) rows)))) one)
     ∙ (sym (rows-at choices out rows i row c.loop-number-test.true c.index-rows-number.is) ∙ c.loop-number.invariant)
 
 pub returns : goal.returns

@@ -1,5 +1,5 @@
 use Rattle.std.proofs.Common.{◌+◌, ◌<◌, length, Some, drop, refl, ap, sym, ◌∙◌, arith}
-use Rattle.pz_plan.specs.Deciding.{joined, decided_terms}
+use Rattle.pz_plan.specs.Deciding.{both_or_none, decided_terms}
 use Rattle.pz_plan.proofs.Joining.{after, after-some, after-nothing, after-all, terms-at}
 use Rattle.pz_plan.proofs.deciding.decided_terms.Goals as goal
 
@@ -28,7 +28,7 @@ returns-in_default c =
     let out = c.loop-mention.terms.items in
     let more = decided_terms choices spot (drop (i + 1) mentions) in
     let in_range : i < length mentions = omega arith in
-    sym (ap (λ o. after out (joined o more)) (sym c.decided_term.ensures ∙ c.in_default.is)) ∙ (sym (terms-at choices spot out mentions i _ in_range) ∙ c.loop-mention.invariant)
+    sym (ap (λ o. after out (both_or_none o more)) (sym c.decided_term.ensures ∙ c.in_default.is)) ∙ (sym (terms-at choices spot out mentions i _ in_range) ∙ c.loop-mention.invariant)
 
 pub returns : goal.returns
 unfolding decided_terms

@@ -1,4 +1,4 @@
-use Rattle.pz_sheet.proofs.Common.{◌≡◌, ◌++◌, [], ◌∷◌, List, Option, arith, ap, sym, ◌∙◌, subst, Piece, Layering, seen, IsSound, Change, changed_cells, changes_seen, IsChangeOf, cell_there, layers_in}
+use Rattle.pz_sheet.proofs.Common.{◌≡◌, ◌++◌, [], ◌∷◌, List, Option, arith, ap, sym, ◌∙◌, subst, Piece, Layering, pieces_of_cell, IsSound, Change, changed_cells, changes_seen, IsChangeOf, cell_there, layers_in}
 use Rattle.std.proofs.lemmas.List.{map-append}
 use Rattle.std.proofs.lemmas.List.Elements.{All-append, All-cons, All-nil}
 use Rattle.pz_sheet.specs.Changes.{change_seen}
@@ -14,7 +14,7 @@ changes-preserved g c =
     let new : Change g.row.N = record { index = index; cell = c.cell-cell.result.now } in
     let old = c.changes.changes.items in
     let over : layers_in older ≡ layers_in grid = grind (arith, c.requires.size) in
-    let there = ap (λ (layering : Layering). seen layering new.cell) (sym over) ∙ c.cell-cell.ensures.cell in
+    let there = ap (λ (layering : Layering). pieces_of_cell layering new.cell) (sym over) ∙ c.cell-cell.ensures.cell in
     let more : changes_seen grid c.push.new.self.items ≡ changes_seen grid old ++ cell_there older index ∷ [] =
     ap (changes_seen grid) c.in_ok-push.ensures.items ∙ map-append (change_seen (layers_in grid)) old (new ∷ []) ∙ ap (λ (cell : List (Option Piece)). changes_seen grid old ++ record { number = index; cell = cell } ∷ []) there in
     let long = c.in-Some.ensures.as_many in

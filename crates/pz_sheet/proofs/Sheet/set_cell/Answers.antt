@@ -1,4 +1,4 @@
-use Rattle.pz_sheet.proofs.Common.{arith, small_cell, List, length, Option, ap, map-set, Piece, seen, BareState, grid_of, known_of, sound_at}
+use Rattle.pz_sheet.proofs.Common.{arith, small_cell, List, length, Option, ap, map-set, Piece, pieces_of_cell, BareState, grid_of, known_of, sound_at}
 use Rattle.pz_sheet.proofs.PlacedLemmas.{there_at, placed_at}
 use Rattle.pz_sheet.proofs.SheetLemmas.{seen_within, within_lines, stored_set}
 use Rattle.pz_sheet.proofs.Sheet.set_cell.Goals as goal
@@ -43,4 +43,4 @@ invariant_of-self g c =
     }
 
 pub returns : goal.returns
-returns g c = rw (← c.self.view_is) (ap (λ (cells : List (List (Option Piece))). record (grid_of c.self.inside.width c.self.inside.height c.self.inside.layers c.self.inside.cells.items) { cells = cells }) (map-set (seen c.self.inside.layers) c.self.inside.cells.items c.args.index c.args.cell))
+returns g c = rw (← c.self.view_is) (ap (λ (cells : List (List (Option Piece))). record (grid_of c.self.inside.width c.self.inside.height c.self.inside.layers c.self.inside.cells.items) { cells = cells }) (map-set (pieces_of_cell c.self.inside.layers) c.self.inside.cells.items c.args.index c.args.cell))

@@ -1,15 +1,15 @@
-use Rattle.pz_turn.proofs.Common.{applied, applied_with, nat_tests, ◌≡◌, [], length, drop, arith, ap, err_from_is_err_and, drop_all, in_rewrite, combinations}
+use Rattle.pz_turn.proofs.Common.{application_of, applied_with, nat_tests, ◌≡◌, [], length, drop, arith, ap, err_from_is_err_and, drop_all, in_rewrite, combinations}
 use Rattle.pz_turn.proofs.SingleRow.{applied_ends}
 use Rattle.pz_turn.proofs.applying.apply_rows.Goals as goal
 
 pub returns-in_err-found-clause-outcome : goal.returns-in_err-found-clause-outcome
-unfolding applied
+unfolding application_of
 returns-in_err-found-clause-outcome c =
     let p = err_from_is_err_and c.from_residual.result c.from_residual.ensures.1 in
     rw (p.1, p.2) (λ not_memory. ap (applied_with c.args.instance.now c.args.level.now.grid) (c.in_err-found.ensures not_memory))
 
 pub returns-then-combination_count-gt-COMBINATION_LIMIT-clause-outcome : goal.returns-then-combination_count-gt-COMBINATION_LIMIT-clause-outcome
-unfolding applied
+unfolding application_of
 returns-then-combination_count-gt-COMBINATION_LIMIT-clause-outcome c = λ _. grind (arith, nat_tests, rw c.in-Some.is at c.in_ok-found.ensures, ap length (ap combinations c.deref.ensures.value))
 
 pub returns-clause-outcome : goal.returns-clause-outcome

@@ -1,4 +1,4 @@
-use Rattle.pz_turn.proofs.Common.{rest_of, up_to, refl, ◌≡◌, Bool, cond, take, Ok, arith, ap, ◌∙◌, subst, err_from_is_err_and, same_size_on, Grid, Outcome, joined, pass_of, ends, not-false, not-true}
+use Rattle.pz_turn.proofs.Common.{rest_of, up_to, refl, ◌≡◌, Bool, cond, take, Ok, arith, ap, ◌∙◌, subst, err_from_is_err_and, same_size_on, Grid, Outcome, outcome_behind, pass_of, ends, not-false, not-true}
 use Rattle.pz_turn.proofs.Passes.{calm_rest, calm_more, rest_ends, find_none, running_more}
 use Rattle.pz_turn.proofs.resting.to_rest.Goals as goal
 
@@ -7,7 +7,7 @@ returns-in_err-passed-clause-outcome g c =
     let p = err_from_is_err_and c.from_residual.result c.from_residual.ensures.1 in
     rw (p.1, p.2) (λ not_memory.
     let stops = c.in_err-passed.ensures.outcome not_memory in
-    rest_ends _ _ _ _ _ c.passes.invariant.running (omega arith) (ap ends stops) ∙ ap (joined (record { level = c.passes.level.grid; commands = c.passes.so_far.commands; changed = c.passes.so_far.changed })) stops)
+    rest_ends _ _ _ _ _ c.passes.invariant.running (omega arith) (ap ends stops) ∙ ap (outcome_behind (record { level = c.passes.level.grid; commands = c.passes.so_far.commands; changed = c.passes.so_far.changed })) stops)
 
 pub returns-then-not-passed-clause-outcome : goal.returns-then-not-passed-clause-outcome
 returns-then-not-passed-clause-outcome g c =

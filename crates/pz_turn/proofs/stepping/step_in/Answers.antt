@@ -1,4 +1,4 @@
-use Rattle.pz_turn.proofs.Common.{◌≡◌, Option, Result, arith, ap, sym, ◌∙◌, Ok, err_from_is_err_and, Dir, Commands, Program, GameParts, Grid, StepFault, Outcome, ended, given_input, with_cancel, rules_run, step_ended, step_of, players_of}
+use Rattle.pz_turn.proofs.Common.{◌≡◌, Option, Result, arith, ap, sym, ◌∙◌, Ok, err_from_is_err_and, Dir, Commands, Program, GameParts, Grid, StepFault, Outcome, end_of_step, given_input, with_cancel, rules_run, step_ended, step_of, players_of}
 use Rattle.pz_turn.proofs.stepping.step_in.Goals as goal
 
 -- how a step ends or stops
@@ -15,4 +15,4 @@ pub returns-clause-end : goal.returns-clause-end
 returns-clause-end c =
     let ends = step_gives c.args.game.now c.args.program.now c.args.level.now.grid _ c.args.input _ c.in_ok-work.ensures.given c.in_ok-given.ensures.outcome in
     let commands = c.with_cancel.ensures ∙ ap (λ b. with_cancel b c.in_ok-given.given.commands) c.must_cancel-cancelled.ensures in
-    ends ∙ ap (λ (given : Commands). Ok (ended c.args.level.now.grid c.run_rules.new.level.grid given)) (sym commands) ∙ ap Ok c.in_ok-end.ensures.end
+    ends ∙ ap (λ (given : Commands). Ok (end_of_step c.args.level.now.grid c.run_rules.new.level.grid given)) (sym commands) ∙ ap Ok c.in_ok-end.ensures.end
