@@ -294,7 +294,7 @@ impl BareLevel {
     pub fn is_still(&self, x: u32, y: u32) -> bool
         requires x_in { x < self.now.grid.width }
         requires y_in { y < self.now.grid.height }
-        ensures { result ≡ true → IsStillAt self.now.grid x y }
+        ensures { IsTrue result ↔ IsStillAt self.now.grid x y }
     {
         match &*self.sheet {
             AnySheet::Small(sheet) => sheet.is_still(x, y),

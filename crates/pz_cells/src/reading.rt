@@ -31,7 +31,7 @@ impl<const N: usize> Cell<N> {
 
     /// Whether nothing in the cell heads anywhere.
     pub fn is_still(&self, layers: &Layers<N>) -> bool
-        ensures { result ≡ true → (number : ℕ) → member self.now.movement number ≡ false }
+        ensures { IsTrue result ↔ ((number : ℕ) → member self.now.movement number ≡ false) }
     {
         words::is_empty(&self.movement)
     }

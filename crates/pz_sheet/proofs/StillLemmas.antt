@@ -1,17 +1,25 @@
 -- A cell that heads nowhere is still. So is each cell of a line or of a level for which no heading is noted.
-use Rattle.pz_sheet.proofs.Common.{Layering, inl, inr, ◌≡◌, ◌+◌, ◌*◌, ◌/◌, ◌%◌, ◌<◌, ◌≤◌, ℕ, suc, List, [], ◌∷◌, Option, Bool, true, false, map, length, get_or, arith, sym, ◌∙◌, refl, subst, All, cases_lt, get_or-map, mod-mul-add, div-mul-add, member, IsWithin, heads, flag, Cell, Piece, still_place, place_of, Grid, HeadingSets, column_in, number_of, row_in, pieces_of_cell, IsSound, grid_of, IsNoted, AreNoted, IsStored, no_cell, cell_mapped}
+use Rattle.pz_sheet.proofs.Common.{Layering, inl, inr, ◌≡◌, ◌+◌, ◌*◌, ◌/◌, ◌%◌, ◌<◌, ◌≤◌, ℕ, suc, List, [], ◌∷◌, Option, Bool, true, false, map, length, get_or, arith, sym, ◌∙◌, refl, subst, All, cases_lt, get_or-map, mod-mul-add, div-mul-add, member, IsWithin, heads, flag, Cell, Piece, still_place, place_of, Grid, HeadingSets, column_in, number_of, row_in, pieces_of_cell, each_number, heads_alike, IsSound, grid_of, IsNoted, AreNoted, IsStored, no_cell, cell_mapped}
 use Rattle.std.proofs.Math.Nat.{mul-le-mul_right}
 use Rattle.std.proofs.lemmas.List.Elements.{All-map}
 use Rattle.pz_sheet.specs.Movement.{IsStillAt, AreStill, AreColumnsStill}
 use Rattle.pz_planes.specs.Notes.{HaveNoneBetween}
 use Rattle.pz_cells.specs.Lists.{IsStilled, HeadNowhere}
 use Rattle.pz_sheet.proofs.SheetLemmas.{cell_in}
-use Rattle.pz_cells.proofs.ListLemmas.{AreWalked, still_shows}
+use Rattle.pz_cells.proofs.ListLemmas.{AreWalked, still_shows, stilled}
 
 pub still_seen : (N : ℕ) (layering : Layering) (cell : Cell N) → IsSound layering cell → ((number : ℕ) → member cell.movement number ≡ false) → pieces_of_cell layering cell ≡ map still_place (pieces_of_cell layering cell)
 still_seen N layering cell sound none =
     cell_mapped layering.depth layering.layers cell.objects cell.movement cell.objects cell.movement still_place sound.of_game
     (λ layer. still_shows layering.layers (member cell.objects) (heads cell.movement layer) (heads cell.movement layer) layer (place_of layering.layers cell.objects cell.movement layer) (λ dir. none (flag layer dir)) (sound.shows layer))
+
+-- a cell that is still heads nowhere
+pub still_heads : (N : ℕ) (layering : Layering) (cell : Cell N) → All (λ l. l < layering.depth) layering.layers → IsSound layering cell → pieces_of_cell layering cell ≡ map still_place (pieces_of_cell layering cell) → (number : ℕ) → member cell.movement number ≡ false
+still_heads N layering cell low sound still number =
+    let none : (other : ℕ) → member [] other ≡ false = λ other. grind arith in
+    let without = stilled layering.depth layering.layers cell.objects cell.movement [] sound none in
+    let heads_same = heads_alike layering.depth layering.layers cell.objects [] cell.objects cell.movement low without.0 sound (still ∙ sym without.1) in
+    each_number (λ (mine theirs : Bool). mine ≡ theirs) cell.movement [] sound.proper without.0.proper refl heads_same number ∙ none number
 
 -- what is within nothing has nothing
 none_within : (wanted words : List ℕ) → IsWithin wanted words → ((number : ℕ) → member words number ≡ false) → (number : ℕ) → member wanted number ≡ false

@@ -1,6 +1,6 @@
 //! What heads somewhere, and the end of all movement.
 
-ghost use Rattle.std.specs.Prelude.{◌≡◌, ◌<◌, ◌≤◌, length, map, true, IfSome, MatchOption};
+ghost use Rattle.std.specs.Prelude.{◌≡◌, ◌<◌, ◌≤◌, ◌↔◌, IsTrue, length, map, IfSome, MatchOption};
 ghost use Rattle.pz_sets.specs.declared.set.TheConstants.{CAPACITY};
 ghost use Rattle.pz_game.specs.declared.limits.TheConstants.{MOST_LAYERS};
 ghost use Rattle.pz_cells.specs.Cell.{IsNextMover, still_place};
@@ -21,7 +21,7 @@ impl<const N: usize> Sheet<N> {
     pub fn is_still(&self, x: u32, y: u32) -> bool
         requires x_in { x < self.now.grid.width }
         requires y_in { y < self.now.grid.height }
-        ensures { result ≡ true → IsStillAt self.now.grid x y }
+        ensures { IsTrue result ↔ IsStillAt self.now.grid x y }
     {
         let layers = self.layers();
         self.cell(self.index(x, y)).is_still(layers)
