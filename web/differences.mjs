@@ -2,6 +2,7 @@
 // Where the site may decide otherwise: which of the differences of docs/differences.md a session that differs has the form of. The twin of
 // python/saxtegun/differences.py.
 import { before, descriptionOf, settingsOf } from "./descriptions.mjs";
+import { TextMap, among, distinct, firstsOf } from "./text-map.mjs";
 import { fold, shortened } from "./texts.mjs";
 
 const WHERE_TOLD = "docs/differences.md";
@@ -28,16 +29,15 @@ function sidesOf({ words }) {
 
 const isLate = ({ words }) => before("[", words).includes("late");
 
-// The words on the left of rules, each with the first line that has it.
+// The words on the left of rules, [[word, line]]: each with the first line that has it.
 function namesOnTheLeft(rules) {
-  const found = new Map();
-  for (const { line, words } of rules) for (const word of before("->", words)) if (!found.has(word)) found.set(word, line);
-  return found;
+  const pairs = rules.flatMap(({ line, words }) => before("->", words).map((word) => [word, line])), lines = firstsOf(pairs);
+  return distinct(pairs.map(([word]) => word)).map((word) => [word, lines.get(word)]);
 }
 
 // The properties of one layer that stand on the left of a rule, [{ name, members, line }]: the first of them, since a source may have many.
 function propertiesOf(game, rules) {
-  const named = [...namesOnTheLeft(rules)].filter(([name]) => game.isProperty(name)).slice(0, MOST_PROPERTIES);
+  const named = namesOnTheLeft(rules).filter(([name]) => game.isProperty(name)).slice(0, MOST_PROPERTIES);
   return named.map(([name, line]) => ({ name, line, members: game.members(name) }))
     .filter(({ members }) => members.length > 1 && new Set(members.map((it) => game.layers.get(it))).size === 1);
 }
@@ -87,7 +87,7 @@ function cellsIn(words) {
 class Layers {
   constructor(game) {
     this.game = game;
-    this.known = new Map();
+    this.known = new TextMap();
   }
 
   of(name) {
@@ -98,14 +98,14 @@ class Layers {
     return this.known.get(name);
   }
 
-  // The names of a cell that have no word before them, each with its layers: { named, all }, the second of all its names.
+  // The names of a cell that have no word before them, [name, its layers]; and the layers of all its names: { named, all }.
   ofCell(cell) {
-    const named = new Map();
+    const named = [];
     let all = 0n, above = "";
     for (const word of cell) {
       if (!BEFORE_A_NAME.has(word)) {
         all |= this.of(word);
-        if (above === "") named.set(word, this.of(word));
+        if (above === "") named.push([word, this.of(word)]);
       }
       above = BEFORE_A_NAME.has(word) ? word : "";
     }
@@ -129,7 +129,7 @@ function placedTold(game, rules) {
   for (const rule of rules.filter((it) => !isLate(it))) {
     const { left, right } = sidesOf(rule), lefts = cellsIn(left);
     for (const [at, cell] of cellsIn(right).slice(0, lefts.length).entries()) {
-      const there = layers.ofCell(lefts[at]).all, [name] = [...layers.ofCell(cell).named].find(([, of]) => (of & moved) !== 0n && (of & there) === 0n) ?? [];
+      const there = layers.ofCell(lefts[at]).all, [name] = layers.ofCell(cell).named.find(([, of]) => (of & moved) !== 0n && (of & there) === 0n) ?? [];
       if (name !== undefined) return `the rule on line ${rule.line} places \`${shortened(name)}\`, which takes over what moves in its layer: on the site it is still`;
     }
   }
@@ -144,7 +144,7 @@ function startTold(source, frames) {
 
 // A property of which two different members stood in the first level, or nothing.
 function propertyTold(game, rules, level) {
-  const names = new Set(fold(level ?? "").match(/[^ ,:\n]+/g) ?? []);
+  const names = among(fold(level ?? "").match(/[^ ,:\n]+/g) ?? []);
   const met = propertiesOf(game, rules).find(({ members }) => members.filter((it) => names.has(it)).length > 1);
   return met === undefined ? "" : `\`${shortened(met.name)}\` in the rule on line ${met.line} stands for objects of one layer: on the site the first place counts, not the first member`;
 }

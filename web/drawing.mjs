@@ -5,6 +5,7 @@
 import { drawArrows } from "./arrows.mjs";
 import { differing, heightOf, isDrawn, numberAt, placeOf } from "./levels.mjs";
 import { put } from "./saying.mjs";
+import { firstsOf } from "./text-map.mjs";
 
 export const SIDE = 5; // pixels of a sprite
 const ON_CANVAS = new WeakMap(); // for each canvas what it shows: { level, pictures, scale, marked }
@@ -47,7 +48,7 @@ function emptyPicture(side) {
 export class Pictures {
   constructor(look, labels) {
     this.ground = look.ground;
-    this.objects = new Map(look.objects.map((object) => [object[0], { object, isOpaque: isOpaque(object), picture: null }]));
+    this.objects = firstsOf(look.objects.map((object) => [object[0], { object, isOpaque: isOpaque(object), picture: null }]));
     this.side = look.objects.length === 0 ? LETTER : SIDE;
     this.labels = labels;
     this.pictures = new Map();

@@ -3,6 +3,7 @@
 // twin of what python/saxtegun/explanations.py and culprits.py say.
 import { before, descriptionOf, settingsOf } from "./descriptions.mjs";
 import { nearest } from "./nearest.mjs";
+import { TextMap, among, distinct, firstsOf } from "./text-map.mjs";
 import { fold, shortened } from "./texts.mjs";
 import { CLOCK } from "./ticks.mjs";
 
@@ -61,13 +62,13 @@ export function causeTold(cause) {
 
 // The first words of a stranger behind the words of a fault, or nothing.
 function quoted(words, tell = (word) => `\`${shortened(word)}\``) {
-  const all = [...new Set(words)], told = all.slice(0, WORDS_TOLD).map(tell);
+  const all = distinct(words), told = all.slice(0, WORDS_TOLD).map(tell);
   const more = all.length > WORDS_TOLD ? ` and ${all.length - WORDS_TOLD} more` : "";
   return told.length > 0 ? `: ${told.join(", ")}${more}` : "";
 }
 
 // All names, as they are compared.
-const namesIn = ({ objects, legend }) => new Set([...objects.flatMap(({ names }) => names), ...legend.map(({ left }) => left[0])].map(fold));
+const namesIn = ({ objects, legend }) => distinct([...objects.flatMap(({ names }) => names), ...legend.map(({ left }) => left[0])].map(fold));
 
 // The words of a line, which are told in small letters, as they are written there.
 function asWritten({ lines }, { line, words }) {
@@ -90,7 +91,7 @@ function wordsAt(told, number) {
 
 // The words of a line that are neither a name nor a word of the language, and for each the nearest name that is there.
 function unknownTold(told, number) {
-  const names = namesIn(told), isKnown = (word) => names.has(word) || RULE_WORDS.has(word) || COMMAND.test(word);
+  const names = namesIn(told), there = among(names), isKnown = (word) => there.has(word) || RULE_WORDS.has(word) || COMMAND.test(word);
   return quoted(wordsAt(told, number).filter((word) => !isKnown(fold(word))), (word) => {
     const near = nearest(fold(word), names);
     return `\`${shortened(word)}\`${near === null ? "" : ` (near: \`${shortened(near)}\`)`}`;
@@ -99,14 +100,14 @@ function unknownTold(told, number) {
 
 // Tells of a name what it is in the end, behind its synonyms: "object", or a name joined by "and" or by "or".
 function kinds({ objects, legend }) {
-  const ofObjects = new Set(objects.flatMap(({ names }) => names).map(fold)), rights = new Map();
-  for (const { left, right } of legend) if (!rights.has(fold(left[0]))) rights.set(fold(left[0]), right.map(fold));
-  const known = new Map(); // what is found out is kept for all synonyms on the way
+  const ofObjects = among(objects.flatMap(({ names }) => names).map(fold)), rights = firstsOf(legend.map(({ left, right }) => [fold(left[0]), right.map(fold)]));
+  const known = new TextMap(); // what is found out is kept for all synonyms on the way
   return (name) => {
-    const way = new Set();
+    const way = [], passed = new TextMap();
     let word = name;
-    while (!known.has(word) && !ofObjects.has(word) && rights.get(word)?.length === 1 && !way.has(word)) {
-      way.add(word);
+    while (!known.has(word) && !ofObjects.has(word) && rights.get(word)?.length === 1 && !passed.has(word)) {
+      way.push(word);
+      passed.set(word, true);
       [word] = rights.get(word);
     }
     const kind = known.get(word) ?? (ofObjects.has(word) ? "object" : rights.get(word)?.[1]);
@@ -125,9 +126,9 @@ function glyphsTold(told, number) {
 
 // The names of a line that are there already, in it or above it.
 function againTold({ objects, legend }, number) {
-  const known = new Set(), lines = [...objects.map(({ line, names }) => [line, names]), ...legend.map(({ line, left }) => [line, left])];
+  const known = new TextMap(), lines = [...objects.map(({ line, names }) => [line, names]), ...legend.map(({ line, left }) => [line, left])];
   for (const [line, words] of lines.sort(([one], [other]) => one - other)) {
-    const again = words.filter((word) => known.size === known.add(fold(word)).size);
+    const again = words.filter((word) => known.size === known.set(fold(word), true).size);
     if (line === number) return quoted(again);
   }
   return "";

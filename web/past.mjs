@@ -1,6 +1,6 @@
 // @ts-check
 // What can be put back: texts, recordings, names and sessions files that something else took the place of. The newest stands last.
-import { firstsOf } from "./text-map.mjs";
+import { among, distinct, firstsOf } from "./text-map.mjs";
 
 /** @typedef {import("./state").State} State */
 
@@ -51,13 +51,13 @@ function alike(one, other, isEnd) {
   return count;
 }
 
-const distinctLinesOf = (text) => new Set(text.split("\n").map((line) => line.trim()).filter((line) => line !== ""));
+const distinctLinesOf = (text) => distinct(text.split("\n").map((line) => line.trim()).filter((line) => line !== ""));
 
 // Whether an edit leaves less than half of a text, as where all of it is replaced: neither half of its letters at its begin and its end, nor half of its lines.
 export function isReplaced(text, by) {
   if (2 * (alike(text, by, false) + alike(text, by, true)) >= text.length) return false;
-  const lines = distinctLinesOf(text), left = distinctLinesOf(by);
-  return 2 * [...lines].filter((line) => left.has(line)).length < lines.size;
+  const lines = distinctLinesOf(text), left = among(distinctLinesOf(by));
+  return 2 * lines.filter((line) => left.has(line)).length < lines.length;
 }
 
 /** @param {State} before @param {State} after */

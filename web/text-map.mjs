@@ -60,6 +60,9 @@ export function firstsOf(pairs) {
   return map;
 }
 
+// The map that has these texts.
+export const among = (texts) => firstsOf(texts.map((text) => [text, true]));
+
 // The texts, each once.
 export function distinct(texts) {
   const known = new TextMap();
