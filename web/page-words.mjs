@@ -206,7 +206,7 @@ function lostTold({ text, work, file }) {
   const parts = [
     text !== undefined && `the text of ${gameOf(text).title}`,
     work && workTold(work),
-    file && `${file.name} with ${plural(file.entries.length, "session")}`,
+    file && `${file.name} with ${plural(file.count, "session")}`,
   ];
   return parts.filter(Boolean).join(", ");
 }

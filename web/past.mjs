@@ -37,10 +37,10 @@ export function leavingText(past, text) {
   return last < 0 || past[last].text !== undefined ? past : past.map((lost, place) => (place === last ? { ...lost, text } : lost));
 }
 
-// Whether a sessions file, played over a text, has these very inputs over this source.
-function isInFile(file, text, source, { index, inputs }) {
+// Whether sessions of a file, played over a text, have these very inputs over this source.
+function isAmong(entries, text, source, { index, inputs }) {
   const isOver = text === source; // compared once: thousands of sessions may be played over a text of 1 MiB
-  return (file?.entries ?? []).some((entry) => entry.index === index && isSameList(entry.inputs, inputs) && (entry.source === "" ? isOver : entry.source === source));
+  return entries.some((entry) => entry.index === index && isSameList(entry.inputs, inputs) && (entry.source === "" ? isOver : entry.source === source));
 }
 
 // How many letters two texts begin with alike, or end with alike.
@@ -74,18 +74,18 @@ function isWithin({ work, text }, other, textOfOther) {
 /** @param {State} before @param {State} after */
 function isRecordingLost(before, after) {
   const { work, text } = before;
-  if (work.inputs.length === 0 || isWithin(before, after.work, after.text) || isInFile(after.file, after.text, textUnder(work, text), work)) return false;
+  if (work.inputs.length === 0 || isWithin(before, after.work, after.text) || isAmong(after.file?.entries ?? [], after.text, textUnder(work, text), work)) return false;
   const texts = textsBelow(after.past, after.text);
   /** @type {(lost: import("./state").Lost, place: number) => boolean} */
-  const isIn = ({ work: other, file = null }, place) => (other !== undefined && isWithin(before, other, texts[place])) || isInFile(file, texts[place], textUnder(work, text), work);
+  const isIn = ({ work: other, file }, place) => (other !== undefined && isWithin(before, other, texts[place])) || isAmong(file?.entriesAtHand ?? [], texts[place], textUnder(work, text), work);
   return !after.past.some(isIn);
 }
 
 // Whether a recording's own text is nowhere any more: one that can't stand in the field has no other place.
 function isOwnTextLost({ work: { own = null }, text }, after) {
   if (own === null || own === text) return false;
-  const isIn = ({ text: there, work, file }) => there === own || work?.own === own || file?.entries.some(({ source }) => source === own);
-  return !isIn(after) && !after.past.some(isIn);
+  const isIn = ({ text: there, work }, entries) => there === own || work?.own === own || entries.some(({ source }) => source === own);
+  return !isIn(after, after.file?.entries ?? []) && !after.past.some((lost) => isIn(lost, lost.file?.entriesAtHand ?? []));
 }
 
 function isNameLost({ work: { name } }, after) {
@@ -118,9 +118,10 @@ export function lostIn(before, after) {
 
 const numberOf = ({ number = 0 }) => number;
 
-// Things that were lost now, behind others: each has a number, by which it is known which were lost first, wherever they stand.
+// Things that were lost now, behind others: each has a number, by which it is known which were lost first, wherever they stand. Of a file its bytes stay.
 export function lostNow(things, past) {
   const last = past.reduce((most, it) => Math.max(most, numberOf(it)), 0);
+  things.forEach(({ file }) => file?.forget());
   return things.map((lost, place) => ({ ...lost, number: last + 1 + place }));
 }
 

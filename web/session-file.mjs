@@ -11,6 +11,8 @@ const WORDS = ["undo", "restart", "tick"];
 const MOST_INDEX = 2 ** 64;
 const HALF_A_LETTER = /\p{Surrogate}/u;
 const BLANK = [0x20, 0x0a, 0x0d, 0x09];
+const QUOTE = 0x22, BACKSLASH = 0x5c;
+const IN_A_LIST = { 0x7b: 0x5b, 0x7d: 0x5d, 0x3a: 0x2c }; // what stands in a list where an object has { or } or :
 
 // Why a file has no answer, in a sentence.
 export class Refusal extends Error {}
@@ -32,19 +34,19 @@ const isHolder = (value) => value !== null && typeof value === "object";
 
 // What there is in an element that the engine ignores: whether a text or a name in it has half a letter, whether one holds the demand, how deep its lists and
 // objects go, and how many things they have, each as far as is asked for. Each is listed once: an object with a million members takes long.
-function contentOf(element) {
+function contentOf(element, most = MOST_ELEMENTS) {
   const content = { isHalf: false, isDemand: false, depth: 0, count: 0 };
   const see = (text) => {
     content.isHalf ||= hasHalfALetter(text);
     content.isDemand ||= text.toLowerCase().includes(DEMAND);
   };
   if (typeof element === "string") see(element);
-  for (let level = [element].filter(isHolder); level.length > 0 && content.count <= MOST_ELEMENTS && content.depth <= MOST_DEEP; content.depth += 1) {
+  for (let level = [element].filter(isHolder); level.length > 0 && content.count <= most && content.depth <= MOST_DEEP; content.depth += 1) {
     const inside = [];
     for (const holder of level) {
       const names = Array.isArray(holder) ? [] : Object.keys(holder), { length } = Array.isArray(holder) ? holder : names;
       content.count += length;
-      if (content.count > MOST_ELEMENTS) break;
+      if (content.count > most) break;
       names.forEach(see);
       for (const value of Array.isArray(holder) ? holder : names.map((name) => holder[name])) {
         if (typeof value === "string") see(value);
@@ -82,9 +84,32 @@ function isNearlyDemand(value, { isDemand }) {
   return value !== DEMAND && (isDemand || (ALIKE.has(letters.length) && lettersInOrder(DEMAND, letters) >= ALIKE.get(letters.length)));
 }
 
+// The bytes of JSON with a list of names and values in the place of each object: of members with one name JSON.parse leaves the last.
+function withoutObjects(bytes) {
+  const made = bytes.slice();
+  let isText = false;
+  for (let at = 0; at < made.length; at += 1) {
+    if (made[at] === QUOTE) isText = !isText;
+    else if (isText) at += made[at] === BACKSLASH ? 1 : 0;
+    else made[at] = IN_A_LIST[made[at]] ?? made[at];
+  }
+  return made;
+}
+
+// What there is in the elements of a list, of which `whole` has each with all members of its objects.
+function contentsOf(elements, whole) {
+  return elements.map((element, place) => {
+    const content = contentOf(element);
+    if (whole === undefined || !isHolder(element)) return content;
+    const all = contentOf(whole[place], 2 * MOST_ELEMENTS), { isHalf, isDemand, depth } = all;
+    return { isHalf, isDemand, depth, count: all.count > 2 * MOST_ELEMENTS ? Infinity : content.count };
+  });
+}
+
 // What makes elements that are ignored, in a body or behind it, none that may stand there; null where nothing does.
-function furtherFault(body, rest) {
-  const [inBody, behind] = [body, rest].map((elements) => elements.map(contentOf)), count = [...inBody, ...behind].reduce((sum, content) => sum + content.count, body.length + rest.length);
+function furtherFault(body, rest, whole) {
+  const inBody = contentsOf(body, whole?.[1].slice(4)), behind = contentsOf(rest, whole?.slice(2));
+  const count = [...inBody, ...behind].reduce((sum, content) => sum + content.count, body.length + rest.length);
   if (count > MOST_ELEMENTS) return `its lists have more than ${MOST_ELEMENTS.toLocaleString("en")} elements`;
   const ignored = ignoredFault(inBody, MOST_DEEP - 3) ?? ignoredFault(behind, MOST_DEEP - 2);
   if (ignored !== null) return ignored;
@@ -105,12 +130,12 @@ export function bodyFault([source, inputs, level, index = null]) {
   return [source, level].some(hasHalfALetter) ? HALF : null;
 }
 
-// What makes a value no entry of a sessions file, or null.
-export function faultOf(entry) {
+// What makes a value no entry of a sessions file, or null. Where it was read from a text that has objects, `whole` is the same with lists in their place.
+export function faultOf(entry, whole = undefined) {
   if (!Array.isArray(entry) || typeof entry[0] !== "string" || !Array.isArray(entry[1])) return "it is no list of a name and a list";
   const [name, body, ...rest] = entry;
   if (body.length + rest.length > MOST_ELEMENTS) return `its lists have more than ${MOST_ELEMENTS.toLocaleString("en")} elements`;
-  return bodyFault(body) ?? (hasHalfALetter(name) ? HALF : null) ?? furtherFault(body.slice(4), rest);
+  return bodyFault(body) ?? (hasHalfALetter(name) ? HALF : null) ?? furtherFault(body.slice(4), rest, whole);
 }
 
 // A span of bytes without the white space around it.
@@ -152,8 +177,8 @@ export const isSolvedWanted = ({ rest = [] }) => rest.includes(DEMAND);
 
 const encoded = (value) => new TextEncoder().encode(JSON.stringify(value));
 
-function entryOf(value, number) {
-  const fault = faultOf(value);
+function entryOf(value, number, whole) {
+  const fault = faultOf(value, whole);
   if (fault !== null) throw new Refusal(`session ${number}: ${fault}`);
   const [name, [source, inputs, level, index]] = value;
   return { name, source, inputs, level, index: Math.min(index ?? 0, Number.MAX_SAFE_INTEGER), ...restOf(value) };
@@ -221,6 +246,9 @@ class Part {
   }
 }
 
+// Whether an entry has lists or objects that the engine ignores.
+const hasIgnored = (entry) => Array.isArray(entry) && [...entry.slice(2), ...(Array.isArray(entry[1]) ? entry[1].slice(4) : [])].some(isHolder);
+
 // The entries of a file.
 /** @type {(name: string, bytes: Uint8Array) => Entry[]} */
 function sessionsIn(name, bytes) {
@@ -232,8 +260,9 @@ function sessionsIn(name, bytes) {
     throw new Refusal(`${name} is no JSON list of sessions: ${error.message}`);
   }
   if (!Array.isArray(values)) throw new Refusal(`${name} is no JSON list of sessions`);
+  const whole = values.some(hasIgnored) ? JSON.parse(textOf(withoutObjects(bytes), name)) : [];
   try {
-    return values.map(entryOf);
+    return values.map((value, number) => entryOf(value, number, whole[number]));
   } catch (error) {
     throw error instanceof Refusal ? new Refusal(`${name}, ${error.message}`) : error;
   }
@@ -254,6 +283,7 @@ export class SessionFile {
     this.name = name;
     this.bytes = bytes;
     this.read = entries;
+    this.counted = null; // how many there are, where they were read and let go
   }
 
   // A file that was kept, which is read once its sessions are asked for: many may have been. It has none where they can't be read.
@@ -264,6 +294,22 @@ export class SessionFile {
   get entries() {
     if (this.read === null) this.read = sessionsOrNone(this.name, this.bytes);
     return this.read;
+  }
+
+  // Those that are read.
+  get entriesAtHand() {
+    return this.read ?? [];
+  }
+
+  // How many sessions it has.
+  get count() {
+    return this.counted ?? this.entries.length;
+  }
+
+  // Lets go what was read, which may take thirty times the room of its bytes: it is read again once it is asked for.
+  forget() {
+    if (this.read !== null) this.counted = this.read.length;
+    this.read = null;
   }
 
   static empty(name) {
