@@ -5,6 +5,10 @@ interface Array<T> {
   findLastIndex(is: (it: T, place: number) => unknown): number;
 }
 
+interface Element {
+  checkVisibility(): boolean;
+}
+
 /** What is there in a worker alone, and how one posts: without an origin. */
 declare const WorkerGlobalScope: unknown;
 

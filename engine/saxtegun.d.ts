@@ -249,5 +249,8 @@ export interface Engine {
  */
 export function load(source?: string | URL | ArrayBuffer | ArrayBufferView | WebAssembly.Module, options?: { worker?: (name: string) => Worker }): Promise<Engine>;
 
+/** What a line may tell: a frame or a close, with the number of its session, a stage, a firing or a stop, or a solution. */
+export type Line = Partial<Omit<Frame & Close, "session"> & Stage & Omit<Firing, "stage"> & Stop> & { session?: number; solution?: Solution };
+
 /** The objects of lines. */
-export function parse(lines: Uint8Array): object[];
+export function parse(lines: Uint8Array): Line[];

@@ -1,3 +1,4 @@
+// @ts-check
 // Plays a sessions file and prints the sessions that didn't pass: node examples/script.mjs FILE
 import { readFileSync } from "node:fs";
 import { load, parse } from "../engine/saxtegun.mjs";

@@ -1,4 +1,5 @@
 #!/usr/bin/env node
+// @ts-check
 "use strict";
 // How an engine is plugged in: a player who pushes crates, in the game of examples/block-pushing.json and in no other.
 

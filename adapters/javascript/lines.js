@@ -1,3 +1,4 @@
+// @ts-check
 "use strict";
 // Writes what an engine shows as the lines that `saxtegun` reads, as docs/sessions.md has them:
 //
@@ -10,6 +11,12 @@
 //
 // A session is started, has its frames, and is closed before the next one is started. Sessions and frames are numbered here.
 
+/** @typedef {"columns" | "rows"} Order */
+/** @typedef {"start" | "move" | "undo" | "restart" | "load" | "tick" | "over"} Kind */
+/** @typedef {{ width: number, height: number, at: (column: number, row: number) => Iterable<string> }} Level */
+/** @typedef {{ tick: number, stop?: string, stage?: string, block?: number, lines?: number[] }} Place */
+/** @typedef {Place & { changed?: boolean, commands?: string[], headings?: [number, number, string, string][], level?: Level }} Stage */
+
 const KINDS = ["start", "move", "undo", "restart", "load", "tick", "over"];
 const CAUSED = ["stopped", "refused"];
 
@@ -19,9 +26,11 @@ const fold = (name) => name.replace(/[A-Z]/g, (letter) => letter.toLowerCase());
 const byBytes = (one, other) => Buffer.compare(Buffer.from(one), Buffer.from(other));
 
 // The names of a cell as a level text spells them.
+/** @type {(names: Iterable<string>) => string} */
 const spelt = (names) => [...new Set(Array.from(names, fold))].sort(byBytes).join(" ");
 
 // The cells of a level in an order, each as it is spelt.
+/** @type {(level: Level, order: Order) => string[]} */
 function cellsOf(level, order) {
   const [outer, inner] = order === "rows" ? [level.height, level.width] : [level.width, level.height];
   const cells = [];
@@ -35,6 +44,7 @@ function cellsOf(level, order) {
 }
 
 // The level text of cells: a set of names that is new is written with the next number, which then stands for it.
+/** @type {(cells: string[], width: number) => string} */
 function levelText(cells, width) {
   const numbers = new Map();
   return cells.map((cell, place) => {
@@ -45,6 +55,7 @@ function levelText(cells, width) {
 }
 
 // The cells of a level text, each as it is spelt, or null where it is no level text.
+/** @type {(text: string) => string[] | null} */
 function readLevelText(text) {
   const pieces = text.replace(/[\r\n]/g, "").split(",");
   if (pieces.pop() !== "") return null;
@@ -65,6 +76,7 @@ function readLevelText(text) {
 }
 
 // The line of a stage behind so many inputs, or of a stop, with its keys in the order of their letters. A level is one of `frame`.
+/** @type {(input: number, stage: Stage, order: Order) => string} */
 function stageLine(input, { level, ...told }, order) {
   const text = level === undefined ? {} : { level: levelText(cellsOf(level, order), level.width) };
   const line = { ...told, ...text, input };
@@ -73,21 +85,25 @@ function stageLine(input, { level, ...told }, order) {
 
 class Lines {
   // `write` gets each line with its line feed. `order` is that of the recorded levels.
+  /** @param {(line: string) => unknown} write @param {Order} order */
   constructor(write, order = "columns") {
     if (order !== "rows" && order !== "columns") throw new RangeError(`an order is rows or columns, and not ${order}`);
     this.write = write;
     this.order = order;
     this.count = 0;
+    /** @type {{ name: string, recorded: string, frames: number, cells: string[] | null } | null} */
     this.session = null;
     this.allPassed = true;
   }
 
+  /** @param {string} name @param {string} recorded */
   start(name, recorded) {
     if (this.session !== null) throw new Error(`the session ${this.session.name} is not closed`);
     this.session = { name, recorded, frames: 0, cells: null };
   }
 
   // `at` inputs are taken. `level` has a width, a height and a function `at` that answers the names in the cell of a column and a row.
+  /** @param {number} at @param {Kind} kind @param {Level} level */
   frame(at, kind, level) {
     const session = this.opened();
     if (!KINDS.includes(kind)) throw new RangeError(`there is no kind ${kind}, but ${KINDS.join(", ")}`);
@@ -97,6 +113,7 @@ class Lines {
   }
 
   // Without words: passed or differs, by the last level. Or `stopped` or `refused` with a cause. Answers how it is closed.
+  /** @type {(how?: "stopped" | "refused", cause?: string) => "passed" | "differs" | "stopped" | "refused"} */
   close(how, cause) {
     const session = this.opened();
     if (CAUSED.includes(how) !== (typeof cause === "string")) throw new RangeError("a cause belongs to stopped and refused, and to no other close");

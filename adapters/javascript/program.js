@@ -1,3 +1,4 @@
+// @ts-check
 "use strict";
 // Gives an engine the command line of the program, [--workers N] [--order rows|columns] [FILE], so that `conformance/run`,
 // `saxtegun compare --engines` and `saxtegun shrink` can play it:
@@ -18,6 +19,11 @@
 
 const fs = require("fs");
 const { Lines, readLevelText, stageLine } = require("./lines.js");
+/** @typedef {import("./lines.js").Kind} Kind */
+/** @typedef {import("./lines.js").Level} Level */
+/** @typedef {import("./lines.js").Order} Order */
+/** @typedef {{ name: string, source: string, inputs: (0 | 1 | 2 | 3 | 4 | "undo" | "restart" | "tick")[], level: string, index: number }} Entry */
+/** @typedef {["stopped" | "refused", string] | [] | null | void} Close */
 
 const INPUTS = [0, 1, 2, 3, 4, "undo", "restart", "tick"];
 const MOST = 65536; // entries, and inputs of one
@@ -27,6 +33,7 @@ class Refusal extends Error {}
 
 // The words of a command line as { order, file }.
 function readWords(words) {
+  /** @type {{ order: Order, file: string | null }} */
   const given = { order: "columns", file: null };
   const said = new Set();
   let areOptionsOver = false;
@@ -39,7 +46,7 @@ function readWords(words) {
       const isGood = option === "--workers" ? /^\+?0*([1-9]|[1-5]\d|6[0-4])$/.test(word) : word === "rows" || word === "columns";
       if (!isGood || said.has(option)) throw new Refusal("bad command line");
       said.add(option);
-      if (option === "--order") given.order = word;
+      if (option === "--order") given.order = /** @type {Order} */ (word);
     } else if (given.file === null && (areOptionsOver || !/^-./s.test(words[place]))) {
       given.file = words[place];
     } else {
@@ -58,6 +65,7 @@ function readBytes(file) {
   return bytes.subarray(0, count);
 }
 
+/** @type {(file: string | null) => string} */
 function readInput(file) {
   try {
     const bytes = readBytes(file);
@@ -70,6 +78,7 @@ function readInput(file) {
 }
 
 // An entry as { name, source, inputs, level, index }, or null where it is none.
+/** @type {(value: unknown) => Entry | null} */
 function readEntry(value) {
   if (!Array.isArray(value) || typeof value[0] !== "string" || !Array.isArray(value[1])) return null;
   const [source, inputs, level] = value[1];
@@ -79,6 +88,7 @@ function readEntry(value) {
   return isGood ? { name: value[0], source, inputs, level, index } : null;
 }
 
+/** @type {(text: string) => Entry[]} */
 function readEntries(text) {
   let values = null;
   try {
@@ -97,6 +107,7 @@ function readEntries(text) {
 }
 
 // Does what sets the exit status; where something throws, or nothing is left to do before there is an answer, it says why, and the status is 2.
+/** @type {(act: () => Promise<number>) => Promise<void>} */
 async function answer(act) {
   let isOver = false;
   const fail = (why) => {
@@ -127,6 +138,7 @@ async function answer(act) {
 }
 
 // Plays what the command line names, session by session, and sets the exit status.
+/** @type {(play: (entry: Entry, frame: (at: number, kind: Kind, level: Level) => void) => Close | Promise<Close>, words?: string[]) => Promise<void>} */
 function serve(play, words = process.argv.slice(2)) {
   return answer(async () => {
     const { order, file } = readWords(words);
@@ -139,20 +151,22 @@ function serve(play, words = process.argv.slice(2)) {
         lines.frame(at, kind, level);
       });
       isOpen = false;
-      lines.close(...(close || []));
+      const [how, cause] = close || [];
+      lines.close(how, cause);
     }
     return lines.allPassed ? 0 : 1;
   });
 }
 
 // Tells the stages that the command line asks for; none of a session that isn't there.
+/** @type {(tell: (entry: Entry, input: number, tell: (stage: import("./lines.js").Stage) => void) => unknown, words?: string[]) => Promise<void>} */
 function serveStages(tell, words = process.argv.slice(2)) {
   return answer(async () => {
     const isGood = (words.length === 2 || (words.length === 3 && words[2] === "columns")) && words.slice(0, 2).every((it) => /^[0-9]{1,15}$/.test(it));
     if (!isGood) throw new Refusal("bad command line");
     const [session, input] = words.map(Number);
     const entry = readEntries(readInput(null))[session];
-    const order = words[2] || "rows";
+    const order = words.length === 3 ? "columns" : "rows";
     if (entry !== undefined) await tell(entry, input, (stage) => process.stdout.write(stageLine(input, stage, order)));
     return 0;
   });

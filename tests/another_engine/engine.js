@@ -1,3 +1,4 @@
+// @ts-check
 "use strict";
 // An engine that isn't ours in shape, for tests of the adapter: its levels are rows of numbers, its calls are promises, and what is wrong it throws.
 // It knows a player who pushes one crate, and no other rule.
@@ -8,7 +9,8 @@ const STEPS = { up: [0, -1], left: [-1, 0], down: [0, 1], right: [1, 0], action:
 class SourceError extends Error {
   constructor(code, line) {
     super(`${code} in line ${line}`);
-    Object.assign(this, { code, line });
+    this.code = code;
+    this.line = line;
   }
 }
 
@@ -22,7 +24,13 @@ class World {
     const letters = {};
     for (const [, name, letter] of head.matchAll(/^(\w+) (\S)$/gm)) letters[letter] = BITS[name.toLowerCase()] || 0;
     const boards = levels.trim().split("\n\n").map((block) => block.split("\n").map((row) => [...row].map((it) => letters[it])));
-    return Object.assign(new World(), { boards, past: [], canPush: head.includes("[ > Player | Crate ] ->") });
+    return new World(boards, head.includes("[ > Player | Crate ] ->"));
+  }
+
+  constructor(boards, canPush) {
+    this.boards = boards;
+    this.canPush = canPush;
+    this.past = [];
   }
 
   async enter(number) {

@@ -1,4 +1,5 @@
 #!/usr/bin/env node
+// @ts-check
 "use strict";
 const { serve } = require("../../adapters/javascript/program.js");
 const { BITS, SourceError, World } = require("./engine.js");
@@ -25,4 +26,5 @@ serve(async (entry, frame) => {
     if (why instanceof SourceError) return ["refused", `${why.code}:${why.line}`];
     throw why;
   }
+  return null;
 });

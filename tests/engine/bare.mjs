@@ -1,8 +1,10 @@
+// @ts-check
 // Hostile calls of the bare module, the same ones for a seed: `node tests/engine/bare.mjs [SEED] [CALLS] [MODULE]`. Places and lengths are wrong, orders are none, and
 // rooms are given back that were never taken. Each call returns or traps, none takes long; what was refused takes nothing from the next answer of the same instance,
 // and a fresh instance always answers rightly.
 import assert from "node:assert/strict";
 import { readFileSync } from "node:fs";
+import { exportsOf } from "./instances.mjs";
 
 const OUT = new URL("../../engine/out/saxtegun.wasm", import.meta.url), EXAMPLES = new URL("../../examples/", import.meta.url);
 const PLACES = [0, 1, 8, 15, 16, 65_535, 65_536, 1 << 20, 0x7fffffff, -1, -16, -8, 0x80000000 | 0, -65_536, 1 << 24, 2 ** 31 - 8];
@@ -22,8 +24,11 @@ function numbersOf(seed) {
 // An instance with a file, a room and an outcome of its own.
 class Host {
   constructor(module, file) {
-    this.exports = new WebAssembly.Instance(module).exports;
-    [this.file, this.room, this.outcome] = [file.length, ROOM, OUTCOME].map((size) => this.exports.take_room(size) >>> 0);
+    this.exports = exportsOf(module);
+    const take = (size) => this.exports.take_room(size) >>> 0;
+    this.file = take(file.length);
+    this.room = take(ROOM);
+    this.outcome = take(OUTCOME);
     new Uint8Array(this.exports.memory.buffer, this.file, file.length).set(file);
     this.length = file.length;
   }
@@ -60,6 +65,7 @@ function isReturned(host, next, pick) {
 }
 
 // Makes so many calls; how many returned and how many trapped.
+/** @type {(seed: number, calls: number, path?: string | URL) => { returned: number, trapped: number }} */
 export function attack(seed, calls, path = OUT) {
   const module = new WebAssembly.Module(readFileSync(path)), next = numbersOf(seed), pick = (list) => list[Math.floor(next() * list.length)];
   const [good, wanted] = ["block-pushing.json", "block-pushing.lines"].map((name) => readFileSync(new URL(name, EXAMPLES)));

@@ -1,8 +1,10 @@
+// @ts-check
 // The description of a source by engine/saxtegun.mjs and by the exports. Over a module that has it, what is expected is worked out by hand; one that has none says so.
 import assert from "node:assert/strict";
 import { existsSync, readFileSync } from "node:fs";
 import test from "node:test";
 import { load } from "../../engine/saxtegun.mjs";
+import { exportsOf, wrong } from "./instances.mjs";
 
 const OUT = new URL("../../engine/out/", import.meta.url);
 const MODULE = process.env.SAXTEGUN_MODULE ?? new URL("saxtegun.wasm", OUT), REFUSING = new URL("refusing.wasm", OUT);
@@ -46,13 +48,18 @@ const refused = (fault) => ({ status: 2, passed: false, lines: new Uint8Array(0)
 
 // A host of the module, with a source and a room of its own.
 class Host {
+  /** @param {WebAssembly.Module} module @param {string} source @param {number} size @param {`saxtegun_${string}`} asked */
   constructor(module, source, size, asked = "saxtegun_description") {
     this.asked = asked;
     const file = new TextEncoder().encode(source);
-    this.exports = new WebAssembly.Instance(module).exports;
-    [this.file, this.room, this.outcome] = [file.length, size, OUTCOME].map((bytes) => this.exports.take_room(bytes) >>> 0);
+    this.exports = exportsOf(module);
+    const take = (count) => this.exports.take_room(count) >>> 0;
+    this.file = take(file.length);
+    this.room = take(size);
+    this.outcome = take(OUTCOME);
     this.bytes(this.file, file.length).set(file);
-    Object.assign(this, { length: file.length, size });
+    this.length = file.length;
+    this.size = size;
   }
 
   bytes(at, count) {
@@ -120,7 +127,7 @@ it("what is no text is not described", () => {
     assert.deepEqual(engine.levelDescription(source), { description: null, fault: "not-json" });
     assert.deepEqual(engine.fileDescription(source), { description: null, fault: "not-json" });
   }
-  assert.throws(() => engine.description(7), TypeError);
+  assert.throws(() => engine.description(wrong(7)), TypeError);
 });
 
 it("a room that is too small stays as it is, and the size that is answered fits", async () => {
@@ -137,8 +144,12 @@ it("an answer is not touched by the next one", () => {
 
 test("whatever is refused of the heap, a description is whole or tells the want of memory", { skip: !isRefusing && "there is no module that refuses, or it gives no descriptions" }, async () => {
   const module = await WebAssembly.compile(readFileSync(REFUSING));
-  const others = [["saxtegun_level_description", LEVEL, JSON.stringify(CELLS)], ["saxtegun_file_description", SESSIONS, JSON.stringify(FILE)]];
-  for (const [asked, source, text] of [["saxtegun_description", GAME, TEXT], ["saxtegun_description", "", NOTHING], ...others]) {
+  /** @type {[`saxtegun_${string}`, string, string][]} */
+  const all = [
+    ["saxtegun_description", GAME, TEXT], ["saxtegun_description", "", NOTHING],
+    ["saxtegun_level_description", LEVEL, JSON.stringify(CELLS)], ["saxtegun_file_description", SESSIONS, JSON.stringify(FILE)],
+  ];
+  for (const [asked, source, text] of all) {
     const host = new Host(module, source, ROOM, asked);
     const { refuse, requests, blocks_out: blocksOut } = host.exports;
     refuse(1n, 0n);
@@ -152,7 +163,7 @@ test("whatever is refused of the heap, a description is whole or tells the want 
         assert.deepEqual(answer, isRefused ? MEMORY : answered(text), `request ${number}`);
         assert.ok(number <= most || !isRefused, "a run that meets no refusal is whole");
         assert.equal(blocksOut(), out, "all that was taken is given back");
-        refusals += isRefused;
+        refusals += Number(isRefused);
       }
     }
     assert.ok(refusals >= most, `${refusals} of ${most}`);

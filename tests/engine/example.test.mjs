@@ -1,3 +1,4 @@
+// @ts-check
 // The page of examples/page.html, without a browser: its script, over an engine that answers when a test says so.
 import assert from "node:assert/strict";
 import { readFileSync } from "node:fs";
@@ -25,11 +26,11 @@ async function answer(number, of) {
 
 const shown = () => [elements.closes.textContent, elements.stop.disabled];
 
-globalThis.given = { parse, load: async () => ({ replayInWorkers: (text, { signal }) => new Promise((settle, refuse) => {
+const given = { parse, load: async () => ({ replayInWorkers: (text, { signal }) => new Promise((settle, refuse) => {
   asked.push({ text, signal, settle });
   signal.addEventListener("abort", () => refuse(signal.reason));
 }) }) };
-globalThis.document = { getElementById: (id) => elements[id] };
+Object.assign(globalThis, { given, document: { getElementById: (id) => elements[id] } });
 await import(`data:text/javascript,${encodeURIComponent(SCRIPT)}`);
 
 test("what a name has in it begins no line", async () => {

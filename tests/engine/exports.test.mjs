@@ -1,8 +1,10 @@
+// @ts-check
 // The exports of the module: the frames from an input on beside the lines of the whole, the stages of an input, and all with what they ask of the heap
 // refused.
 import assert from "node:assert/strict";
 import { existsSync, readFileSync, readdirSync } from "node:fs";
 import test from "node:test";
+import { exportsOf } from "./instances.mjs";
 
 const CASES = new URL("../../conformance/cases/", import.meta.url);
 const OUT = new URL("../../engine/out/", import.meta.url);
@@ -32,10 +34,15 @@ function* cases() {
 // A host of the module: a file that it asks about, with a room of its own.
 class Host {
   constructor(module, file, order, size) {
-    this.exports = new WebAssembly.Instance(module).exports;
-    [this.file, this.room, this.outcome] = [file.length, size, OUTCOME].map((it) => this.exports.take_room(it) >>> 0);
+    this.exports = exportsOf(module);
+    const take = (count) => this.exports.take_room(count) >>> 0;
+    this.file = take(file.length);
+    this.room = take(size);
+    this.outcome = take(OUTCOME);
     this.bytes(this.file, file.length).set(file);
-    Object.assign(this, { length: file.length, order, size });
+    this.length = file.length;
+    this.order = order;
+    this.size = size;
   }
 
   bytes(at, count) {
@@ -43,10 +50,11 @@ class Host {
   }
 
   // Plays the file, from an input on where one is named, or tells stages, [session, input], and gives all that is answered.
+  /** @param {number | bigint | number[]} [from] */
   ask(from) {
     this.bytes(this.room, this.size).fill(MARK);
     const { saxtegun_lines: lines, saxtegun_frames: frames, saxtegun_stages: stages } = this.exports;
-    const [file, order, rest] = [[this.file, BigInt(this.length)], this.order, [this.room, BigInt(this.size), this.outcome]];
+    const { order } = this, file = [this.file, BigInt(this.length)], rest = [this.room, BigInt(this.size), this.outcome];
     const told = () => (Array.isArray(from) ? stages(...file, order, ...from, ...rest) : frames(...file, order, BigInt(from), ...rest));
     const count = Number(from === undefined ? lines(...file, order, ...rest) : told());
     const [status, fault, entry] = new BigUint64Array(this.bytes(this.outcome, OUTCOME).slice().buffer).values();
@@ -112,7 +120,7 @@ test("whatever is refused of the heap, an answer is that of ample memory or tell
           assert.deepEqual(answer, isRefused ? MEMORY : ample, `${name} from ${from}, request ${number}`);
           assert.ok(number <= most || !isRefused, "a run that meets no refusal is ample");
           assert.equal(blocksOut(), out, "all that was taken is given back");
-          refusals += isRefused;
+          refusals += Number(isRefused);
         }
       }
       assert.ok(refusals > most, `${name}: ${refusals} of ${most}`);

@@ -1,9 +1,11 @@
+// @ts-check
 // The functions of engine/saxtegun.mjs and their refusals, over the module that engine/build has made. What is expected is that of the conformance cases.
 import assert from "node:assert/strict";
 import { existsSync, readFileSync, readdirSync } from "node:fs";
 import test from "node:test";
 import { Worker } from "node:worker_threads";
 import { elementsOf, load, numbered, parse, partsOf } from "../../engine/saxtegun.mjs";
+import { wrong } from "./instances.mjs";
 import { attack } from "./hostile.mjs";
 
 const CASES = new URL("../../conformance/cases/", import.meta.url);
@@ -96,13 +98,13 @@ test("frames of more lines than a page can hold are a fault that is told", async
 
 test("what is no file, no order and no number of workers is an error", async () => {
   const engine = await load();
-  for (const file of [undefined, null, 3, {}, []]) assert.throws(() => engine.replay(file), TypeError);
-  for (const order of ["row", "", null, "toString"]) {
+  for (const file of [undefined, null, 3, {}, []].map(wrong)) assert.throws(() => engine.replay(file), TypeError);
+  for (const order of ["row", "", null, "toString"].map(wrong)) {
     assert.throws(() => engine.replay("[]", { order }), TypeError);
     assert.throws(() => engine.frames({ source: "", inputs: [] }, { order }), TypeError);
     await assert.rejects(engine.replayInWorkers("[]", { order }), TypeError);
   }
-  for (const workers of [0, 65, 1.5, "2"]) await assert.rejects(engine.replayInWorkers("[]", { workers }), TypeError);
+  for (const workers of [0, 65, 1.5, "2"].map(wrong)) await assert.rejects(engine.replayInWorkers("[]", { workers }), TypeError);
   await assert.rejects(load(new Uint8Array(8)), WebAssembly.CompileError);
   await assert.rejects(load(new URL("none.wasm", import.meta.url)));
 });
@@ -128,11 +130,11 @@ test("the frames of a session are given from an input on", async () => {
     const frames = all.filter((it) => it.at >= from);
     assert.deepEqual(engine.frames({ source, inputs, level }, { order: "rows", from }), { frames, close, fault: null });
   }
-  for (const from of [-1, 1.5, NaN, Infinity, "1", null, 2 ** 53]) assert.throws(() => engine.frames({ source, inputs, level }, { from }), TypeError);
+  for (const from of [-1, 1.5, NaN, Infinity, "1", null, 2 ** 53].map(wrong)) assert.throws(() => engine.frames({ source, inputs, level }, { from }), TypeError);
   const { frames, close: other } = engine.frames({ source, inputs }, { order: "rows" });
   assert.deepEqual([frames, other.close], [all, "differs"]);
   assert.deepEqual(engine.frames({ source: "", inputs: [] }).close, { cause: "Section:0", close: "refused", frames: 0, name: "", session: 0 });
-  assert.deepEqual(engine.frames({ source: "", inputs: [9] }), { frames: [], close: null, fault: "bad-entry 0" });
+  assert.deepEqual(engine.frames({ source: "", inputs: wrong([9]) }), { frames: [], close: null, fault: "bad-entry 0" });
 });
 
 test("workers give the lines of the whole file", async () => {

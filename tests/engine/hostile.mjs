@@ -1,3 +1,4 @@
+// @ts-check
 // Hostile calls of the glue, the same ones for a seed: `node tests/engine/hostile.mjs [SEED] [CALLS] [MODULE]`. Each answers with a fault that is known or refuses
 // by a TypeError, none takes long, and between them the example's answer stays right.
 import assert from "node:assert/strict";

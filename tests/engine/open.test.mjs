@@ -1,15 +1,21 @@
+// @ts-check
 // Sessions that are kept open by engine/saxtegun.mjs. What is expected is what the engine's frames of the same inputs are, and of the small game what is
 // worked out by hand. A module that keeps none open says so.
 import assert from "node:assert/strict";
 import { existsSync, readFileSync, readdirSync } from "node:fs";
 import test from "node:test";
 import { load } from "../../engine/saxtegun.mjs";
+import { exportsOf, wrong } from "./instances.mjs";
 
 const OUT = new URL("../../engine/out/", import.meta.url);
 const MODULE = process.env.SAXTEGUN_MODULE ?? new URL("saxtegun.wasm", OUT), REFUSING = new URL("refusing.wasm", OUT);
 const EMPTY = Uint8Array.of(0, 0x61, 0x73, 0x6d, 1, 0, 0, 0);
 const CASES = new URL("../../conformance/cases/", import.meta.url);
-const INPUTS = [0, 1, 2, 3, 4, "undo", "restart", "tick"], RIGHT = 3;
+/** @type {import("../../engine/saxtegun").Session["inputs"]} */
+const INPUTS = [0, 1, 2, 3, 4, "undo", "restart", "tick"];
+/** @type {("rows" | "columns")[]} */
+const ORDERS = ["rows", "columns"];
+const RIGHT = 3;
 const engine = existsSync(MODULE) ? await load(readFileSync(MODULE)) : null;
 const isRefusing = engine?.hasOpenSessions && existsSync(REFUSING) && WebAssembly.Module.exports(new WebAssembly.Module(readFileSync(REFUSING))).some(({ name }) => name === "saxtegun_open");
 const it = (name, act) => test(name, { skip: !engine?.hasOpenSessions && "the module is not there, or keeps no session open" }, act);
@@ -82,14 +88,14 @@ it("a call that is refused leaves a session as it was", () => {
   const { session } = walk([RIGHT]);
   assert.deepEqual(session.back(2), nothing("too-few-inputs"));
   assert.deepEqual(session.give(new Array(65_536).fill(RIGHT)), nothing("too-many-inputs"));
-  for (const inputs of [[5], ["up"], [-1], [1.5], [null]]) assert.throws(() => session.give(inputs), TypeError);
-  for (const count of [-1, 0.5, NaN, "1"]) assert.throws(() => session.back(count), TypeError);
+  for (const inputs of [[5], ["up"], [-1], [1.5], [null]].map(wrong)) assert.throws(() => session.give(inputs), TypeError);
+  for (const count of [-1, 0.5, NaN, "1"].map(wrong)) assert.throws(() => session.back(count), TypeError);
   assert.deepEqual([session.inputs, session.give([])], [[RIGHT], ONE]);
 });
 
 it("inputs come by any list, and a wrong one opens nothing", () => {
-  const { session } = walk(new Uint8Array([RIGHT]));
-  for (const inputs of [new Set(["undo"]), new Uint8Array([RIGHT]), [][Symbol.iterator](), ""]) assert.equal(session.give(inputs).fault, null);
+  const { session } = walk(wrong(new Uint8Array([RIGHT])));
+  for (const inputs of [new Set(["undo"]), new Uint8Array([RIGHT]), [][Symbol.iterator](), ""]) assert.equal(session.give(wrong(inputs)).fault, null);
   assert.deepEqual([session.inputs, session.give([])], [[RIGHT, "undo", RIGHT], engine.frames({ source: WALK, inputs: session.inputs, level: LEVELS.right }, { order: "rows", from: 3 })]);
   for (let turn = 0; turn < 3000; turn += 1) assert.throws(() => walk([5]), TypeError);
   assert.deepEqual(walk().session.give([RIGHT]), ONE);
@@ -136,7 +142,8 @@ it("memory that is given back is used again", () => {
 function sources() {
   const found = new Set();
   for (const name of readdirSync(CASES)) {
-    const entries = engine.replay(readFileSync(new URL(`${name}/input.json`, CASES))).fault === null ? JSON.parse(readFileSync(new URL(`${name}/input.json`, CASES))) : [];
+    const file = readFileSync(new URL(`${name}/input.json`, CASES));
+    const entries = engine.replay(file).fault === null ? JSON.parse(file.toString()) : [];
     for (const [, [source]] of entries) if (typeof source === "string" && source.length < 4000) found.add(source);
   }
   return [...found];
@@ -145,7 +152,7 @@ function sources() {
 it("whatever is called, a session shows what its inputs show", () => {
   const pick = random(78), games = sources();
   for (let game = 0; game < 40; game += 1) {
-    const source = games[pick(games.length)], order = ["rows", "columns"][pick(2)], { session, close: its } = engine.open({ source, inputs: [] }, { order });
+    const source = games[pick(games.length)], order = ORDERS[pick(2)], { session, close: its } = engine.open({ source, inputs: [] }, { order });
     if (its?.close === "refused") continue;
     const open = [session];
     for (let turn = 0; turn < 30; turn += 1) {
@@ -172,14 +179,19 @@ test("an older module keeps none open, and says so", async () => {
 // A host of the module: a place for open sessions, and calls by numbers and bytes. An answer is [status, fault, entry, text].
 class Host {
   constructor(module) {
-    this.exports = new WebAssembly.Instance(module).exports;
-    [this.held, this.file, this.room, this.outcome] = [HELD, 4096, 4096, 24].map((size) => this.exports.take_room(size) >>> 0);
+    this.exports = exportsOf(module);
+    const take = (size) => this.exports.take_room(size) >>> 0;
+    this.held = take(HELD);
+    this.file = take(4096);
+    this.room = take(4096);
+    this.outcome = take(24);
     new Uint8Array(this.exports.memory.buffer, this.held, HELD).fill(0);
   }
 
+  /** @type {(count: number | bigint) => [number, number, number, string]} */
   answer(count) {
-    const words = new BigUint64Array(new Uint8Array(this.exports.memory.buffer, this.outcome, 24).slice().buffer);
-    return [...[...words].map(Number), new TextDecoder().decode(new Uint8Array(this.exports.memory.buffer, this.room, Number(count)))];
+    const [status, fault, entry] = [...new BigUint64Array(new Uint8Array(this.exports.memory.buffer, this.outcome, 24).slice().buffer)].map(Number);
+    return [status, fault, entry, new TextDecoder().decode(new Uint8Array(this.exports.memory.buffer, this.room, Number(count)))];
   }
 
   put(bytes) {

@@ -1,8 +1,10 @@
+// @ts-check
 // What wins a session, by engine/saxtegun.mjs and by the exports. What is expected is worked out by hand. A module that solves nothing says so.
 import assert from "node:assert/strict";
 import { existsSync, readFileSync } from "node:fs";
 import test from "node:test";
 import { load } from "../../engine/saxtegun.mjs";
+import { exportsOf } from "./instances.mjs";
 
 const OUT = new URL("../../engine/out/", import.meta.url);
 const MODULE = process.env.SAXTEGUN_MODULE ?? new URL("saxtegun.wasm", OUT), REFUSING = new URL("refusing.wasm", OUT);
@@ -71,8 +73,11 @@ test("an older module solves nothing, and says so", async () => {
 // A host of the module: calls by numbers and bytes. An answer is [status, fault, entry, text].
 class Host {
   constructor(module) {
-    this.exports = new WebAssembly.Instance(module).exports;
-    [this.file, this.room, this.outcome] = [ROOM, ROOM, OUTCOME].map((size) => this.exports.take_room(size) >>> 0);
+    this.exports = exportsOf(module);
+    const take = (size) => this.exports.take_room(size) >>> 0;
+    this.file = take(ROOM);
+    this.room = take(ROOM);
+    this.outcome = take(OUTCOME);
   }
 
   solutions(text, levels, size = ROOM) {

@@ -1,8 +1,10 @@
+// @ts-check
 // The stages of an input by engine/saxtegun.mjs. Over a module that has them, what is expected is worked out by hand; one that has none says so.
 import assert from "node:assert/strict";
 import { existsSync, readFileSync } from "node:fs";
 import test from "node:test";
 import { load, parse } from "../../engine/saxtegun.mjs";
+import { wrong } from "./instances.mjs";
 
 const MODULE = process.env.SAXTEGUN_MODULE ?? new URL("../../engine/out/saxtegun.wasm", import.meta.url);
 const EMPTY = Uint8Array.of(0, 0x61, 0x73, 0x6d, 1, 0, 0, 0);
@@ -31,7 +33,9 @@ LEVELS
 P*.
 `;
 const RIGHT = 3;
+/** @typedef {import("../../engine/saxtegun").Stage} Stage */
 const BEFORE = "background player:0,background crate:1,background:2,\n", BEHIND = "background:0,background player:1,background crate:2,\n";
+/** @type {(name: Stage["stage"], level: string, headings: Stage["headings"], more?: object) => Stage} */
 const stage = (name, level, headings, more = {}) => ({ changed: true, commands: [], headings, input: 1, level, stage: name, tick: 0, ...more });
 const STAGES = [
   stage("input", BEFORE, [[0, 0, "player", "right"]]),
@@ -51,17 +55,17 @@ test("a module without stages says so", async () => {
 
 test("what is no number and no order is no call", async () => {
   const old = await load(EMPTY);
-  for (const number of [-1, 0.5, NaN, "1", undefined]) {
+  for (const number of [-1, 0.5, NaN, "1", undefined].map(wrong)) {
     assert.throws(() => old.stagesOf(FILE, number, 0), TypeError);
     assert.throws(() => old.stages({ source: PUSH, inputs: [] }, number), TypeError);
   }
-  assert.throws(() => old.stagesOf(FILE, 0, 0, { order: "diagonals" }), TypeError);
+  assert.throws(() => old.stagesOf(FILE, 0, 0, { order: wrong("diagonals") }), TypeError);
 });
 
 it("the stages of an input are given, by rows and by columns", () => {
   assert.deepEqual(engine.stages({ source: PUSH, inputs: [RIGHT] }, 1, { order: "rows" }), { stages: STAGES, fault: null });
-  const byColumns = engine.stages({ source: PUSH, inputs: [RIGHT] }, 1);
-  assert.deepEqual(byColumns.stages.map(({ headings, lines }) => [headings, lines]), STAGES.map(({ headings, lines }) => [headings, lines]));
+  const byColumns = /** @type {Stage[]} */ (engine.stages({ source: PUSH, inputs: [RIGHT] }, 1).stages);
+  assert.deepEqual(byColumns.map(({ headings, lines }) => [headings, lines]), STAGES.map(({ headings, lines }) => [headings, lines]));
 });
 
 it("the lines of the stages of a session of a file are given as bytes", () => {

@@ -1,3 +1,4 @@
+// @ts-check
 // Random acts on the playground, as whoever sits before it would do them, each held against a small model: what was made before an act is on the page
 // behind it, or among what can be put back, as this browser keeps it for the next visit. acts(seed, count, texts) gives what went wrong, and what
 // sessions the page showed with which closes; browser tests evaluate this file in the page.
@@ -6,12 +7,15 @@
   const NOT_CLICKED = ["open", "save-game", "save-lines", "stop", "stop-play", "stop-cover"]; // these open a dialog of the system, hand out what there is, or depend on time
   const NAMES = ["walk", "push", "", "\u202ename"];
   const PATIENCE = 60_000; // milliseconds
-  const wrong = window.wrong ??= [];
-  if (!window.isListening) {
-    window.isListening = true;
+  /** @type {Window & { wrong?: string[], isListening?: boolean }} */
+  const page = window;
+  const wrong = page.wrong ??= [];
+  if (!page.isListening) {
+    page.isListening = true;
     window.addEventListener("error", (event) => wrong.push(`error: ${event.message}`));
     window.addEventListener("unhandledrejection", (event) => wrong.push(`rejection: ${event.reason?.stack ?? event.reason}`));
   }
+  /** @type {import("../kinds").At} */
   const at = (id) => document.getElementById(id);
   const later = (milliseconds) => new Promise((settle) => setTimeout(settle, milliseconds));
 
@@ -80,7 +84,7 @@
   const startsWith = (list, begin) => begin.every((item, place) => list[place] === item);
 
   // What is missing behind an act of what was there before.
-  function missing(before, after, { isEdit, isName }, example) {
+  function missing(before, after, { isEdit = false, isName = false }, example) {
     const { texts, names, sessions, recordings } = made(after), { text, work, file } = before;
     const isClean = !before.isUnsaved && !after.isUnsaved;
     return [
@@ -95,6 +99,7 @@
 
   const press = (key) => at("stage").dispatchEvent(new KeyboardEvent("keydown", { key, bubbles: true, cancelable: true }));
 
+  /** @type {(id: "levels" | "name" | "order" | "source", value: string, event?: string) => void} */
   function fill(id, value, event = "input") {
     at(id).value = value;
     at(id).dispatchEvent(new Event(event, { bubbles: true }));
@@ -117,6 +122,7 @@
   // Does something at random: what it was, and of what kind.
   function actOf(random, { edits, files }) {
     const kind = random(20), pick = (list) => list[random(list.length)];
+    /** @type {[number, () => { act: string, isEdit?: true, isName?: true }][]} */
     const acts = [
       [9, () => { const key = pick(KEYS); press(key); return { act: key }; }], [15, () => ({ act: clickOne(random) })],
       [17, () => { const [from, to] = pick(edits); fill("source", at("source").value.replace(from, to)); return { act: `edit ${from}`, isEdit: true }; }],

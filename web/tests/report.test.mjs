@@ -1,3 +1,4 @@
+// @ts-check
 // The parts of the report that need no browser: addresses, frames, level texts and words. tests/test_pages.py runs them in Node.
 import assert from "node:assert/strict";
 import { test } from "node:test";
@@ -38,9 +39,10 @@ test("levels are made of the first and what changed", () => {
 });
 
 test("a level behind many others is the same, whichever was looked at before", () => {
-  const frames = [[0, 0, whole("!!!!!!")], ...Array.from({ length: 300 }, (_, number) => [number + 1, 1, [number % 6, (number >> 3) % 2]])];
+  const changes = Array.from({ length: 300 }, (_, number) => [number % 6, (number >> 3) % 2]);
+  const frames = [[0, 0, whole("!!!!!!")], ...changes.map((change, number) => [number + 1, 1, change])];
   const cells = [0, 0, 0, 0, 0, 0];
-  const wanted = [[...cells], ...frames.slice(1).map(([, , [cell, label]]) => { cells[cell] = label; return [...cells]; })];
+  const wanted = [[...cells], ...changes.map(([cell, label]) => { cells[cell] = label; return [...cells]; })];
   const run = new Run(frames, "rows", '!"');
   for (let step = 0; step <= 300; step += 1) {
     const number = (step * 127) % 301;

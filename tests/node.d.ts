@@ -1,4 +1,14 @@
-/** What these tests use of Node beside engine/node.d.ts. */
+/** What the tests use of Node beside engine/node.d.ts. */
+
+declare function setImmediate(act: (...words: unknown[]) => void, ...words: unknown[]): void;
+
+interface Buffer {
+  equals(other: Uint8Array): boolean;
+}
+
+interface ImportMeta {
+  readonly filename?: string;
+}
 
 declare module "node:assert/strict" {
   interface Assert {
@@ -24,4 +34,12 @@ declare module "node:test" {
 
 declare module "node:util" {
   export function isDeepStrictEqual(one: unknown, other: unknown): boolean;
+}
+
+declare module "node:v8" {
+  export function setFlagsFromString(flags: string): void;
+}
+
+declare module "node:vm" {
+  export function runInNewContext(code: string): any;
 }
