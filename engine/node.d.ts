@@ -8,7 +8,7 @@ declare const process: {
   readonly stdout: { on(name: string, act: (fault: unknown) => void): void; write(text: string): boolean };
   readonly versions?: { readonly node?: string };
   exitCode?: number;
-  cpuUsage(): { user: number; system: number };
+  cpuUsage(since?: { user: number; system: number }): { user: number; system: number };
   exit(status: number): never;
   on(name: string, act: (fault: unknown) => void): void;
 };

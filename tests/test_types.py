@@ -65,8 +65,9 @@ class Types(unittest.TestCase):
         self.assertEqual(ran.returncode, 0, ran.stdout.decode())
 
 
-# the files that tsconfig.json takes in, and the words by which a file would go unchecked
-MODULES = [it for folder in ("engine", "web") for it in sorted((TOP / folder).glob("*.mjs"))]
+# where JavaScript stands, all of which tsconfig.json takes in, and the words by which a file would go unchecked
+OF_SCRIPTS = ("adapters/javascript", "engine", "examples", "tests/another_engine", "tests/engine", "tests/web", "web", "web/tests")
+MODULES = [it for folder in OF_SCRIPTS for ending in ("js", "mjs") for it in sorted((TOP / folder).glob(f"*.{ending}"))]
 LEFT_ALONE = re.compile(r"@ts-(?:ignore|nocheck|expect-error)")
 # the classes of elements that have more than every element has
 KINDS = {"button": "Button", "canvas": "Canvas", "details": "Details", "form": "Form", "input": "Input", "ol": "OList", "output": "Output", "progress": "Progress",
@@ -86,6 +87,11 @@ class TypesOfScripts(unittest.TestCase):
                 text = module.read_text(encoding="utf-8")
                 self.assertRegex(text, r"\A(?:#!.*\n)?// @ts-check\n")
                 self.assertNotRegex(text, LEFT_ALONE)
+
+    def test_each_module_is_taken_in(self) -> None:
+        taken = (TOP / "tsconfig.json").read_text(encoding="utf-8")
+        for folder, ending in sorted({(it.parent.relative_to(TOP), it.suffix) for it in MODULES}):
+            self.assertIn(f'"{folder}/*{ending}"', taken)
 
     def test_the_kinds_of_elements_are_those_of_the_pages(self) -> None:
         found: Dict[str, str] = {}

@@ -64,7 +64,7 @@ export function playedBy(engine, { source, index, order, inputs, from, isTicked 
 }
 
 // The stages of some inputs of a recording: { stages, fault }.
-/** @type {(engine: Engine, asked: Asked & { numbers: number[] }) => { stages: object[], fault: string | null }} */
+/** @type {(engine: Pick<Engine, "stages">, asked: Asked & { numbers: number[] }) => { stages: object[], fault: string | null }} */
 export function stagesBy(engine, { source, index, order, inputs, isTicked, numbers }) {
   const session = { source: playedText(source, isTicked), index, inputs }, answers = numbers.map((number) => engine.stages(session, number, { order }));
   const fault = answers.find((answer) => answer.fault !== null)?.fault ?? null;
@@ -72,7 +72,7 @@ export function stagesBy(engine, { source, index, order, inputs, isTicked, numbe
 }
 
 // The lines of rules that acted, for each of some inputs from one on, as many as are looked through in a moment: { lines, fault }.
-/** @type {(engine: Engine, asked: Asked & { from: number, count: number }) => { lines: number[][], fault: string | null }} */
+/** @type {(engine: Pick<Engine, "stages">, asked: Asked & { from: number, count: number }) => { lines: number[][], fault: string | null }} */
 export function actedBy(engine, { source, index, order, inputs, isTicked, from, count }) {
   const played = playedText(source, isTicked), lines = [];
   for (const begin = performance.now(); from + lines.length < count && (lines.length === 0 || performance.now() - begin < MOMENT);) {

@@ -15,6 +15,10 @@ const TOP = new URL("../../", import.meta.url);
 export { module };
 export const read = (name) => readFileSync(new URL(name, TOP));
 export const GAME = read("examples/day/game.txt").toString();
+/** @type {import("../../web/state").Input[]} */
+export const INPUTS = [0, 1, 2, 3, 4, "undo", "restart", "tick"];
+/** @type {import("../../web/state").Order[]} */
+export const ORDERS = ["rows", "columns"];
 
 // What the program makes of sessions: how each closed.
 export function closesOf(entries, order) {

@@ -1,3 +1,4 @@
+// @ts-check
 // What the page reads of a game takes not much more than twice the time for twice the text.
 import assert from "node:assert/strict";
 import test from "node:test";
@@ -61,6 +62,7 @@ function inWords(size) {
   rowsInWords({ width: size, cells: new Array(size).fill(0), order: "rows" }, () => names);
 }
 
+/** @type {Record<string, [number, (size: number) => unknown]>} */
 const READINGS = {
   "blanks in a title": [100_000, (size) => new Game(`title x${" ".repeat(size)}x\n${HEAD}`)],
   "letters that stand for one another": [2000, (size) => told("BadGlyph", LETTERS.slice(0, size).join(""), chain(size))],
@@ -135,7 +137,9 @@ test("what only looks like recordings is searched in no time", () => {
 });
 
 test("26 MB of text are searched in no time", () => {
-  for (const [piece, each] of [[FORM, 1], ["[ > Player | Crate ] -> [ > Player ]\n", 0]]) {
+  /** @type {[string, number][]} */
+  const pieces = [[FORM, 1], ["[ > Player | Crate ] -> [ > Player ]\n", 0]];
+  for (const [piece, each] of pieces) {
     const count = Math.floor((10 * LONG) / piece.length);
     assert.ok(searchOf(piece.repeat(count), each * count) < MOST_MS, piece);
   }
@@ -153,6 +157,7 @@ test("a text of escapes alone takes little more than replacing each", () => {
 });
 
 // Texts of one piece again and again, with what stands before and behind it, and how many recordings are in it.
+/** @type {[string, string, string, number][]} */
 const ROUNDS = [["[", "<br>", "", 0], ["[", "&nbsp;", "&quot;", 0], ['["a",', "<br>", "1]", 0], ['"', "\\n", "", 0], ['"[', "\\n", "", 0], ['[["a",["",[', '"undo",', '1],""]]]', 1]];
 
 test("a piece is read again and again, however often it stands there", () => {

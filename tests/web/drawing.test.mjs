@@ -1,12 +1,19 @@
+// @ts-check
 // What is drawn on a canvas: all of a level at first, and then only the cells that changed or had a mark, so that it shows what it would if all were drawn.
 import assert from "node:assert/strict";
 import test from "node:test";
 import { Pictures, drawLevel } from "../../web/drawing.mjs";
+import { putDocument, takeDocument } from "./stand-ins.mjs";
 
 // A canvas that knows what stands in each cell of so many pixels, and how many were drawn.
 class Canvas {
   constructor(size) {
-    Object.assign(this, { size, cells: new Map(), marks: new Map(), drawn: 0, hidden: false, sides: [0, 0] });
+    this.size = size;
+    this.cells = new Map();
+    this.marks = new Map();
+    this.drawn = 0;
+    this.hidden = false;
+    this.sides = [0, 0];
   }
 
   set width(width) {
@@ -54,6 +61,7 @@ function freshly(...words) {
 
 test("what is drawn over another level is what is drawn at once", () => {
   const canvas = new Canvas(SIZE);
+  /** @type {[ReturnType<typeof level>, ReturnType<typeof frame>, [number, number, string, string][], number][]} */
   const steps = [
     [level(3, [0, 1, 2, 3, 4, 5]), [], [], 6],
     [level(3, [0, 1, 2, 3, 4, 5]), [], [], 0],
@@ -99,7 +107,7 @@ test("a level that can't be read back hides the canvas, and what stood there is 
 
 test("the cells of a game that couldn't be read are letters", () => {
   const drawn = [], context = { fillRect: (...where) => drawn.push(where), fillText: (letter) => drawn.push(letter), drawImage: () => {} };
-  globalThis.document = { createElement: () => ({ getContext: () => context }) };
+  putDocument({ createElement: () => ({ getContext: () => context }) });
   const labels = [["background"], ["background", "crate"], ["\u{1f600}x"], []], unread = new Pictures({ ground: "#000000", objects: [] }, labels);
   const sides = labels.map((_, label) => unread.of(label).width);
   assert.deepEqual(drawn.filter((it) => typeof it === "string"), [".", "c", "\u{1f600}", " "]);
@@ -107,7 +115,7 @@ test("the cells of a game that couldn't be read are letters", () => {
   drawn.length = 0;
   assert.equal(new Pictures({ ground: "#000000", objects: [["crate", 0, ["#ffffff"], ""]] }, labels).of(1).width, 5);
   assert.deepEqual(drawn, [[0, 0, 5, 5], [0, 0, 5, 5]]);
-  delete globalThis.document;
+  takeDocument();
 });
 
 // A picture that knows what was painted on it since it was filled whole.
@@ -129,7 +137,7 @@ class Painted {
 
 test("of cells that are all unlike few pictures are kept, and each object is painted once", () => {
   let made = 0;
-  globalThis.document = { createElement: () => { made += 1; return new Painted(); } };
+  putDocument({ createElement: () => { made += 1; return new Painted(); } });
   const objects = Array.from({ length: 40 }, (_, number) => [`o${number}`, 40 - number, ["#ffffff", null], "0".repeat(24) + "1"]), pairs = [];
   for (let one = 0; one < 40; one += 1) for (let other = 0; other < 40; other += 1) pairs.push([`o${one}`, `o${other}`, "nobody"]);
   const pictures = new Pictures({ ground: "#000000", objects }, pairs), first = pictures.of(0);
@@ -141,14 +149,14 @@ test("of cells that are all unlike few pictures are kept, and each object is pai
   assert.equal(made, 1024 + 40);
   assert.equal(pictures.of(0), pictures.of(0));
   assert.ok(first instanceof Painted);
-  delete globalThis.document;
+  takeDocument();
 });
 
 test("what an object hides isn't painted", () => {
-  globalThis.document = { createElement: () => new Painted() };
+  putDocument({ createElement: () => new Painted() });
   const objects = [["low", 0, ["#000000"], ""], ["wall", 1, ["#ffffff"], "0".repeat(25)], ["hole", 2, ["#ffffff", null], "0".repeat(24) + "1"], ["high", 3, ["#ffffff"], "0".repeat(24) + "."]];
   const labels = [["high", "low"], ["wall", "low"], ["low", "hole", "wall"], ["hole", "low", "high"], []], pictures = new Pictures({ ground: "#000000", objects }, labels);
   const shown = labels.map((_, label) => pictures.of(label).shown.map(([picture]) => objects.findIndex(([name]) => pictures.objects.get(name).picture === picture)));
   assert.deepEqual(shown, [[0, 3], [1], [1, 2], [0, 2, 3], []]);
-  delete globalThis.document;
+  takeDocument();
 });

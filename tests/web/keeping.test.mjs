@@ -1,3 +1,4 @@
+// @ts-check
 // What is kept between visits, without a browser: where the database is slow or broken, and notes have little room. What is expected is written by hand.
 import assert from "node:assert/strict";
 import { readFileSync } from "node:fs";
@@ -16,13 +17,18 @@ const FILE = new SessionFile("mine.json", new TextEncoder().encode(JSON.stringif
 // A visit of the page, which keeps its states.
 class Visit {
   static async of(...words) {
-    const visit = new Visit();
-    visit.store = await Store.open(...words);
-    const { state, read, ...it } = stateOfVisit(visit.store.entries, GAME);
-    await visit.store.goOn(read);
-    Object.assign(visit, { state, told: visitTold({ ...it, isCut: it.isCut || visit.store.isCut, isGone: visit.store.isGone }), kept: [] });
-    visit.keep(state);
-    return visit;
+    const store = await Store.open(...words), { state, read, ...it } = stateOfVisit(store.entries, GAME);
+    await store.goOn(read);
+    return new Visit(store, state, visitTold({ ...it, isCut: it.isCut || store.isCut, isGone: store.isGone }));
+  }
+
+  /** @param {Store} store @param {import("../../web/state").State} state @param {string | null} told */
+  constructor(store, state, told) {
+    this.store = store;
+    this.told = told;
+    /** @type {(boolean | null)[]} */
+    this.kept = [];
+    this.keep(state);
   }
 
   keep(state, isKey = false) {
@@ -131,7 +137,11 @@ test("where the browser ends what a page does as it is left, the next visit says
   visit.act(withGame, LONG[1]);
   // nothing that the page does behind the first note of its leaving is done
   const ended = () => { throw new Error("ended"); }, storages = { sessionStorage, localStorage: globalThis.localStorage };
-  globalThis.sessionStorage = { setItem: (...words) => { sessionStorage.setItem(...words); Object.assign(globalThis, { sessionStorage: { setItem: ended }, localStorage: { setItem: ended } }); } };
+  const setItem = (name, text) => {
+    sessionStorage.setItem(name, text);
+    Object.assign(globalThis, { sessionStorage: { setItem: ended }, localStorage: { setItem: ended } });
+  };
+  Object.assign(globalThis, { sessionStorage: { setItem } });
   browser.leave();
   Object.assign(globalThis, storages);
   assert.match((await Visit.of()).told, /^This browser had no room for all that was changed/);

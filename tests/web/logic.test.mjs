@@ -1,3 +1,4 @@
+// @ts-check
 // What the playground thinks, without a page: recordings, sessions files, lines, comparisons, lists and keys. What is expected is written by hand.
 import assert from "node:assert/strict";
 import test from "node:test";
@@ -16,6 +17,7 @@ import { Refusal, SessionFile, refusalTold } from "../../web/session-file.mjs";
 import { findingsIn } from "../../web/console.mjs";
 import { following, isFailure, listed } from "../../web/session-list.mjs";
 import "./module.mjs";
+import { WORK, stateOf } from "./stand-ins.mjs";
 
 const bytesOf = (text) => new TextEncoder().encode(text);
 const textOf = (bytes) => new TextDecoder().decode(bytes);
@@ -272,10 +274,10 @@ test("what can't be read, as a folder, is told, and what comes behind it is read
 });
 
 test("a session that is lost with what must be so of it can be put back", () => {
-  const entry = (rest) => ({ name: "a", source: "", inputs: [0], level: "", index: 0, ...(rest ? { rest } : {}) }), state = (file) => ({ file, isUnsaved: true, past: [], text: "", work: { inputs: [], name: "" } });
-  const [plain, demanded] = [undefined, ["solved"]].map((rest) => state({ entries: [entry(rest)] }));
+  const fileOf = (...rest) => new SessionFile("f.json", bytesOf(JSON.stringify([["a", ["", [0], ""], ...rest]])));
+  const state = (...rest) => stateOf({ file: fileOf(...rest), isUnsaved: true, past: [], text: "", work: WORK }), plain = state(), demanded = state("solved");
   assert.equal(lostIn(demanded, plain).file, demanded.file);
-  assert.equal(lostIn(demanded, state({ entries: [entry(["solved"])] })), null);
+  assert.equal(lostIn(demanded, state("solved")), null);
 });
 
 const kindOf = (text) => handed("f", typeof text === "string" ? bytesOf(text) : text).kind;
@@ -288,6 +290,7 @@ test("a file is taken for what stands in it", () => {
 });
 
 test("what is none of these is refused, and prose is no game", () => {
+  /** @type {[string | Uint8Array, string][]} */
   const refusals = [
     ["", "f: it is empty: in PuzzleScript's editor play"], ["Dear Anna, here is my game.", "f: it has no recording, and is no text of a game"], ['{"source": "x"}', "f: it has objects in braces"],
     ['["a",["OBJECTS",[7],"b:0,"]]', "no recording is left in f: line 1: skipped a recording with a fault: its input 0 is neither"], ['\n["a",["OBJECTS\\n', "no recording is left in f: line 2: skipped a recording that is cut off"],

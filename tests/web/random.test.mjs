@@ -11,10 +11,9 @@ import { isPlayed, sourceOf } from "../../web/replaying.mjs";
 import { coverageStopped, covered, linePointedAt, opened, stageStepped } from "../../web/staging.mjs";
 import { differenceOf, playedAgain, rowsOf, runsOfNow, seenOf, sessionOf, sessionOpened } from "../../web/suite.mjs";
 import { begunAnew, cutBack, edited, fromLevel, held, inOrder, lookedAt, named, pressed, putBack, released, withGame, withOwnText } from "../../web/work.mjs";
-import { Bench, GAME, closesOf, comparedWithLines, module, read } from "./bench.mjs";
+import { Bench, GAME, INPUTS, closesOf, comparedWithLines, module, read } from "./bench.mjs";
 
 const ACTS = Number(process.env.ACTS ?? 2000), SEED = Number(process.env.SEED ?? 1);
-const INPUTS = [0, 1, 2, 3, 4, "undo", "restart", "tick"];
 const OTHER = GAME.replace("title ", "title Another ");
 const EDITS = [
   ["[ > Player | Crate ] ->", "[ > Player | Crat ] ->"], ["[ > Player | Crat ] ->", "[ > Player | Crate ] ->"], ["[ > Player | Crate ] -> [ > Player | > Crate ]", "[ > Player ] -> [ Player ]"],

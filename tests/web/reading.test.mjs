@@ -1,3 +1,4 @@
+// @ts-check
 // Many texts that come at once, without a browser: they are read in pieces, which can be stopped, and none is read twice.
 import assert from "node:assert/strict";
 import test from "node:test";
@@ -15,6 +16,7 @@ import { differenceOf, rowsOf, sessionOpened } from "../../web/suite.mjs";
 import { whyNoField } from "../../web/texts.mjs";
 import { beginning, edited, ticked, withOwnText } from "../../web/work.mjs";
 import { Bench, GAME, comparedWithLines, module } from "./bench.mjs";
+import { IdleWorker } from "./stand-ins.mjs";
 
 const MANY = 80; // more texts than are kept as they were read
 const it = (name, act) => test(name, { skip: module === undefined && "there is no module for it" }, act);
@@ -28,7 +30,7 @@ const fileOf = (entries) => new SessionFile("f.json", new TextEncoder().encode(J
 // Does something while it is counted how often a text of a session is read.
 async function counted(act) {
   const count = { read: 0 }, isOwn = (bytes) => new TextDecoder().decode(bytes).includes("title Own");
-  readBy({ description: (bytes) => { count.read += isOwn(bytes); return module.description(bytes); } });
+  readBy({ description: (bytes) => { count.read += Number(isOwn(bytes)); return module.description(bytes); } });
   await act(count).finally(() => readBy(module));
 }
 
@@ -182,7 +184,7 @@ test("an answer with a level whose text is very long is handed over as none", ()
 });
 
 test("an answer with more frames or stages than the page takes in a moment is handed over as none", () => {
-  for (const [name, most] of [["frames", 2 ** 19], ["stages", 2 ** 16]]) {
+  for (const [name, most] of Object.entries({ frames: 2 ** 19, stages: 2 ** 16 })) {
     const answerOf = (count) => ({ [name]: new Array(count).fill({ at: 0, kind: "start", level: "a:0," }), cause: null, fault: null }), whole = answerOf(most);
     assert.equal(readableAnswer(whole), whole);
     const { frames, stages, cause, fault } = readableAnswer(answerOf(most + 1));
@@ -198,7 +200,7 @@ test("an answer with more headings and lines in its stages than the page takes i
 });
 
 test("an answer whose levels take more room than the page has for them is handed over as none", () => {
-  for (const [letter, most] of [["a", 128], ["\u20ac", 64]]) {
+  for (const [letter, most] of Object.entries({ a: 128, "\u20ac": 64 })) {
     const level = letter.repeat(2 ** 21), answerOf = (count) => ({ frames: new Array(count - 1).fill({ at: 0, kind: "start", level }), stages: [{ stage: "end", level }], cause: null, fault: null });
     const whole = answerOf(most);
     assert.equal(readableAnswer(whole), whole);
@@ -247,7 +249,7 @@ test("no more sessions come into the page than the engine plays", () => {
 // A thing of which it is counted how often a part of it is looked at.
 function counting(thing, part) {
   const count = { reads: 0 };
-  return [new Proxy(thing, { get: (it, asked) => { count.reads += asked === part; return it[asked]; } }), count];
+  return [new Proxy(thing, { get: (it, asked) => { count.reads += Number(asked === part); return it[asked]; } }), count];
 }
 
 it("a recorded level is read once for what stands against accepting it", async () => {
@@ -299,19 +301,7 @@ it("a file is read in a rehearsal to its end, whatever it is", async () => {
   await assert.rejects(rehearse({ name: "file", bytes: null, text: GAME, former: null }, () => {}), TypeError);
 });
 
-class Reading {
-  constructor() {
-    Object.assign(this, { asked: [], isEnded: false });
-  }
-
-  postMessage(message) {
-    this.asked.push(message);
-  }
-
-  terminate() {
-    this.isEnded = true;
-  }
-
+class Reading extends IdleWorker {
   tell(isRead) {
     this.onmessage({ data: { isRead } });
   }

@@ -1,3 +1,4 @@
+// @ts-check
 // "Solve from here", without a browser: what is asked, what is said of the answers, and what the ghost and "Take it" make of them.
 import assert from "node:assert/strict";
 import test from "node:test";
@@ -8,14 +9,14 @@ import { framesOf, shownOf } from "../../web/replaying.mjs";
 import { ghostOf, solutionNow, solutionTaken, solutionTold, solveAsked, solveStopped, wantedSolution } from "../../web/solving.mjs";
 import { cutBack, edited, lookedAtInput, pressed, putBack, ticked } from "../../web/work.mjs";
 import { Bench, GAME, module } from "./bench.mjs";
+import { IdleWorker } from "./stand-ins.mjs";
 
 const it = (name, act, isSkipped = module === undefined) => test(name, { skip: isSkipped && "there is no module for it" }, act);
 const moved = () => new Promise((settle) => setTimeout(settle, 1));
 
 // A bench on which these inputs were played, whose engine answers a search by what it is told to.
 async function played(inputs, answer) {
-  const bench = new Bench();
-  bench.asked = [];
+  const bench = Object.assign(new Bench(), { asked: [] });
   bench.engine.solution = async (asked) => {
     bench.asked.push(asked);
     return answer;
@@ -83,6 +84,7 @@ it("an answer stays as long as the recording begins so, and is gone with another
 
 it("a search that is stopped, or of something else by now, has no answer", async () => {
   const bench = await played([1], null);
+  /** @type {(answer: ReturnType<typeof found>) => void} */
   let answer = () => {};
   bench.engine.solution = () => new Promise((settle) => { answer = settle; });
   await bench.act(solveAsked);
@@ -95,24 +97,8 @@ it("a search that is stopped, or of something else by now, has no answer", async
   assert.deepEqual([wantedSolution(bench.state), solutionNow(bench.state), solutionTold(bench.state)], [null, null, ""]);
 });
 
-// A worker that does nothing by itself.
-class Idle {
-  constructor(workers) {
-    Object.assign(this, { asked: [], isEnded: false });
-    workers.push(this);
-  }
-
-  postMessage(message) {
-    this.asked.push(message);
-  }
-
-  terminate() {
-    this.isEnded = true;
-  }
-}
-
 test("a search has no answer of the one before, whenever that comes, and its worker ends", async () => {
-  const workers = [], solution = searchesIn(() => new Idle(workers), "the module"), stopping = new AbortController();
+  const workers = [], solution = searchesIn(() => workers[workers.push(new IdleWorker()) - 1], "the module"), stopping = new AbortController();
   const first = solution("first", stopping.signal), second = solution("second", new AbortController().signal);
   await moved();
   assert.deepEqual(workers.map(({ asked }) => asked), [[{ module: "the module" }, { sought: "first" }], [{ module: "the module" }, { sought: "second" }]]);

@@ -1,3 +1,4 @@
+// @ts-check
 // The stages of an input on the page, without a browser: the recording is played by the module in Node, and the stages are written by hand.
 import assert from "node:assert/strict";
 import test from "node:test";
@@ -8,6 +9,7 @@ import { coverageTold, headingsTold, stageShown, stageTold, stagesTold } from ".
 import { chosenStage, coverageOf, coverageStopped, covered, inputsOfLine, lineNow, linePointedAt, linesMarked, lookedAtActed, opened, stageChosen, stageStepped, stagesNow } from "../../web/staging.mjs";
 import { edited, lookedAtInput, pressed } from "../../web/work.mjs";
 import { Bench, GAME, module } from "./bench.mjs";
+/** @typedef {Pick<import("../../engine/saxtegun").Engine, "stages">} Stages */
 
 const it = (name, act) => test(name, { skip: module === undefined && "there is no module" }, act);
 const RULE = GAME.split("\n").indexOf("[ > Player | Crate ] -> [ > Player | > Crate ]") + 1;
@@ -19,6 +21,7 @@ class Told {
     this.asked = [];
   }
 
+  /** @type {Stages["stages"]} */
   stages({ source, inputs, index }, number, { order }) {
     this.asked.push([inputs.length, number]);
     const { frames } = module.frames({ source, inputs, index }, { order }), [before, after] = [frames[number - 1]?.level, frames[number].level];
@@ -29,6 +32,7 @@ class Told {
   }
 }
 
+/** @type {(engine?: Stages, inputs?: number[], text?: string) => Promise<Bench>} */
 async function staged(engine = new Told(), inputs = [2, 1, 0], text = GAME) {
   const bench = new Bench();
   bench.engine.stages = async (wanted) => stagesBy(engine, wanted);
@@ -159,7 +163,9 @@ it("of a stopped game the input is looked at as well at which it stopped", async
 });
 
 it("an engine without stages, or one that breaks, is told, and asked no more", async () => {
-  for (const [fault, told] of [["no-stages", "The engine in this page gives no stages."], ["broken", /^The engine gave no stages: /]]) {
+  /** @type {[string, string | RegExp][]} */
+  const faults = [["no-stages", "The engine in this page gives no stages."], ["broken", /^The engine gave no stages: /]];
+  for (const [fault, told] of faults) {
     let asked = 0;
     const bench = await staged({ stages: () => { asked += 1; return { stages: [], fault }; } });
     await bench.act(opened, true);
@@ -195,7 +201,7 @@ it("where a line acted is looked up once, and not anew at each input", async () 
     await bench.act(opened, true);
     await bench.act(linePointedAt, RULE);
     await lookedThrough(bench);
-    const count = { texts: 0 }, state = new Proxy(bench.state, { get: (it, asked) => { count.texts += asked === "text"; return it[asked]; } });
+    const count = { texts: 0 }, state = new Proxy(bench.state, { get: (it, asked) => { count.texts += Number(asked === "text"); return it[asked]; } });
     assert.equal(inputsOfLine(state)[0], 3);
     reads.push(count.texts);
   }

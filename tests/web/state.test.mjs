@@ -1,11 +1,10 @@
+// @ts-check
 // What an author does on the page, without a browser: the state is played by the module in Node. What is expected is written by hand.
 import assert from "node:assert/strict";
 import test from "node:test";
 import { Ending } from "../../web/comparing.mjs";
 import { findingsIn, searching } from "../../web/console.mjs";
-import { KeptOpen } from "../../web/kept-open.mjs";
 import { stateFrom, stateOfVisit } from "../../web/kept-work.mjs";
-import { playedBy } from "../../web/page-engine.mjs";
 import { endTold, faultOfText, othersTold, ownTold, putBackTold, statusOf, stepTold, tabTold, toldOfLevel, unlikenessTold, verdictOf, visitTold } from "../../web/page-words.mjs";
 import { SessionFile } from "../../web/session-file.mjs";
 import { accepted, followed, namesakeOf, removed, savedAs, savedLater, withOtherFile, withRecordings } from "../../web/filing.mjs";
@@ -17,7 +16,7 @@ import { Bench, GAME, comparedWithLines, module, read } from "./bench.mjs";
 
 const PUSH = "[ > Player | Crate ] -> [ > Player | > Crate ]", BROKEN = GAME.replace(PUSH, "[ > Player | Crate ] -> [ Player | Crate ]");
 const OTHER = GAME.replace("title ", "title Another ");
-const DAY = JSON.parse(read("examples/day/recordings.json"));
+const DAY = JSON.parse(read("examples/day/recordings.json").toString());
 const bytesOf = (value) => new TextEncoder().encode(JSON.stringify(value));
 const fileOf = (value, name = "mine.json") => new SessionFile(name, bytesOf(value));
 const entriesIn = (state) => JSON.parse(new TextDecoder().decode(state.file.bytes));
@@ -571,7 +570,12 @@ it("what a closed tab left comes back over its own text, also over the example",
 });
 
 it("a text can be put back of which an edit leaves little, and none of which it leaves the most", async () => {
-  for (const [text, isLost] of [[`${GAME}x`, false], [GAME.replace("title", "(a) title"), false], [GAME.slice(0, GAME.length / 2 + 9), false], [GAME.split("\n").reverse().join("\n"), false], ["", true], ["title Another\nOBJECTS\n", true]]) {
+  /** @type {[string, boolean][]} */
+  const edits = [
+    [`${GAME}x`, false], [GAME.replace("title", "(a) title"), false], [GAME.slice(0, GAME.length / 2 + 9), false],
+    [GAME.split("\n").reverse().join("\n"), false], ["", true], ["title Another\nOBJECTS\n", true],
+  ];
+  for (const [text, isLost] of edits) {
     const bench = await played(1, 2);
     bench.begin({ ...bench.state, example: "title none" });
     await bench.act(edited, text);
@@ -677,6 +681,7 @@ it("what a closed tab left waits whole where there isn't room for all of it, and
 
 it("a visit after one that ended while a file was played is held, unless that took but a moment", async () => {
   const bench = new Bench(), { playAll } = bench.engine;
+  /** @type {(value?: unknown) => void} */
   let end = () => {};
   const ended = new Promise((settle) => { end = settle; });
   bench.engine.playAll = (...words) => ended.then(() => playAll(...words));
@@ -774,26 +779,4 @@ it("the key that wins is told as such, and the message behind the last level is 
   assert.deepEqual([bench.state.played.isSolved, bench.state.messages, bench.state.told.text], [true, ["done"], "Solved: all levels are won."]);
   await bench.act(cutBack);
   assert.deepEqual([bench.state.work.inputs, bench.state.played.isSolved, framesOf(bench.state).length], [[3], false, 2]);
-});
-
-test("a key behind an open session leads to what playing all leads to", { skip: !module?.hasOpenSessions && "the module is not there, or keeps no session open" }, () => {
-  const kept = new KeptOpen(module), sources = [WON_BY_A_MOVE, GAME, GAME.replace("-> [ > Player | > Crate ]", "-> [ > Player | > Crate ] again")];
-  let seed = 78, compared = 0;
-  const random = (below) => {
-    seed = (Math.imul(seed, 1664525) + 1013904223) >>> 0;
-    return Math.floor((seed / 2 ** 32) * below);
-  };
-  for (let turn = 0; turn < 60; turn += 1) {
-    const base = { source: sources[random(sources.length)], index: 0, order: ["rows", "columns"][random(2)], isTicked: false };
-    let inputs = Array.from({ length: random(90) }, () => random(4));
-    kept.follow({ ...base, inputs });
-    for (let key = 0; key < 8; key += 1) {
-      inputs = [...inputs.slice(0, inputs.length - random(3)), [0, 1, 2, 3, 4, "undo", "restart", "tick"][random(8)]];
-      const wanted = { ...base, inputs, from: inputs.length }, answer = kept.played(wanted);
-      if (answer === null) continue;
-      assert.deepEqual(answer, playedBy(module, wanted));
-      compared += 1;
-    }
-  }
-  assert.ok(compared > 400, `${compared}`);
 });

@@ -1,5 +1,9 @@
+// @ts-check
 // What a browser has for a page to keep things in, as far as web/keeping.mjs asks for it, for tests without a browser. A test says when the database
 // answers, and which room there is for notes.
+
+/** @typedef {{ result?: unknown, onsuccess?: () => void, onerror?: () => void }} Request */
+/** @typedef {{ error: unknown, objectStore?: () => object, oncomplete?: () => void }} Transaction */
 
 const begin = setTimeout; // what isn't a page's
 const soon = (act) => begin(act, 0);
@@ -7,7 +11,12 @@ const soon = (act) => begin(act, 0);
 // A database that opens unless it is mute, writes once it isn't held, and forgets what a page that was left had not written.
 class Database {
   constructor() {
-    Object.assign(this, { entries: new Map(), isHeld: false, isBroken: false, isMute: false, waiting: [], page: 0 });
+    this.entries = new Map();
+    this.isHeld = false;
+    this.isBroken = false;
+    this.isMute = false;
+    this.waiting = [];
+    this.page = 0;
   }
 
   // Lets what waits be done.
@@ -18,17 +27,23 @@ class Database {
 
   // What waits is lost with the page.
   abort() {
-    Object.assign(this, { waiting: [], page: this.page + 1 });
+    this.waiting = [];
+    this.page += 1;
   }
 
   open() {
-    const { page } = this, request = { result: { transaction: () => this.transaction(page), close: () => {} } };
+    const { page } = this;
+    /** @type {Request} */
+    const request = { result: { transaction: () => this.transaction(page), close: () => {} } };
     if (!this.isMute) soon(() => (this.isBroken ? request.onerror() : request.onsuccess()));
     return request;
   }
 
   transaction(page) {
-    const acts = [], transaction = { error: null }, add = (act) => acts[acts.push({ act, request: {} }) - 1].request;
+    /** @type {Transaction} */
+    const transaction = { error: null };
+    /** @type {{ act: () => unknown, request: Request }[]} */
+    const acts = [], add = (act) => acts[acts.push({ act, request: {} }) - 1].request;
     transaction.objectStore = () => ({
       get: (name) => add(() => structuredClone(this.entries.get(name))), getAllKeys: () => add(() => [...this.entries.keys()]),
       put: (value, name) => add(() => this.entries.set(name, structuredClone(value))), delete: (name) => add(() => this.entries.delete(name)),
@@ -47,8 +62,10 @@ class Database {
 }
 
 // What a browser keeps by names, in so many letters.
+/** @param {number} most */
 function storage(most) {
-  const room = { most };
+  /** @type {{ most: number, items: Record<string, string> }} */
+  const room = { most, items: Object.create(null) };
   const letters = (items) => Object.entries(items).reduce((sum, [name, text]) => sum + name.length + text.length, 0);
   const methods = {
     getItem: (name) => (Object.hasOwn(room.items, name) ? room.items[name] : null),
@@ -58,7 +75,6 @@ function storage(most) {
     },
     removeItem: (name) => delete room.items[name],
   };
-  room.items = Object.create(null);
   const proxy = new Proxy(methods, { ownKeys: () => Object.keys(room.items), getOwnPropertyDescriptor: () => ({ enumerable: true, configurable: true }) });
   return { room, proxy };
 }
@@ -83,11 +99,18 @@ class Locks {
 // A browser with one tab. Its pages are visited one after another.
 export class OneTab {
   constructor({ most = 5_000_000 } = {}) {
-    Object.assign(this, { database: new Database(), locks: new Locks(), notes: storage(most), tab: storage(most), listeners: {}, timers: [] });
+    this.database = new Database();
+    this.locks = new Locks();
+    this.notes = storage(most);
+    this.tab = storage(most);
+    /** @type {Record<string, ((event: { persisted: boolean }) => void)[]>} */
+    this.listeners = {};
+    this.timers = [];
     const listen = (name, act) => { (this.listeners[name] ??= []).push(act); };
     const there = {
       indexedDB: { open: () => this.database.open() }, localStorage: this.notes.proxy, sessionStorage: this.tab.proxy, navigator: { locks: this.locks },
-      setTimeout: (...words) => this.timers[this.timers.push(begin(...words)) - 1], window: { addEventListener: listen }, document: { addEventListener: listen, visibilityState: "visible" },
+      setTimeout: (act, after) => this.timers[this.timers.push(begin(act, after)) - 1],
+      window: { addEventListener: listen }, document: { addEventListener: listen, visibilityState: "visible" },
     };
     for (const [name, value] of Object.entries(there)) Object.defineProperty(globalThis, name, { value, configurable: true, writable: true });
   }

@@ -1,3 +1,4 @@
+// @ts-check
 // What strangers make long or large: names, levels, causes and groups of rules. A browser is given no more of them than it lays out and draws in a moment.
 import assert from "node:assert/strict";
 import test from "node:test";
@@ -12,6 +13,7 @@ import { Player } from "../../web/player.mjs";
 import { say, tell } from "../../web/saying.mjs";
 import { headingsTold, stageTold } from "../../web/stage-words.mjs";
 import { shortened } from "../../web/texts.mjs";
+import { WORK, putDocument, stateOf, takeDocument } from "./stand-ins.mjs";
 
 const LONG = "x".repeat(1_000_000);
 const level = (cells) => ({ width: cells.length, cells, order: "rows" });
@@ -37,25 +39,26 @@ test("a level of more cells than one that is played has is not drawn, and compar
 });
 
 test("what was zoomed before is drawn no larger than a browser draws it", () => {
-  globalThis.document = { getElementById: () => ({ getAttribute: () => "false" }) };
+  putDocument({ getElementById: () => ({ getAttribute: () => "false" }) });
   const page = { roomFor: () => ({ width: 600, height: 600 }), most: 64 }, boards = Object.assign(Object.create(Boards.prototype), { page, places: [], blinking: null, zoom: 64 });
+  /** @type {(sides: number[]) => number} */
   const scaleOf = ([width, height]) => {
     boards.sides = [{ level: { ...level(new Array(width * height).fill(0)), width } }];
     boards.draw();
     return boards.scale;
   };
   assert.deepEqual([[3, 1], [38, 38], [100, 100], [128, 128], [255, 64], [6_553, 1]].map(scaleOf), [64, 21, 8, 6, 6, 1]);
-  delete globalThis.document;
+  takeDocument();
 });
 
 test("a report tells why a level isn't drawn, and no long text of it", () => {
-  globalThis.document = { getElementById: () => ({ checked: false }) };
+  putDocument({ getElementById: () => ({ checked: false }) });
   const told = (it) => Player.prototype.sideShown.call({ at: 0, captionOf: () => "a caption" }, { caption: "played", run: { last: 0 } }, it).caption;
   assert.deepEqual([level([0]), level([]), level(new Array(20_000).fill(0)), { text: `a,b:0,${LONG}` }].map(told), [
     "a caption", "played: an empty level text", "played: a level 20000 wide and 1 high, larger than any that is played",
     `played: a level text that can't be read back: a,b:0,${"x".repeat(494)}\u2026`,
   ]);
-  delete globalThis.document;
+  takeDocument();
 });
 
 test("of another engine's cause no more is told than is read", () => {
@@ -96,18 +99,18 @@ test("a level text that is longer than one that is read is compared letter by le
 test("of whatever is said no more is said in one piece than a browser lays out in a moment, with a sign that it is cut", () => {
   const element = () => ({ textContent: "", replaceChildren(...nodes) { this.textContent = nodes.map((it) => it.textContent).join(""); } });
   const elements = { "message-text": element(), status: element() }, marked = (count) => "a\u0301".repeat(count), letter = "\u{1f468}";
-  globalThis.document = { getElementById: (id) => elements[id], createElement: element };
+  putDocument({ getElementById: (id) => elements[id], createElement: element });
   say("message-text", marked(100_000));
   tell("status", { text: marked(100_000), close: null });
   assert.deepEqual(Object.values(elements).map(({ textContent }) => textContent), new Array(2).fill(`${marked(2000)}\u2026`));
   assert.deepEqual([marked(2000), "", `a${letter.repeat(2000)}`].map(sayable), [marked(2000), "", `a${letter.repeat(1999)}\u2026`]);
   const cells = Array.from({ length: 128 }, (_, label) => label), [row] = rowsInWords(level(cells), (label) => [`${marked(100)}${label}`]);
   assert.deepEqual([row.length, row.at(-1)], [4001, "\u2026"]);
-  delete globalThis.document;
+  takeDocument();
 });
 
 test("of a long name no more is shown than its field takes, and no half of a letter", () => {
-  const letter = "\u{1f468}", shown = (name) => nameShown({ work: { name } });
+  const letter = "\u{1f468}", shown = (name) => nameShown(stateOf({ work: { ...WORK, name } }));
   assert.deepEqual(["", "a name", LONG, letter.repeat(1500), `a${letter.repeat(1500)}`].map(shown), ["", "a name", "x".repeat(2000), letter.repeat(1000), `a${letter.repeat(999)}`]);
-  assert.equal(putBackTold({ past: [{ work: { inputs: [], name: LONG } }] }), `Puts back the name ${"x".repeat(200)}..`);
+  assert.equal(putBackTold(stateOf({ past: [{ work: { ...WORK, name: LONG } }] })), `Puts back the name ${"x".repeat(200)}..`);
 });
