@@ -1,4 +1,4 @@
-"""The package, the modules and scripts of the tools, and the tests are checked by mypy, in its strict manner, where mypy is there."""
+"""The package, the command, the modules and scripts of the tools, and the tests are checked by mypy, in its strict manner, where mypy is there."""
 from __future__ import annotations
 
 import os
@@ -41,6 +41,9 @@ class Types(unittest.TestCase):
 
     def test_the_types_of_the_package_hold(self) -> None:
         self.check("package", "-p", "saxtegun")
+
+    def test_the_types_of_the_command_hold(self) -> None:
+        self.check("package", TOP / "saxtegun")
 
     def test_the_types_of_the_modules_of_tools_hold(self) -> None:
         modules = [it for folder in FOLDERS for it in modules_of(folder)]
