@@ -161,8 +161,8 @@ class Playground {
 
   // Reads a file, once a worker has read it in time; null where it was stopped.
   async read(name, bytes, signal, progress) {
-    const isReadable = await mayRead(name, bytes, this.state, this.engine.read, signal);
-    if (isReadable === false) throw new Refusal(slowTold(name));
+    const { state } = this, isReadable = await mayRead(name, bytes, state, this.engine.read, signal);
+    if (isReadable === false) throw new Refusal(slowTold(name, state.file));
     return isReadable && inPieces(handing(name, bytes), signal, progress);
   }
 

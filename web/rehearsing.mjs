@@ -25,16 +25,16 @@ function stateBehind({ kind, found, skipped, bytes }, name, state) {
   return kind === "sessions" ? withOtherFile(state, new SessionFile(name, bytes)) : state;
 }
 
-// Does what the page does at once with a file of sessions that came.
-/** @param {import("./state").State} state */
-async function take(state) {
+// Does what the page does with a file of sessions that came: what it does at once, and then one thing after another, before each of which live() is called.
+/** @param {import("./state").State} state @param {() => void} live */
+async function take(state, live) {
   const { file, text } = state, ended = new AbortController();
   ended.abort();
   await new Clocks().read(file.entries.map(({ source }) => source), ended.signal);
-  file.partsOver(text, (source) => source);
-  rowsOf(state);
-  keptOf(state, false);
-  look(text);
+  for (const act of [() => file.partsOver(text, (source) => source), () => rowsOf(state), () => keptOf(state, false), () => look(text)]) {
+    live();
+    act();
+  }
 }
 
 // Reads a text as it is read where it is drawn.
@@ -64,8 +64,9 @@ export async function rehearse({ name, bytes, text, former }, live, often = OFTE
     if (read.kind === "lines") through(readingRuns(read.text, MOST_SESSIONS), live, often);
     else if (read.kind === "game") look(read.text);
     else {
+      live();
       const next = stateBehind(read, name, state);
-      await take(next);
+      await take(next, live);
       // these are read once their sessions are opened
       for (const source of distinct(next.file.entries.map((entry) => entry.source).filter((it) => it.length > LONG))) {
         live();
@@ -109,4 +110,8 @@ export async function mayRead(name, bytes, { text, file }, read, signal) {
   return signal.aborted ? null : isRead;
 }
 
-export const slowTold = (name) => `${name} keeps its reader busy for over ${MOST_OF_A_STEP / 1000} seconds, in which the page would stand still: play it by the command`;
+// That a file isn't read. Where a long one is open, what came may be short.
+export function slowTold(name, file) {
+  const isBeside = file !== null && file.bytes.length >= LONG, told = isBeside ? `${name}, beside ${file.name} which is open,` : name;
+  return `${told} keeps its reader busy for over ${MOST_OF_A_STEP / 1000} seconds, in which the page would stand still: ${isBeside ? "close that, or " : ""}play it by the command`;
+}

@@ -10,6 +10,7 @@ import { MOST_READ, framesIn, readingRuns, runsOf } from "../../web/lines.mjs";
 import { clockTold, readingTold, tabTold, verdictOf } from "../../web/page-words.mjs";
 import { readableAnswer } from "../../web/page-engine.mjs";
 import { atOnce, inPieces } from "../../web/pieces.mjs";
+import { remembering } from "../../web/past.mjs";
 import { mayRead, readerIn, rehearse, slowTold } from "../../web/rehearsing.mjs";
 import { MOST_SESSIONS, Refusal, SessionFile, refusalTold } from "../../web/session-file.mjs";
 import { differenceOf, rowsOf, sessionOpened } from "../../web/suite.mjs";
@@ -290,7 +291,7 @@ it("a file is read in a rehearsal to its end, whatever it is", async () => {
   let words = 0;
   const long = `(${"x".repeat(70_000)})\n${GAME}`;
   await rehearse({ name: "file", bytes: bytesOf([["one", [long, [0], ""]], ["two", [long, [1], ""]], ["three", ["", [2], ""]]]), text: GAME, former }, () => { words += 1; }, Infinity);
-  assert.equal(words, 2);
+  assert.equal(words, 7);
   words = 0;
   const lines = Array.from({ length: 3 }, (_, session) => `{"close":"passed","frames":0,"name":"one","session":${session}}\n`).join("");
   await rehearse({ name: "lines", bytes: bytesOf(lines), text: GAME, former }, () => { words += 1; }, -1);
@@ -335,5 +336,32 @@ test("only a long file is read so, and one that is stopped is told apart from on
   assert.deepEqual(asked, [{ name: "long", bytes: long, text: "a text", former: null }, { name: "long", bytes: long, text: "a text", former: { name: "f.json", bytes: bytesOf([]) } }]);
   stopping.abort();
   assert.equal(await mayRead("long", long, state, answering(false), stopping.signal), null);
-  assert.equal(slowTold("x.json"), "x.json keeps its reader busy for over 4 seconds, in which the page would stand still: play it by the command");
+  const slow = "keeps its reader busy for over 4 seconds, in which the page would stand still";
+  for (const short of [null, { name: "open.json", bytes: new Uint8Array(65_535) }]) assert.equal(slowTold("x.json", short), `x.json ${slow}: play it by the command`);
+  assert.equal(slowTold("x.json", { name: "open.json", bytes: long }), `x.json, beside open.json which is open, ${slow}: close that, or play it by the command`);
+});
+
+// ---- what a session has beside what is played
+
+it("of members with one name each is read, as the command reads them", () => {
+  const fileWith = (further) => new SessionFile("f.json", bytesOf(`[["one", ["t {:}", [0], "", 0], ${further}], ["two", ["", [1], "", 0, ${further}]]]`));
+  const deep = (many) => `${"[".repeat(many)}${"]".repeat(many)}`, has = (value) => `{"a": ${value}, "a": 0}`;
+  for (const further of [has('"sol\\"}"'), has(deep(120)), "{}", '[{"a": {}, "b": [{"c": "}:{"}]}]', has("0")]) assert.equal(fileWith(further).entries.length, 2);
+  assert.throws(() => fileWith(has('"must be \\"solved"')), /session 0: its further element that is an object holds "solved"/);
+  assert.throws(() => fileWith(`[${has('{"solved": 1}')}]`), /session 0: its further element that is a list holds "solved"/);
+  assert.throws(() => fileWith(has('"\\ud800"')), /session 0: a text of it holds half a letter/);
+  assert.throws(() => fileWith(has(deep(130))), /session 0: its lists and objects are more than 127 deep/);
+  // as many members as may stand there are read, whatever their names are
+  const many = (count, name) => `{${Array.from({ length: count }, (_, place) => `"${name(place)}": 0`).join(", ")}}`;
+  assert.equal(fileWith(many(9000, (place) => place)).entries.length, 2);
+  assert.throws(() => fileWith(many(10_001, () => "a")), /session 0: its lists have more than 10,000 elements/);
+});
+
+it("a file that was lost keeps its bytes alone, and is read again once it is put back", async () => {
+  const bench = new Bench(), entries = [0, 1].map((input) => ({ source: GAME, inputs: [input], level: "", index: 0 })), file = fileOf(entries);
+  await bench.act(withOtherFile, file);
+  const lost = { ...bench.state, isUnsaved: true }, next = remembering(lost, { ...lost, file: null, isUnsaved: false });
+  assert.deepEqual([next.past.at(-1).file === file, file.entriesAtHand.length, file.count, file.entriesAtHand.length], [true, 0, 2, 0]);
+  assert.deepEqual(file.entries.map(({ inputs }) => inputs), [[0], [1]]);
+  assert.deepEqual([file.entriesAtHand.length, SessionFile.kept("f.json", file.bytes).entriesAtHand, SessionFile.kept("f.json", file.bytes).count], [2, [], 2]);
 });
