@@ -25,16 +25,16 @@ function stateBehind({ kind, found, skipped, bytes }, name, state) {
   return kind === "sessions" ? withOtherFile(state, new SessionFile(name, bytes)) : state;
 }
 
-// Does what the page does with a file of sessions that came: what it does at once, and then one thing after another, before each of which live() is called.
-/** @param {import("./state").State} state @param {() => void} live */
-async function take(state, live) {
+// Does what the page does at once with a file of sessions that came.
+/** @param {import("./state").State} state */
+async function take(state) {
   const { file, text } = state, ended = new AbortController();
   ended.abort();
   await new Clocks().read(file.entries.map(({ source }) => source), ended.signal);
-  for (const act of [() => file.partsOver(text, (source) => source), () => rowsOf(state), () => keptOf(state, false), () => look(text)]) {
-    live();
-    act();
-  }
+  file.partsOver(text, (source) => source);
+  rowsOf(state);
+  keptOf(state, false);
+  look(text);
 }
 
 // Reads a text as it is read where it is drawn.
@@ -64,9 +64,8 @@ export async function rehearse({ name, bytes, text, former }, live, often = OFTE
     if (read.kind === "lines") through(readingRuns(read.text, MOST_SESSIONS), live, often);
     else if (read.kind === "game") look(read.text);
     else {
-      live();
       const next = stateBehind(read, name, state);
-      await take(next, live);
+      await take(next);
       // these are read once their sessions are opened
       for (const source of distinct(next.file.entries.map((entry) => entry.source).filter((it) => it.length > LONG))) {
         live();

@@ -291,7 +291,7 @@ it("a file is read in a rehearsal to its end, whatever it is", async () => {
   let words = 0;
   const long = `(${"x".repeat(70_000)})\n${GAME}`;
   await rehearse({ name: "file", bytes: bytesOf([["one", [long, [0], ""]], ["two", [long, [1], ""]], ["three", ["", [2], ""]]]), text: GAME, former }, () => { words += 1; }, Infinity);
-  assert.equal(words, 7);
+  assert.equal(words, 2);
   words = 0;
   const lines = Array.from({ length: 3 }, (_, session) => `{"close":"passed","frames":0,"name":"one","session":${session}}\n`).join("");
   await rehearse({ name: "lines", bytes: bytesOf(lines), text: GAME, former }, () => { words += 1; }, -1);
