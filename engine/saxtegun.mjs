@@ -60,9 +60,7 @@ function faultOf(error) {
 // The bytes of a text, no more than tell that they are too many; null where it is no text, since it has half of a surrogate pair.
 /** @type {(text: Content) => Uint8Array | null} */
 function bytesOf(text) {
-  if (typeof text === "string") {
-    return /\p{Surrogate}/u.test(text) ? null : new TextEncoder().encode(text).subarray(0, MOST_BYTES + 1);
-  }
+  if (typeof text === "string") return /\p{Surrogate}/u.test(text) ? null : new TextEncoder().encode(text).subarray(0, MOST_BYTES + 1);
   // also one of another frame
   if (Object.prototype.toString.call(text) === "[object ArrayBuffer]") return new Uint8Array(/** @type {ArrayBuffer} */ (text)).subarray(0, MOST_BYTES + 1);
   if (ArrayBuffer.isView(text)) return new Uint8Array(text.buffer, text.byteOffset, Math.min(text.byteLength, MOST_BYTES + 1));
@@ -109,6 +107,7 @@ class Instance {
   /** @type {Exports} */
   #exports;
   #room = { at: 0, size: 0 };
+  /** @type {Room | null} */
   #held = null;
 
   // With room for so many bytes of lines, where fewer than usual are wanted at most.
@@ -172,7 +171,7 @@ class Instance {
   }
 
   close(number) {
-    this.#exports.saxtegun_close(this.#held.at, number);
+    if (this.#held !== null) this.#exports.saxtegun_close(this.#held.at, number);
   }
 
   #takeZeros(size) {
@@ -206,6 +205,7 @@ class Instance {
 // open any more.
 class Shelf {
   #module;
+  /** @type {Instance | null} */
   #instance = null;
   #isBroken = false;
 
@@ -231,7 +231,7 @@ class Shelf {
   }
 
   // Leaves the instance, whose sessions may have gone on without anyone being told.
-  /** @type {(fault: string) => import("./saxtegun").Moved & { number: number }} */
+  /** @type {(fault: string | null) => import("./saxtegun").Moved & { number: number }} */
   #end(fault) {
     this.#instance = null;
     this.#isBroken = true;
@@ -313,7 +313,9 @@ class OpenSession {
 class Engine {
   #module;
   #worker;
+  /** @type {Instance | null} */
   #instance = null;
+  /** @type {Shelf | null} */
   #shelf = null;
 
   constructor(module, worker) {
@@ -349,7 +351,7 @@ class Engine {
     if (this.#shelf === null || this.#shelf.isBroken) this.#shelf = new Shelf(this.#module);
     const shelf = this.#shelf, opened = shelf.ask(file, (exports, held, input, room, outcome) =>
       exports.saxtegun_open(held, input.at, BigInt(input.size), number, 0, room.at, BigInt(room.size), outcome));
-    if (opened.fault !== null || opened.close.close === "refused") return { ...notOpened(opened.fault), close: opened.close };
+    if (opened.fault !== null || opened.close?.close === "refused") return { ...notOpened(opened.fault), close: opened.close };
     const its = new OpenSession(shelf, opened.number);
     if (inputs.length === 0) return { session: its, frames: opened.frames, close: opened.close, fault: null };
     const given = its.give(inputs);
@@ -373,8 +375,7 @@ class Engine {
   stagesOf(text, session, input, { order = "columns", firings = false } = {}) {
     const number = numberOf(order), [of, at] = [session, input].map(smallNumberOf), asked = firings ? FIRINGS : STAGES;
     if (!this.#has(asked)) return refused("no-stages");
-    return this.#ask(text, (exports, file, room, outcome) =>
-      exports[asked](file.at, BigInt(file.size), number, of, at, room.at, BigInt(room.size), outcome));
+    return this.#ask(text, (exports, file, room, outcome) => exports[asked](file.at, BigInt(file.size), number, of, at, room.at, BigInt(room.size), outcome));
   }
 
   /** @type {import("./saxtegun").Engine["stages"]} */
@@ -419,9 +420,8 @@ class Engine {
   /** @type {(asked: `saxtegun_${string}`, text: Content) => Answer} */
   #describe(asked, text) {
     if (!this.#has(asked)) return refused("no-descriptions");
-    if (bytesOf(text)?.length > MOST_BYTES) return refused("too-many");
-    return this.#ask(text, (exports, input, room, outcome) =>
-      exports[asked](input.at, BigInt(input.size), room.at, BigInt(room.size), outcome));
+    if ((bytesOf(text)?.length ?? 0) > MOST_BYTES) return refused("too-many");
+    return this.#ask(text, (exports, input, room, outcome) => exports[asked](input.at, BigInt(input.size), room.at, BigInt(room.size), outcome));
   }
 
   get hasSolutions() {
@@ -432,8 +432,7 @@ class Engine {
   solutionsOf(text, { levels = MOST_LEVELS, bytes = MOST_KEPT_BYTES } = {}) {
     const bounds = [levels, bytes].map(boundOf);
     if (!this.#has(SOLUTIONS)) return refused("no-solutions");
-    return this.#ask(text, (exports, file, room, outcome) =>
-      exports[SOLUTIONS](file.at, BigInt(file.size), ...bounds, room.at, BigInt(room.size), outcome));
+    return this.#ask(text, (exports, file, room, outcome) => exports[SOLUTIONS](file.at, BigInt(file.size), ...bounds, room.at, BigInt(room.size), outcome));
   }
 
   /** @type {import("./saxtegun").Engine["solution"]} */
@@ -624,7 +623,7 @@ export function numbered(lines, first) {
   };
   for (const [at, end, number] of numbersIn(lines)) {
     add(lines.subarray(begin, at));
-    to += encoder.encodeInto(String(number + first), whole.subarray(to)).written;
+    to += encoder.encodeInto(String(number + first), whole.subarray(to)).written ?? 0;
     begin = end;
   }
   add(lines.subarray(begin));
@@ -666,6 +665,7 @@ function joinedAnswer(answers) {
 // A worker of Node or of a browser: one file at a time that it is asked about, it answers.
 class Thread {
   #worker;
+  /** @type {((answer: Answer) => void) | null} */
   #settle = null;
   #isGone = false;
 
@@ -785,7 +785,7 @@ function serve(engine, { file, first, order, most }, post) {
 
 if (isNode) {
   const { parentPort, workerData } = await import("node:worker_threads");
-  if (workerData?.[WORKER]) {
+  if (parentPort !== null && workerData?.[WORKER]) {
     const engine = new Engine(workerData[WORKER]);
     parentPort.on("message", (asked) => serve(engine, asked, (answer, moved) => parentPort.postMessage(answer, moved)));
   }

@@ -11,7 +11,7 @@ const LONGEST = 5000; // and at most
 
 // Milliseconds between two ticks of a game.
 export function paceOf(source) {
-  const seconds = Number.parseFloat(settingsOf(source).find(({ keyword }) => keyword === "again_interval")?.value);
+  const seconds = Number.parseFloat(settingsOf(source).find(({ keyword }) => keyword === "again_interval")?.value ?? "");
   return seconds > 0 ? Math.min(LONGEST, 1000 * seconds) : TICK;
 }
 

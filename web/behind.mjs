@@ -5,7 +5,7 @@ const BEHIND_FRAME = 100; // milliseconds that it waits behind the frame at most
 const LATEST = 500; // milliseconds that it waits for the frame: a page that nobody sees has none
 
 // Calls a function once the browser has nothing to do, or as soon as it can where it can't tell.
-const whenIdle = (act) => (globalThis.requestIdleCallback ? requestIdleCallback(act, { timeout: BEHIND_FRAME }) : setTimeout(act));
+const whenIdle = (act) => (typeof globalThis.requestIdleCallback === "function" ? requestIdleCallback(act, { timeout: BEHIND_FRAME }) : setTimeout(act));
 
 export class Behind {
   constructor() {

@@ -25,7 +25,7 @@ export function rowsInWords(level, namesOf) {
     const runs = [];
     for (let column = 0; column < level.width; column += 1) {
       const label = level.cells[numberAt(level, column, row)], last = runs.at(-1);
-      if (last?.label === label) last.count += 1;
+      if (last !== undefined && last.label === label) last.count += 1;
       else runs.push({ label, count: 1 });
     }
     return sayable(runs.map(({ label, count }) => (count > 1 ? `${count} \u00d7 ${known.get(label)}` : known.get(label))).join(", "));

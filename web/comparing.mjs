@@ -7,6 +7,7 @@ import { cut, plural } from "./elements.mjs";
 import { inputTold } from "./faults.mjs";
 import { atOnce } from "./pieces.mjs";
 import { Refusal } from "./session-file.mjs";
+import { there } from "./there.mjs";
 
 const MOST_OF_A_CAUSE = 200; // letters that are told
 
@@ -79,7 +80,7 @@ export class Ending {
     const other = this.isUnread ? null : readLevel(recorded, labels, order);
     const isSameCount = other !== null && this.reached !== null && other.cells.length === this.reached.cells.length;
     // a recorded text need not have the line breaks
-    this.recorded = isSameCount ? { ...other, width: this.reached.width } : other;
+    this.recorded = isSameCount ? { ...other, width: there(this.reached).width } : other;
     this.cells = isOfOneSize(this.reached, this.recorded) ? differing(this.reached, this.recorded) : null;
   }
 

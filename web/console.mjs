@@ -4,6 +4,7 @@
 import { ROUNDS, WHITE_SPACE, behindSpace, endOfEscaped, endOfText, replacing, tokenAt, unescaping } from "./javascript.mjs";
 import { atOnce } from "./pieces.mjs";
 import { faultOf, restOf } from "./session-file.mjs";
+import { there } from "./there.mjs";
 
 const SPACE_SET = `[${WHITE_SPACE}]*`;
 const BREAK = `[${WHITE_SPACE}>]*(?:(?:<br${SPACE_SET}/?>|&nbsp;)[${WHITE_SPACE}>]*)${ROUNDS}`;
@@ -75,13 +76,13 @@ class Search {
       BEGIN.lastIndex = at;
       const begin = BEGIN.exec(this.text);
       if (begin === null) return this;
-      const { list, html } = begin.groups;
+      const { list, html, escaped } = there(begin.groups);
       if (list !== undefined) at = yield* this.readList(begin.index);
       else if (this.isInner) at = begin.index + begin[0].length;
       else if (html !== undefined) {
         yield* this.readInner(begin.index, yield* this.working(begin.index, fromHtml(this.text.slice(begin.index))));
         return this;
-      } else at = yield* this.readQuoted(begin.index, begin.groups.escaped !== undefined);
+      } else at = yield* this.readQuoted(begin.index, escaped !== undefined);
     }
   }
 
@@ -113,6 +114,7 @@ class Search {
 
   // Reads the list that begins at a place, as far as it goes; where the search goes on.
   *readList(begin) {
+    /** @type {{ at: number, items: unknown[] }[]} */
     const lists = [];
     for (let at = begin, count = 1; ; count += 1) {
       if (count % TOKENS_OF_A_STEP === 0) yield [at, this.text.length];
@@ -124,7 +126,7 @@ class Search {
       at = token.end;
       if (token.kind === "[") lists.push({ at: token.at, items: [] });
       else if (lists.length === 0) return at; // inputs that stand alone
-      else if (token.kind === "value") lists.at(-1).items.push(token.value);
+      else if (token.kind === "value") there(lists.at(-1)).items.push(token.value);
       else if (token.kind === "]" && this.close(lists)) return at;
       at = behindSpace(this.text, at, this.lastComment);
     }

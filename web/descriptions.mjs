@@ -4,6 +4,7 @@
 // a worker at each step. Nothing is played for it, so it takes time by the length of the text alone: hundredths of a second for a game, a second or so for
 // the longest text that is read, 1 MiB; and what is being typed is asked about behind a pause (running.mjs).
 import { fold } from "./texts.mjs";
+import { there } from "./there.mjs";
 
 /** @typedef {import("../engine/saxtegun").Description & { why?: string }} Told */
 /** @typedef {Pick<import("../engine/saxtegun").Engine, "description">} Reader */
@@ -37,9 +38,9 @@ export function readBy(engine) {
 // What the engine tells; `why` is there where it tells nothing. Half a letter, which is no text, is another one there.
 /** @type {(source: string) => Told} */
 function readText(source) {
-  const { description, fault } = reader.description(new TextEncoder().encode(source));
+  const { description, fault } = there(reader).description(new TextEncoder().encode(source));
   if (fault === "too-many") return TOO_LONG;
-  return fault === null ? description : { ...NOTHING, why: WHY_NOT[fault] ?? "the engine stopped at a fault of its own as it read the text: objects are drawn by letters" };
+  return fault === null ? there(description) : { ...NOTHING, why: WHY_NOT[fault] ?? "the engine stopped at a fault of its own as it read the text: objects are drawn by letters" };
 }
 
 // Forgets the texts that were longest not asked about, where those that are kept are too many.

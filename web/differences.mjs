@@ -4,6 +4,7 @@
 import { before, descriptionOf, settingsOf } from "./descriptions.mjs";
 import { TextMap, among, distinct, firstsOf } from "./text-map.mjs";
 import { fold, shortened } from "./texts.mjs";
+import { there } from "./there.mjs";
 
 const WHERE_TOLD = "docs/differences.md";
 const MOST_OF_A_RULE = 500; // words of a rule that are looked at,
@@ -72,11 +73,12 @@ function scanTold(rules) {
 
 // The cells of the rows of a side, by their words.
 function cellsIn(words) {
+  /** @type {string[][]} */
   const cells = [];
   let isIn = false;
   for (const word of words) {
     if (word === "[" || word === "|") cells.push([]);
-    else if (isIn && word !== "]") cells.at(-1).push(word);
+    else if (isIn && word !== "]") there(cells.at(-1)).push(word);
     isIn = word === "[" || (isIn && word !== "]");
   }
   return cells;

@@ -2,7 +2,7 @@
 // Elements of a page. What came from games goes into them as text alone.
 
 /** @type {import("./kinds").At} */
-export const at = (id) => document.getElementById(id);
+export const at = (id) => /** @type {HTMLElement} */ (document.getElementById(id));
 
 export const json = (id) => JSON.parse(at(id).textContent);
 

@@ -5,6 +5,7 @@ import { before, descriptionOf, settingsOf } from "./descriptions.mjs";
 import { nearest } from "./nearest.mjs";
 import { TextMap, among, distinct, firstsOf } from "./text-map.mjs";
 import { fold, shortened } from "./texts.mjs";
+import { there } from "./there.mjs";
 import { CLOCK } from "./ticks.mjs";
 
 const STOPS = {
@@ -176,7 +177,7 @@ function repeatedIn(source) {
   let begin = null, group = [];
   for (const { line, words } of [...descriptionOf(source).rules, { line: 0, words: [""] }]) {
     if (words[0] !== "+") {
-      if (group.length > 0) found.push({ first: group[0], last: group.at(-1), isLoop: false });
+      if (group.length > 0) found.push({ first: group[0], last: there(group.at(-1)), isLoop: false });
       group = [];
     }
     if (words[0] === "startloop") begin = line;

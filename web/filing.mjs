@@ -9,7 +9,9 @@ import { framesOf, isPlayed, sourceOf } from "./replaying.mjs";
 import { MOST_SESSIONS, Refusal, SessionFile, isSolvedWanted } from "./session-file.mjs";
 import { isOther, runWithFrames, runsOfNow, sessionOpened } from "./suite.mjs";
 import { whyNoField } from "./texts.mjs";
+import { there } from "./there.mjs";
 import { RECORDED_ORDER } from "./work.mjs";
+/** @typedef {import("./session-file.mjs").Entry} Entry */
 /** @typedef {import("./state").State} State */
 
 export const RECORDINGS = "recordings.json";
@@ -22,14 +24,15 @@ const withFile = (state, file, more) => remembering(state, { ...state, file, isU
 /** @param {State} state */
 export function accepted(state, numbers) {
   if (numbers.length === 0) return state;
-  const file = state.file.withLevels(numbers.map((number) => [number, state.seen.get(number).reached]));
-  const isUnsolved = numbers.some((number) => isSolvedWanted(file.entries[number]) && !state.seen.get(number).isSolved), demanded = isUnsolved ? "; not all are solved that must be" : "";
+  const differenceIn = (number) => there(state.seen.get(number));
+  const file = there(state.file).withLevels(numbers.map((number) => [number, differenceIn(number).reached]));
+  const isUnsolved = numbers.some((number) => isSolvedWanted(file.entries[number]) && !differenceIn(number).isSolved), demanded = isUnsolved ? "; not all are solved that must be" : "";
   return withFile(state, file, { saved: `${plural(numbers.length, "recorded level")} changed${demanded}` });
 }
 
 // Whether what is worked on can be saved: it is played to its end, and no ghost is seen in its place.
 /** @param {State} state */
-export const isSavable = (state) => !state.ghost && isPlayed(state) && state.played.cause === null && framesOf(state).length > 0 && state.queue.length === 0;
+export const isSavable = (state) => !state.ghost && isPlayed(state) && state.played?.cause === null && framesOf(state).length > 0 && state.queue.length === 0;
 
 /** @param {State} state */
 const nameOf = (state) => state.work.name || NAMELESS;
@@ -38,18 +41,18 @@ const nameOf = (state) => state.work.name || NAMELESS;
 /** @param {State} state */
 export function namesakeOf(state) {
   const entries = state.file?.entries ?? [], name = nameOf(state), { opened } = state.work;
-  return entries[opened]?.name === name ? opened : entries.findIndex((entry) => entry.name === name);
+  return opened !== null && entries[opened]?.name === name ? opened : entries.findIndex((entry) => entry.name === name);
 }
 
 // Saves the recording as a session, in the place of another where one is named. A recording over the text at hand has no text of its own.
 /** @param {State} state */
 export function savedAs(state, number = null) {
   if (!isSavable(state) || state.order !== RECORDED_ORDER) return state;
-  const { own, inputs, index } = state.work, entry = { name: nameOf(state), source: own ?? "", inputs, level: framesOf(state).at(-1).level, index };
+  const { own, inputs, index } = state.work, entry = { name: nameOf(state), source: own ?? "", inputs, level: there(framesOf(state).at(-1)).level, index };
   const former = state.file ?? SessionFile.empty(RECORDINGS), file = number === null ? former.with(entry) : former.withReplaced(number, entry);
   const opened = number ?? file.entries.length - 1;
   const next = withFile({ ...state, work: { ...state.work, opened: null } }, file, { work: { ...state.work, opened }, looked: null });
-  const demanded = isSolvedWanted(file.entries[opened]) && !state.played.isSolved ? " It must be solved, and isn't." : "";
+  const demanded = isSolvedWanted(file.entries[opened]) && !state.played?.isSolved ? " It must be solved, and isn't." : "";
   return { ...next, saved: `Saved in ${file.name} as session ${opened}.${demanded}` };
 }
 
@@ -63,7 +66,7 @@ function isSameAtHand(state, asked) {
 // Whether the open session is what was to be saved, as where that was asked for twice.
 /** @param {State} state */
 function isSavedAlready(state, asked) {
-  const entry = state.file?.entries[state.work.opened], { index, inputs } = asked.work;
+  const { opened } = state.work, entry = opened === null ? undefined : state.file?.entries[opened], { index, inputs } = asked.work;
   return entry !== undefined && nameOf(state) === nameOf(asked) && entry.name === nameOf(asked) && entry.index === index && (entry.source || state.text) === sourceOf(asked) && isSameList(entry.inputs, inputs);
 }
 
@@ -76,16 +79,17 @@ export function savedLater(state, asked, number) {
 
 /** @param {State} state */
 export function removed(state) {
-  if (state.work.opened === null) return state;
-  return withFile(state, state.file.without(state.work.opened), { work: { ...state.work, opened: null }, seen: new Map(), comparison: null, good: null });
+  const { file, work: { opened } } = state;
+  if (file === null || opened === null) return state;
+  return withFile(state, file.without(opened), { work: { ...state.work, opened: null }, seen: new Map(), comparison: null, good: null });
 }
 
 // Lets the sessions that have another text follow the one at hand.
 /** @param {State} state */
 export function followed(state) {
-  const numbers = state.file.entries.map((_, number) => number).filter((number) => isOther(state, number));
+  const file = there(state.file), numbers = file.entries.map((_, number) => number).filter((number) => isOther(state, number));
   const { work } = state, isOpenOther = work.opened !== null && numbers.includes(work.opened);
-  const next = withFile(state, state.file.withoutSources(numbers), { seen: new Map(), work: isOpenOther ? { ...work, own: null } : work });
+  const next = withFile(state, file.withoutSources(numbers), { seen: new Map(), work: isOpenOther ? { ...work, own: null } : work });
   return { ...next, saved: `${plural(numbers.length, "session")} ${numbers.length === 1 ? "follows" : "follow"} the text on the left` };
 }
 
@@ -101,7 +105,7 @@ export function withOtherFile(state, file, isUnsaved = false) {
 }
 
 // Adds recordings that were found in a text: those that aren't there yet. What was skipped beside them is told.
-/** @param {State} state */
+/** @param {State} state @param {Entry[]} recordings @param {object[]} skipped @param {{ nameOf: (recording: Entry) => string }} [titles] */
 export function withRecordings(state, recordings, skipped = [], titles = undefined) {
   if (recordings.length > 4 * MOST_SESSIONS) throw new Refusal(`there are ${recordings.length.toLocaleString("en")} recordings: more than 65,536 sessions have no room here`);
   const one = theOneText({ entries: recordings }), isUntouched = state.text.trim() === "" || state.text === state.example;
@@ -127,7 +131,7 @@ export function* comparing(state, name, text) {
   const runs = runsOfNow(state), { file, suite } = state, partings = [];
   if (runs === null) throw new Refusal(`${name} has lines: open and play the sessions file first that they are of`);
   const others = yield* readingRuns(text, runs.length);
-  if (others.length !== runs.length) throw new Refusal(`${name} has ${plural(others.length, "session")}, and ${file.name} ${runs.length}`);
+  if (others.length !== runs.length) throw new Refusal(`${name} has ${plural(others.length, "session")}, and ${there(file).name} ${runs.length}`);
   const strange = others.findIndex((run, number) => run.name !== runs[number].name);
   if (strange >= 0) throw new Refusal(`session ${strange} has another name in ${name}`);
   for (const other of others) {

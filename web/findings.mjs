@@ -8,6 +8,7 @@ import { eachInPieces } from "./pieces.mjs";
 import { isSolvedWanted } from "./session-file.mjs";
 import { TextMap, distinct, firstsOf } from "./text-map.mjs";
 import { fold, isTooLong, withoutEnd } from "./texts.mjs";
+import { there } from "./there.mjs";
 
 const HOW = "in PuzzleScript's editor play, press Ctrl+J, and copy all that the console prints then";
 const SKIPPED = {
@@ -55,7 +56,7 @@ class Titles {
   of(source) {
     if (!this.known.has(source)) {
       const numbers = [1];
-      for (const rows of entriesOfLevels(source)) numbers.push(numbers.at(-1) + (rows.length > 0 ? 1 : 0));
+      for (const rows of entriesOfLevels(source)) numbers.push(there(numbers.at(-1)) + (rows.length > 0 ? 1 : 0));
       this.known.set(source, { title: titleOf(source), numbers });
     }
     return this.known.get(source);
@@ -130,6 +131,7 @@ class Known {
 
 // What of some recordings is added to the entries of a file, under names that no other has, and how many are there already: { added, known }. Those of
 // the text at hand follow it.
+/** @param {any[]} recordings @param {any[]} entries @param {string} text @param {Pick<Titles, "nameOf">} titles */
 export function toAdd(recordings, entries, text, titles = new Titles()) {
   const known = new Known(entries.map((it) => ({ ...it, source: it.source || text }))), names = new Names(entries.map(({ name }) => name)), added = [];
   for (const it of recordings) {

@@ -45,6 +45,8 @@ function frameIn(lines, begin, end) {
 }
 
 // The frames and the close of the one session that an answer of the engine tells, as `engine.frames` gives them.
+/** @typedef {import("../engine/saxtegun").Close | null} Close */
+/** @type {(answer: { lines: Uint8Array, fault: string | null }) => { frames: FrameOfLines[], close: Close, fault: string | null }} */
 export function framesTold({ lines, fault }) {
   if (fault !== null || lines.length > MOST_TOLD) return { frames: [], close: null, fault: fault ?? "memory" };
   const frames = [];

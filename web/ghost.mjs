@@ -1,6 +1,7 @@
 // @ts-check
 // The presses that win, shown one after another by a ghost, as long as nothing else is done.
 import { ghostOf, solutionNow } from "./solving.mjs";
+import { there } from "./there.mjs";
 /** @typedef {import("./state").State} State */
 
 const PRESS_PAUSE = 160; // milliseconds between two of its presses
@@ -10,6 +11,7 @@ export class Ghost {
   // `show` draws anew.
   constructor(show) {
     this.show = show;
+    /** @type {ReturnType<typeof solutionNow>} */
     this.found = null;
     this.count = 0;
     this.timer = 0;
@@ -25,7 +27,7 @@ export class Ghost {
   }
 
   go(count) {
-    const { length } = this.found.presses, isLast = count >= length;
+    const { length } = there(this.found).presses, isLast = count >= length;
     this.count = count;
     this.timer = setTimeout(() => (isLast ? this.leave() : this.go(count + 1)), isLast ? LAST_PAUSE : PRESS_PAUSE);
     this.show();

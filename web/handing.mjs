@@ -39,7 +39,7 @@ export function* handing(name, bytes) {
   const coding = codingOf(bytes), text = textOf(bytes, name, coding), isWide = coding !== "utf-8", plain = text.replace(/^\ufeff+/, "");
   if (/^\s*\[\s*\[/.test(plain) && hasManyLists(plain)) throw new Refusal(`${name} has more lists than 65,536 sessions have`);
   const count = entriesIn(isWide ? plain : text);
-  if (count > MOST_SESSIONS) throw new Refusal(`${name} has more than 65,536 sessions`);
+  if (count !== null && count > MOST_SESSIONS) throw new Refusal(`${name} has more than 65,536 sessions`);
   if (count !== null) return { kind: "sessions", text, bytes: isWide ? new TextEncoder().encode(plain) : bytes };
   const { found, skipped } = yield* searching(plain);
   if (found.length > 0) return { kind: "recordings", text, found, skipped };
@@ -94,17 +94,18 @@ export function takeFiles(take, refuse, during) {
   const takeAll = (files) => during(takeEach(files, take, refuse));
   at("open").addEventListener("click", () => at("file").click());
   at("file").addEventListener("change", async () => {
-    await takeAll([...at("file").files]);
+    await takeAll([...at("file").files ?? []]);
     at("file").value = "";
   });
   document.addEventListener("dragover", (event) => event.preventDefault());
   document.addEventListener("drop", (event) => {
     event.preventDefault();
-    if (event.dataTransfer.files.length > 0) takeAll([...event.dataTransfer.files]);
+    const files = [...event.dataTransfer?.files ?? []];
+    if (files.length > 0) takeAll(files);
   });
   document.addEventListener("paste", (event) => {
-    const text = event.clipboardData.getData("text/plain");
-    if (isTyped(text, event.target)) return;
+    const text = event.clipboardData?.getData("text/plain");
+    if (text === undefined || isTyped(text, event.target)) return;
     event.preventDefault();
     take(PASTED, new TextEncoder().encode(text));
   });

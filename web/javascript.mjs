@@ -1,5 +1,6 @@
 // @ts-check
 // Lists, texts, numbers and words of JavaScript within any text, each as its value. The twin of python/saxtegun/javascript.py, which holds what is read.
+import { there } from "./there.mjs";
 
 // What Python calls white space in a text.
 export const WHITE_SPACE = "\\t-\\r\\x1c-\\x20\\x85\\xa0\\u1680\\u2000-\\u200a\\u2028\\u2029\\u202f\\u205f\\u3000";
@@ -91,7 +92,7 @@ function behindEscape(text, at) {
 
 // Where the text of JavaScript that begins with a quote ends; below 0 where it doesn't: minus the place up to which it was read.
 export function endOfText(text, begin) {
-  const { ends, plain } = QUOTES.get(text[begin]);
+  const { ends, plain } = there(QUOTES.get(text[begin]));
   for (let at = begin + 1; ;) {
     at += foundAt(plain, text, at).length;
     const letter = text[at];

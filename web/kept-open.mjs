@@ -2,6 +2,7 @@
 // A session that the player's worker keeps open behind what it played last, so that a key costs a press and not the whole recording.
 import { isPlayOf } from "./replaying.mjs";
 import { MOST_INPUTS } from "./session-file.mjs";
+import { there } from "./there.mjs";
 import { playedText } from "./ticks.mjs";
 
 // The press that wins the last level shows a `move`, as others do; that play is over then is shown behind one more input, which runs no rule.
@@ -27,12 +28,12 @@ export class KeptOpen {
 
   // What one more input led to, as `playedBy` tells it; null where no open session stands before it, or the engine gave no answer.
   played(wanted) {
-    const { inputs, from } = wanted;
-    if (from === 0 || from !== inputs.length || !this.isOpenFor(wanted) || !this.isAt(inputs.slice(0, -1))) return null;
-    const { frames, close, fault } = this.session.give(inputs.slice(-1));
+    const { inputs, from } = wanted, { session } = this;
+    if (session === null || from === 0 || from !== inputs.length || !this.isOpenFor(wanted) || !this.isAt(inputs.slice(0, -1))) return null;
+    const { frames, close, fault } = session.give(inputs.slice(-1));
     if (fault !== null) return this.leave();
     const isSolved = this.isOver(inputs.length, frames);
-    return isSolved === null ? this.leave() : { frames, cause: close.cause ?? null, isSolved };
+    return isSolved === null ? this.leave() : { frames, cause: close?.cause ?? null, isSolved };
   }
 
   // Goes to where a recording ends, for the keys that may come.
@@ -52,8 +53,8 @@ export class KeptOpen {
 
   // Whether the open session has come to where it has these inputs.
   isAt(inputs) {
-    const had = this.session.inputs, shared = sharedBy(had, inputs);
-    const answers = [shared < had.length ? this.session.back(shared) : null, shared < inputs.length ? this.session.give(inputs.slice(shared)) : null];
+    const session = there(this.session), had = session.inputs, shared = sharedBy(had, inputs);
+    const answers = [shared < had.length ? session.back(shared) : null, shared < inputs.length ? session.give(inputs.slice(shared)) : null];
     const isThere = answers.every((answer) => answer === null || answer.fault === null);
     if (!isThere) this.leave();
     return isThere;
@@ -63,7 +64,7 @@ export class KeptOpen {
   isOver(count, frames) {
     const isShown = frames.at(-1)?.kind === "over";
     if (isShown || count >= MOST_INPUTS) return isShown;
-    const { session: copy } = this.session.copy();
+    const { session: copy } = there(this.session).copy();
     if (copy === null) return null;
     const { frames: more, fault } = copy.give([ONE_MORE]);
     copy.close();

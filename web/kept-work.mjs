@@ -85,10 +85,11 @@ export function stateFrom(value, example) {
 }
 
 // What an entry was kept of, as far as it was noted since, or null where it can't be read. What a note had no room for can be put back.
+/** @param {{ value: any, note?: any }} entry @param {string} example */
 function stateOfEntry({ value, note = null }, example) {
   if (value === undefined) return stateFrom(note, example);
   const before = stateFrom(value, example), whole = before && withNote(value, note), after = whole && stateFrom(whole, example);
-  if (after === null) return before;
+  if (before === null || note === null || after === null) return before;
   // a note that was cut may have left out a file of its own: the one of before is as much changed as it was
   return note.isCut ? remembering(before, { ...after, isUnsaved: before.isUnsaved || after.isUnsaved }) : after;
 }
@@ -122,8 +123,10 @@ function takenBeside(others, state) {
 // A state with whose text the field may begin, and else why not: the example stands there then.
 /** @param {State} state */
 function withField(state) {
-  const { text, work, example, past } = state, why = whyNoField(text), beside = why && besideField({ text, work });
-  return { why, state: why === null ? state : { ...state, text: example, work: beside.work, past: lastLost([...past, ...lostNow(beside.past, past)]) } };
+  const { text, work, example, past } = state, why = whyNoField(text);
+  if (why === null) return { why, state };
+  const beside = besideField({ text, work });
+  return { why, state: { ...state, text: example, work: beside.work, past: lastLost([...past, ...lostNow(beside.past, past)]) } };
 }
 
 // The state to begin with, of all entries that were kept: { state, read, unreadable, isCut, waiting, whyNot, lacking }, where `read` are the names of those that it

@@ -12,7 +12,8 @@ import { say } from "./saying.mjs";
 import { STAGE } from "./stage.mjs";
 import { chosenStage } from "./staging.mjs";
 import { stageShown } from "./stage-words.mjs";
-import { differenceOf, runsOfNow, sessionOf } from "./suite.mjs";
+import { differenceOf, partingOfOpen, runOfOpen, runsOfNow, sessionOf } from "./suite.mjs";
+import { there } from "./there.mjs";
 /** @typedef {import("./state").State} State */
 
 export class LevelDrawn {
@@ -24,10 +25,13 @@ export class LevelDrawn {
   // The frame that is looked at, beside what it is compared with: the recorded level at the end, or another engine's frame.
   /** @param {State} state */
   comparedWith(state) {
-    const parting = state.comparison?.partings[state.work.opened] ?? null;
+    const parting = partingOfOpen(state);
     if (sessionOf(state) === null || runsOfNow(state) === null || !isPlayed(state)) return null;
-    if (parting === null) return differenceOf(state) && { text: differenceOf(state).recorded, caption: "recorded" };
-    const other = state.comparison.others[state.work.opened].frames[shownOf(state)];
+    if (parting === null) {
+      const difference = differenceOf(state);
+      return difference && { text: difference.recorded, caption: "recorded" };
+    }
+    const other = there(state.comparison).others[there(state.work.opened)].frames[shownOf(state)];
     return other === undefined ? null : { text: other.level, caption: `the other engine's frame ${shownOf(state)}`, isOfEngines: true };
   }
 
@@ -39,12 +43,12 @@ export class LevelDrawn {
     if (frame === undefined) return this.drawRefused(state);
     const labels = this.use(state), other = this.comparedWith(state), text = gameOf(sourceOfFrames(state)).levelText(frame.level);
     const ending = other && new Ending(text, other.text, state.order, labels);
-    const level = ending ? ending.reached : readLevel(text, labels, state.played.order);
+    const level = ending ? ending.reached : readLevel(text, labels, there(state.played).order);
     const unread = level === null ? "This level can't be drawn: a name of an object in it holds a comma." : "";
     const sides = [{ level, caption: other && level ? "reached" : unread, told: readable(toldOfLevel(state)) }];
-    if (isDrawn(ending?.recorded)) sides.push({ level: ending.recorded, caption: other.caption, told: other.caption });
+    if (other !== null && ending !== null && isDrawn(ending.recorded)) sides.push({ level: ending.recorded, caption: other.caption, told: other.caption });
     this.boards.show(sides, ending?.cells ?? [], "beside");
-    return say("difference", ending ? unlikenessTold(state, ending, other.isOfEngines) : "");
+    return say("difference", ending ? unlikenessTold(state, ending, other?.isOfEngines) : "");
   }
 
   // Takes the look of the game at hand; the labels of its cells.
@@ -55,7 +59,7 @@ export class LevelDrawn {
       this.look = { source, labels: new Labels() };
       this.boards.use(game.look(), this.look.labels.names);
     }
-    this.kept = { title: game.title, index: state.played.index };
+    this.kept = { title: game.title, index: there(state.played).index };
     return this.look.labels;
   }
 
@@ -71,7 +75,7 @@ export class LevelDrawn {
   // Where a session differs: what the site may decide otherwise.
   /** @param {State} state */
   drawLikely(state) {
-    const source = sourceOf(state), isDiffering = sessionOf(state) !== null && isPlayed(state) && runsOfNow(state)?.[state.work.opened].close === "differs";
+    const source = sourceOf(state), isDiffering = sessionOf(state) !== null && isPlayed(state) && runOfOpen(state)?.close === "differs";
     const told = isDiffering ? likelyTold({ source, game: gameOf(source), inputs: state.work.inputs, frames: framesOf(state) }) : null;
     say("likely", told === null ? "" : `${told[0].toUpperCase()}${told.slice(1)}.`);
   }
@@ -80,7 +84,7 @@ export class LevelDrawn {
   /** @param {State} state */
   drawRefused(state) {
     const { title } = gameOf(sourceOf(state));
-    if (this.kept?.title === title && this.kept.index === state.work.index && sourceOf(state).trim() !== "") return this.drawKept();
+    if (this.kept !== undefined && this.kept.title === title && this.kept.index === state.work.index && sourceOf(state).trim() !== "") return this.drawKept();
     this.boards.show([{ level: null, caption: "" }], []);
     return say("difference", "");
   }

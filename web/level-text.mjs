@@ -37,7 +37,7 @@ function numberIn(digits) {
 function readPiece(piece, numbered, labels) {
   const colon = piece.lastIndexOf(":"), number = numberIn(piece.slice(colon + 1));
   if (colon < 0) return number === null || number >= numbered.length ? null : numbered[number];
-  if (number !== numbered.length) return null;
+  if (number === null || number !== numbered.length) return null;
   numbered.push(labels.of(piece.slice(0, colon)));
   return numbered[number];
 }

@@ -50,6 +50,10 @@ export function isOverIn(bytes, { end, count }) {
 
 // The frames of a run in its lines. Each is read once it is asked for, and the last alone is kept: a run may have more than a page has time and memory for.
 class FramesRead {
+  number = -1;
+  /** @type {ReturnType<typeof spansOf>} */
+  spans;
+
   constructor(bytes, { begin, end, count }) {
     this.bytes = bytes.subarray(begin, end);
     this.length = count;

@@ -45,7 +45,7 @@ function listenToTabs(page) {
 
 function listenToPad(page) {
   for (const button of at("pad").querySelectorAll("button")) {
-    const word = button.dataset.input, input = /^\d$/.test(word) ? Number(word) : word;
+    const word = button.dataset.input ?? "", input = /^\d$/.test(word) ? Number(word) : word;
     button.addEventListener("click", () => page.press(input));
   }
   at("go-on").addEventListener("click", () => page.press(ACTION));

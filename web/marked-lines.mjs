@@ -24,7 +24,8 @@ export function rowsMarked(count, kinds) {
 function runsOfLines(lines) {
   const runs = [];
   for (const line of [...lines].sort((one, other) => one - other)) {
-    if (runs.at(-1)?.[1] === line - 1) runs.at(-1)[1] = line;
+    const last = runs.at(-1);
+    if (last?.[1] === line - 1) last[1] = line;
     else runs.push([line, line]);
   }
   return runs;

@@ -1,5 +1,6 @@
 // @ts-check
 // The nearest of some words, as Python's difflib finds it, which the command line tells too.
+import { there } from "./there.mjs";
 
 const CUTOFF = 0.6;
 // So many letters of a word are compared, with so many words at most: those whose length is nearest.
@@ -27,7 +28,7 @@ function shared(one, other) {
   const left = [[[0, one.length], [0, other.length]]];
   let count = 0;
   while (left.length > 0) {
-    const [[low, high], [lowOther, highOther]] = left.pop();
+    const [[low, high], [lowOther, highOther]] = there(left.pop());
     const { at, atOther, size } = longestShared(one, other, [low, high], [lowOther, highOther]);
     if (size === 0) continue;
     count += size;

@@ -80,6 +80,7 @@ export function withNote(value, note) {
 }
 
 // What a note left out since the database had it, and that has no more, as where it was deleted: { isFile, past }, or null.
+/** @param {{ value: any, note?: any }} entry */
 export function lackingOf({ value, note = null }) {
   if (value === null || note === null || !isBehind(note, value)) return null;
   const isFile = note.without?.isFile === true && !value?.file, past = numberKept(note.without, "past") - (value?.past?.length ?? 0);

@@ -8,6 +8,7 @@ import { KeptOpen, ONE_MORE } from "./kept-open.mjs";
 import { MOST_OF_A_LEVEL } from "./level-text.mjs";
 import { readerIn, rehearse } from "./rehearsing.mjs";
 import { MOST_INPUTS } from "./session-file.mjs";
+import { there } from "./there.mjs";
 import { playedText } from "./ticks.mjs";
 
 /** @typedef {import("../engine/saxtegun").Engine} Engine */
@@ -27,7 +28,7 @@ const IDLE = 200; // milliseconds without a question, after which a session is o
 
 // The module, which stands in the page compressed.
 async function moduleBytes() {
-  const packed = Uint8Array.from(atob(at("module").textContent), (letter) => letter.charCodeAt(0));
+  const packed = Uint8Array.from(atob(there(at("module").textContent)), (letter) => letter.charCodeAt(0));
   return new Response(new Blob([packed]).stream().pipeThrough(new DecompressionStream("deflate"))).arrayBuffer();
 }
 
@@ -58,9 +59,10 @@ export function readableAnswer(answer) {
 export function playedBy(engine, { source, index, order, inputs, from, isTicked }) {
   const played = inputs.length >= MOST_INPUTS ? inputs : [...inputs, ONE_MORE], text = playedText(source, isTicked);
   const whole = () => framesTold(engine.replay(JSON.stringify([["", [text, played, "", index]]]), { order, most: MOST_ROOM_OF_LEVELS }));
+  /** @type {{ frames: { at: number, kind: string }[], close: { cause?: string } | null, fault: string | null }} */
   const { frames, close, fault } = from === 0 ? whole() : engine.frames({ source: text, index, inputs: played }, { order, from });
   if (fault !== null) return refusedPlay(fault);
-  return { frames: frames.filter((frame) => frame.at <= inputs.length), cause: close.cause ?? null, isSolved: frames.at(-1)?.kind === "over" };
+  return { frames: frames.filter((frame) => frame.at <= inputs.length), cause: close?.cause ?? null, isSolved: frames.at(-1)?.kind === "over" };
 }
 
 // The stages of some inputs of a recording: { stages, fault }.
@@ -78,7 +80,7 @@ export function actedBy(engine, { source, index, order, inputs, isTicked, from, 
   for (const begin = performance.now(); from + lines.length < count && (lines.length === 0 || performance.now() - begin < MOMENT);) {
     const number = from + lines.length, { stages, fault } = engine.stages({ source: played, index, inputs: inputs.slice(0, number) }, number, { order });
     if (fault !== null) return { lines, fault };
-    lines.push([...new Set(stages.flatMap((stage) => ("lines" in stage ? stage.lines : [])))]);
+    lines.push([...new Set(stages.flatMap((stage) => ("lines" in stage ? stage.lines ?? [] : [])))]);
   }
   return { lines, fault: null };
 }
@@ -211,7 +213,7 @@ export function searchesIn(begin, module) {
 // Loads the module. Workers are started from the page's own script, which does nothing but play in them.
 export async function startEngine() {
   const module = await WebAssembly.compile(await moduleBytes());
-  const address = URL.createObjectURL(new Blob([at("script").textContent], { type: "text/javascript" }));
+  const address = URL.createObjectURL(new Blob([there(at("script").textContent)], { type: "text/javascript" }));
   const begin = (name) => new Worker(address, { name });
   const engine = await load(module, { worker: begin }), [player, few] = [new PlayerThread(begin, module), new PlayerThread(begin, module)];
   readBy(engine);

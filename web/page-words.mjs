@@ -6,8 +6,9 @@ import { inputTold } from "./faults.mjs";
 import { countOf } from "./closes.mjs";
 import { isFailure } from "./session-list.mjs";
 import { causeOf, framesOf, gameOf, isPlayed, shownOf, sourceOf, sourceOfFrames } from "./replaying.mjs";
-import { clocksOf, countOfOthers, rowsOf, runWithFrames, runsOfNow, sessionOf } from "./suite.mjs";
+import { clocksOf, countOfOthers, partingOfOpen, rowsOf, runOfOpen, runWithFrames, runsOfNow, sessionOf } from "./suite.mjs";
 import { noFieldTold, shortened } from "./texts.mjs";
+import { there } from "./there.mjs";
 import { hasClock, isRefusedForClock } from "./ticks.mjs";
 /** @typedef {import("./state").State} State */
 
@@ -24,8 +25,8 @@ export function faultOfText(state) {
   return causeOf(played.cause, played);
 }
 
-/** @param {State} state */
-function stoppedTold({ played }) {
+/** @param {import("./state").Played} played */
+function stoppedTold(played) {
   const { sentence } = causeOf(played.cause, played);
   return played.frames.length === 0 ? { text: `Not played: ${sentence}.`, close: "refused" } : { text: `Stopped: ${sentence}.`, close: "stopped" };
 }
@@ -38,9 +39,9 @@ function sinceTold({ since, work }) {
 
 /** @param {State} state */
 function sessionTold(state) {
-  const { opened, inputs } = state.work, run = runsOfNow(state)?.[opened] ?? null, parting = state.comparison?.partings[opened] ?? null;
+  const { opened, inputs } = state.work, run = runOfOpen(state), parting = partingOfOpen(state);
   if (run === null) return null;
-  if (parting !== null) return { text: `Diverges at ${partingTold(parting, runWithFrames(state.suite, opened), state.comparison.others[opened], inputs)}.`, close: "differs" };
+  if (parting !== null) return { text: `Diverges at ${partingTold(parting, runWithFrames(there(state.suite), opened), there(state.comparison).others[there(opened)], inputs)}.`, close: "differs" };
   const clock = state.isTicked && hasClock(sourceOf(state)) ? ` Played ${WITHOUT_CLOCK}.` : "";
   if (run.isUnsolved) return { text: `Passed: the last level is the recorded one. But it must be solved, and isn't.${clock}`, close: "failed" };
   if (run.close === "passed") return { text: `Passed: the last level is the recorded one.${clock}`, close: "passed" };
@@ -54,7 +55,7 @@ const WITHOUT_CLOCK = "without `realtime_interval`, with its ticks as recorded";
 export function clockTold(state) {
   const { played, isTicked } = state, source = sourceOf(state);
   if (isTicked) return hasClock(source) || (state.file !== null && clocksOf(state) > 0) ? { text: `Played ${WITHOUT_CLOCK}.`, isAsked: false } : null;
-  const isRefused = (isPlayed(state) && isRefusedForClock(source, played.cause)) || clocksOf(state) > 0;
+  const isRefused = (isPlayed(state) && isRefusedForClock(source, there(played).cause)) || clocksOf(state) > 0;
   return isRefused ? { text: "A game with `realtime_interval` isn't played here, but a recording holds its ticks: play it without that line, with its ticks as recorded?", isAsked: true } : null;
 }
 
@@ -95,9 +96,10 @@ export function statusOf(state) {
   if (state.told !== null) return state.told;
   if (state.isHeld) return { text: "This is not played yet. An edit, a key or Play plays it.", close: null };
   if (!isPlayed(state)) return { text: "", close: null };
-  if (state.played.cause !== null) return stoppedTold(state);
+  const played = there(state.played);
+  if (played.cause !== null) return stoppedTold(played);
   const session = sessionOf(state) === null ? null : sessionTold(state);
-  return session ?? { text: state.played.isSolved ? "Solved: all levels are won." : "", close: null };
+  return session ?? { text: played.isSolved ? "Solved: all levels are won." : "", close: null };
 }
 
 // What is said where what is played isn't the text on the left.
@@ -107,7 +109,7 @@ export const ownTold = (state) => (state.work.own === null ? "" : "This recordin
 // How what is worked on ends: { text, isSolved }. What was played before says nothing of it.
 /** @param {State} state */
 export function endTold(state) {
-  const isNow = isPlayed(state), isSolved = isNow && state.played.isSolved, isShown = framesOf(state).length > 0;
+  const isNow = isPlayed(state), isSolved = isNow && there(state.played).isSolved, isShown = framesOf(state).length > 0;
   return { text: isSolved ? "\u2713 solved" : !isNow ? "not played yet" : isShown ? "not solved" : "not played", isSolved };
 }
 
@@ -120,7 +122,7 @@ const KIND_TOLD = { start: "the start", load: "the next level", over: "play is o
 export function stepTold(state) {
   const frames = framesOf(state), shown = shownOf(state), frame = frames[shown];
   if (frame === undefined) return "";
-  const { inputs } = state.played, isSame = shown > 0 && frames[shown - 1].level === frame.level;
+  const { inputs } = there(state.played), isSame = shown > 0 && frames[shown - 1].level === frame.level;
   const undone = isSame ? "nothing to take back" : "taken back", moved = isSame ? "nothing changes" : frame.kind === "tick" ? "a tick" : "moves";
   const where = frame.at === 0 ? "before any input" : `after input ${frame.at - 1} (${inputTold(inputs[frame.at - 1])})`;
   return `${asBefore(state)}${where}; ${KIND_TOLD[frame.kind] ?? (frame.kind === "undo" ? undone : moved)}`;
@@ -152,7 +154,7 @@ export function tabTold(state) {
 
 /** @param {State} state */
 function suiteTold(state, runs) {
-  const failures = failuresOf(state), unsolved = failures.filter(({ isUnsolved }) => isUnsolved).length, broken = failures.length - unsolved, took = `${plural(runs.length, "session")} in ${(state.suite.milliseconds / 1000).toFixed(1)} s`;
+  const failures = failuresOf(state), unsolved = failures.filter(({ isUnsolved }) => isUnsolved).length, broken = failures.length - unsolved, took = `${plural(runs.length, "session")} in ${(there(state.suite).milliseconds / 1000).toFixed(1)} s`;
   const clocks = state.isTicked ? clocksOf(state) : 0, behind = clocks > 0 ? ` ${clocks} ${clocks === 1 ? "was" : "were"} played ${WITHOUT_CLOCK}.` : "";
   if (runs.length === 0) return { text: "The file has no session.", close: null };
   const failed = [[broken, "did not pass"], [unsolved, UNSOLVED]].filter(([count]) => count > 0).map((it) => it.join(" ")).join(", ");
@@ -161,8 +163,8 @@ function suiteTold(state, runs) {
   return countOfOthers(state) > 0 ? { text: `All passed, but not all over the text on the left: ${took}.${behind}`, close: null } : { text: `All passed: ${took}.${behind}`, close: clocks > 0 ? null : "passed" };
 }
 
-/** @param {State} state */
-function comparisonTold({ comparison: { name, partings } }) {
+/** @param {NonNullable<State["comparison"]>} comparison */
+function comparisonTold({ name, partings }) {
   const parting = partings.filter((it) => it !== null).length;
   return { text: `Compared with ${name}: ${partings.length - parting} the same, ${parting} ${parting === 1 ? "diverges" : "diverge"}.`, close: parting === 0 ? "passed" : "differs" };
 }
@@ -172,7 +174,7 @@ function comparisonTold({ comparison: { name, partings } }) {
 export function verdictOf(state, doing) {
   const runs = runsOfNow(state);
   if (doing !== null) return { text: `Playing: ${doing.done} of ${plural(doing.total, "session")}`, close: null };
-  if (runs !== null) return state.comparison === null ? suiteTold(state, runs) : comparisonTold(state);
+  if (runs !== null) return state.comparison === null ? suiteTold(state, runs) : comparisonTold(state.comparison);
   return { text: state.suite?.why ?? "Not played yet.", close: null };
 }
 
@@ -180,22 +182,23 @@ export function verdictOf(state, doing) {
 /** @param {State} state */
 export function othersTold(state) {
   const count = countOfOthers(state);
-  if (count === 0) return state.file.isOverAGame ? "The sessions are played over the text on the left." : "";
+  if (count === 0) return there(state.file).isOverAGame ? "The sessions are played over the text on the left." : "";
   return `${plural(count, "session")} ${count === 1 ? "has" : "have"} another text, and ${count === 1 ? "is" : "are"} not played over the one on the left: \`saxtegun source\` makes ${count === 1 ? "it" : "them"} follow game.txt.`;
 }
 
 // What a level differs in from the one beside it.
 /** @param {State} state */
 export function unlikenessTold(state, ending, isOfEngines) {
-  const { cells } = ending, { kind, frame } = state.comparison?.partings[state.work.opened] ?? {};
-  if (isOfEngines && cells?.length === 0 && kind === "level" && frame === shownOf(state)) return "The cells are the same, and the line feeds between them are not.";
+  const { cells } = ending, parting = partingOfOpen(state);
+  if (isOfEngines && cells?.length === 0 && parting?.kind === "level" && parting.frame === shownOf(state)) return "The cells are the same, and the line feeds between them are not.";
   if (isOfEngines) return cells === null ? "The two levels can't be compared cell by cell." : `${plural(cells.length, "cell")} of this frame ${cells.length === 1 ? "differs" : "differ"} (framed).`;
-  if (sessionOf(state).level === "") return "No level was recorded.";
+  if (there(sessionOf(state)).level === "") return "No level was recorded.";
   return cells?.length === 0 ? "This is the recorded level." : upper(`${endingTold(ending)}${cells ? " (framed)" : ""}`);
 }
 
 // ---- what can be put back
 
+/** @param {import("./state").Work} work */
 function workTold({ own = null, inputs, name }) {
   if (inputs.length > 0) return `a recording of ${plural(inputs.length, "input")}`;
   return own === null ? `the name ${shortened(name)}` : `the text of ${gameOf(own).title}, as a recording's own`;
@@ -212,7 +215,7 @@ function lostTold({ text, work, file }) {
 }
 
 /** @param {State} state */
-export const putBackTold = ({ past }) => (past.length === 0 ? "Nothing was left out or replaced yet" : `Puts back ${lostTold(past.at(-1))}`);
+export const putBackTold = ({ past }) => (past.length === 0 ? "Nothing was left out or replaced yet" : `Puts back ${lostTold(there(past.at(-1)))}`);
 
 /** @param {State} state */
 export const toldOfLevel = (state) => {

@@ -82,8 +82,10 @@ function isRecordingLost(before, after) {
 }
 
 // Whether a recording's own text is nowhere any more: one that can't stand in the field has no other place.
+/** @param {State} before @param {State} after */
 function isOwnTextLost({ work: { own = null }, text }, after) {
   if (own === null || own === text) return false;
+  /** @type {(it: { text?: string, work?: import("./state").Work }, entries: { source: string }[]) => boolean} */
   const isIn = ({ text: there, work }, entries) => there === own || work?.own === own || entries.some(({ source }) => source === own);
   return !isIn(after, after.file?.entries ?? []) && !after.past.some((lost) => isIn(lost, lost.file?.entriesAtHand ?? []));
 }
@@ -126,7 +128,8 @@ export function lostNow(things, past) {
 }
 
 const roomOfWork = ({ own, name, inputs }) => (own?.length ?? 0) + name.length + inputs.length;
-const bytesOf = ({ text = "", work, file = null }) => text.length + (work ? roomOfWork(work) : 0) + (file?.bytes.length ?? 0);
+/** @param {import("./state").Lost} lost */
+const bytesOf = ({ text = "", work, file }) => text.length + (work ? roomOfWork(work) : 0) + (file?.bytes.length ?? 0);
 
 // Of things that can be put back the last that were lost, in their places: as many as stay beside others, and as have room; one in any case where there are
 // no others.

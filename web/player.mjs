@@ -7,6 +7,7 @@ import { Run, textOf } from "./frames.mjs";
 import { InputStrip } from "./input-strip.mjs";
 import { differing, heightOf, isDrawn, isTooLarge } from "./levels.mjs";
 import { differenceTold, frameTold } from "./telling.mjs";
+import { there } from "./there.mjs";
 
 const PAUSE = 160;      // milliseconds between two frames at the speed 1
 const NAMED = 2000;     // letters of a name,
@@ -30,6 +31,10 @@ export class Player {
     this.games = new Map();
     this.timer = 0;
     this.session = null;
+    this.at = 0;
+    this.sides = [];
+    this.levels = [];
+    this.differing = null;
     this.strip = new InputStrip((taken) => this.goTo(this.sides[0].run.frameAfter(taken)));
     this.boards = new Boards({
       places: [["level-0", "caption-0"], ["level-1", "caption-1"]], most: FITTING, isChangeWhole: false, isFollowing: false, roomFor: (levels) => this.roomFor(levels.length),
@@ -150,8 +155,8 @@ export class Player {
 
   // Where the levels begin in the window, when nothing is scrolled.
   get top() {
-    const scrolled = document.querySelector("main").scrollTop + window.scrollY;
-    return at("level-0").parentElement.getBoundingClientRect().top + scrolled;
+    const scrolled = there(document.querySelector("main")).scrollTop + window.scrollY;
+    return there(at("level-0").parentElement).getBoundingClientRect().top + scrolled;
   }
 
   showLevels() {

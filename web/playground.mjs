@@ -22,6 +22,7 @@ import { keepingTold, visitTold } from "./page-words.mjs";
 import { say } from "./saying.mjs";
 import { linePointedAt, lookedAtActed, stageChosen } from "./staging.mjs";
 import { sessionOpened } from "./suite.mjs";
+import { there } from "./there.mjs";
 import { RECORDED_ORDER, cutBack, edited, inOrder, lookedAt, lookedAtInput, pressed, released, withGame } from "./work.mjs";
 
 const FRAME_PAUSE = 160; // milliseconds between two frames when playing
@@ -138,7 +139,7 @@ class Playground {
 
   // Nothing tells whether the browser writes it, so it counts as changed as before.
   saveFile() {
-    const { name, bytes } = this.state.file;
+    const { name, bytes } = there(this.state.file);
     download(name.endsWith(".json") ? name : RECORDINGS, bytes);
   }
 

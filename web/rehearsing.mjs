@@ -9,6 +9,7 @@ import { readingRuns } from "./lines.mjs";
 import { MOST_SESSIONS, Refusal, SessionFile } from "./session-file.mjs";
 import { rowsOf } from "./suite.mjs";
 import { distinct } from "./text-map.mjs";
+import { there } from "./there.mjs";
 import { Clocks } from "./ticks.mjs";
 import { beginning } from "./work.mjs";
 
@@ -21,14 +22,14 @@ const NAMED = { nameOf: ({ name }) => name || "a recording" }; // names from the
 // The state to which a file leads, from one with this text and this file.
 /** @param {import("./handing.mjs").Handed} read */
 function stateBehind({ kind, found, skipped, bytes }, name, state) {
-  if (kind === "recordings") return withRecordings(state, found, skipped, NAMED);
-  return kind === "sessions" ? withOtherFile(state, new SessionFile(name, bytes)) : state;
+  if (kind === "recordings") return withRecordings(state, there(found), skipped, NAMED);
+  return kind === "sessions" ? withOtherFile(state, new SessionFile(name, there(bytes))) : state;
 }
 
 // Does what the page does at once with a file of sessions that came.
 /** @param {import("./state").State} state */
 async function take(state) {
-  const { file, text } = state, ended = new AbortController();
+  const { text } = state, file = there(state.file), ended = new AbortController();
   ended.abort();
   await new Clocks().read(file.entries.map(({ source }) => source), ended.signal);
   file.partsOver(text, (source) => source);

@@ -24,6 +24,7 @@ export function gameOf(source) {
 }
 
 // Whether something was played of this source, entry of LEVELS and order.
+/** @type {<It extends Omit<import("./state").Asked, "inputs">>(played: It | null, asked: Omit<import("./state").Asked, "inputs">) => played is It} */
 export const isPlayOf = (played, { source, index, order, isTicked }) => played !== null && played.source === source && played.index === index && played.order === order && played.isTicked === isTicked;
 
 // Whether what was played is what is worked on now.
@@ -103,13 +104,13 @@ const leftOut = ([{ behind }, next, ...rest]) => (next === undefined ? [] : [{ .
 
 /** @param {State} state */
 function answeredKey(state, asked, { frames: more, cause, isSolved }) {
-  const [key, ...waiting] = state.queue, frames = joined(state.played.frames, asked.from, more);
+  const [key, ...waiting] = state.queue, frames = joined(framesOf(state), asked.from, more);
   if (cause !== null) {
     const { sentence } = causeOf(cause, { ...asked, frames });
     return { ...state, queue: leftOut(state.queue), told: { text: `${capital(sentence)}. The input is left out.`, close: null } };
   }
   const work = { ...state.work, inputs: asked.inputs }, isNext = more.some((frame) => frame.kind === "load");
-  const isFirst = !state.played.isSolved, won = frames.filter(({ kind }) => kind === "load").length;
+  const isFirst = !state.played?.isSolved, won = frames.filter(({ kind }) => kind === "load").length;
   const messages = isNext || (isSolved && isFirst) ? messagesAt(asked.source, asked.index, isSolved ? Infinity : won) : [];
   // keys that were pressed before a message is there aren't meant for what comes behind it
   const queue = messages.length > 0 ? [] : waiting;

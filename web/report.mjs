@@ -52,6 +52,7 @@ function showAddress(hash) {
 
 // ---- sessions
 
+/** @type {(number: number | null | undefined, frame?: number | null) => void} */
 function openSession(number, frame = null) {
   if (number === undefined || number === null) return;
   player.open(number, frame);
@@ -122,7 +123,7 @@ function press(event) {
 
 function showFoot() {
   const told = Object.values(KEYS).filter(([keys]) => keys);
-  at("keys").replaceChildren(...[...told, ...MARKS].flatMap(([keys, text]) => [make("dt", "", keys), make("dd", "", text)]));
+  at("keys").replaceChildren(...[...told, ...MARKS].flatMap(([keys, text]) => [make("dt", "", keys ?? ""), make("dd", "", text ?? "")]));
   fill(at("foot"), [...index.origin, ...index.notes].map((note) => make("p", "", readable(note))));
 }
 

@@ -6,6 +6,7 @@ import { coverageCame, isCoverageWanted, isStagesWanted, stagesCame, wantedCover
 import { isSolutionWanted, solutionCame, wantedSolution } from "./solving.mjs";
 import { partsPlayed, seeing, suiteCame, unsolvedIn, wantedSuite } from "./suite.mjs";
 import { held } from "./work.mjs";
+/** @typedef {{ what?: string, wanted: any, controller: AbortController, done: number, total: number, isSlow: boolean, timer?: number }} Doing */
 
 const SLOW = 500; // milliseconds, after which it is said that something is being played
 const TYPING_PAUSE = 250; // milliseconds without a letter, after which what was typed is played
@@ -21,6 +22,7 @@ export class Runner {
     this.draw = draw;
     this.keep = keep;
     this.pause = pause;
+    /** @type {{ [what in "play" | "suite" | "stages" | "coverage" | "solution" | "reading"]: Doing | null } & { isTyping: boolean }} */
     this.doing = { play: null, suite: null, stages: null, coverage: null, solution: null, reading: null, isTyping: false }; // what is asked now: { wanted, controller, done, total, isSlow }
     this.timer = 0;
     this.coming = 0; // files that are being read
@@ -66,6 +68,7 @@ export class Runner {
 
   /** @type {<Answer>(what: string, read: (...words: import("./pieces.mjs").Heard) => Promise<Answer>) => Promise<Answer>} */
   async readNow(what, read) {
+    /** @type {Doing} */
     const doing = { what, wanted: null, controller: new AbortController(), done: 0, total: 0, isSlow: false };
     doing.timer = setTimeout(() => this.showSlow(doing), SLOW);
     this.doing.reading = doing;
@@ -156,7 +159,7 @@ export class Runner {
 
   askSuite() {
     const { file, text, order, isTicked } = this.state;
-    const isSame = (wanted) => wanted.file === file && wanted.order === order && wanted.isTicked === isTicked && (wanted.text === text || !file.isOverAGame);
+    const isSame = (wanted) => wanted.file === file && wanted.order === order && wanted.isTicked === isTicked && (wanted.text === text || !file?.isOverAGame);
     this.begin("suite", wantedSuite(this.state), isSame, async (doing) => {
       const { wanted, controller: { signal } } = doing, begun = performance.now();
       doing.total = wanted.file.entries.length;
@@ -186,7 +189,7 @@ export class Runner {
   }
 
   stopSuite() {
-    const { wanted } = this.doing.suite ?? {};
+    const wanted = this.doing.suite?.wanted;
     if (wanted === undefined) return;
     this.leave("suite");
     this.update((state) => suiteCame(state, wanted, null, 0));

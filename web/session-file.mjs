@@ -3,6 +3,7 @@
 // python/saxtegun/sessions.py.
 import { elementsOf } from "../engine/saxtegun.mjs";
 import { TextMap } from "./text-map.mjs";
+import { there } from "./there.mjs";
 
 /** @typedef {[number, number]} Span */
 /** @typedef {{ name: string, source: string, inputs: import("../engine/saxtegun").Session["inputs"], level: string, index: number, rest?: unknown[] }} Entry */
@@ -81,7 +82,7 @@ const ALIKE = new Map([[4, 4], [5, 5], [6, 5], [7, 6], [8, 6], [9, 6]]); // a te
 function isNearlyDemand(value, { isDemand }) {
   if (typeof value !== "string") return isDemand;
   const lower = value.toLowerCase(), letters = lower.length > 18 ? [] : [...lower]; // 9 letters have at most 18 units
-  return value !== DEMAND && (isDemand || (ALIKE.has(letters.length) && lettersInOrder(DEMAND, letters) >= ALIKE.get(letters.length)));
+  return value !== DEMAND && (isDemand || (ALIKE.has(letters.length) && lettersInOrder(DEMAND, letters) >= there(ALIKE.get(letters.length))));
 }
 
 // The bytes of JSON with a list of names and values in the place of each object: of members with one name JSON.parse leaves the last.
@@ -149,7 +150,7 @@ function tight(bytes, [begin, end]) {
 
 // Where the elements of the list stand that a span of bytes is.
 /** @type {(bytes: Uint8Array, span: Span) => Span[]} */
-const spansIn = (bytes, [begin, end]) => elementsOf(bytes.subarray(begin, end)).map(([one, other]) => tight(bytes, [begin + one, begin + other]));
+const spansIn = (bytes, [begin, end]) => there(elementsOf(bytes.subarray(begin, end))).map(([one, other]) => tight(bytes, [begin + one, begin + other]));
 
 // The bytes with others in the place of some spans, [[span, piece]] in their order.
 /** @type {(bytes: Uint8Array, changes: [Span, Uint8Array][]) => Uint8Array} */
@@ -279,6 +280,7 @@ function sessionsOrNone(name, bytes) {
 }
 
 export class SessionFile {
+  /** @param {string} name @param {Uint8Array} bytes @param {Entry[] | null} entries */
   constructor(name, bytes, entries = sessionsIn(name, bytes)) {
     this.name = name;
     this.bytes = bytes;
@@ -379,7 +381,7 @@ export class SessionFile {
     const spans = this.spans(), text = entries.map((entry) => JSON.stringify(valueOf(entry))).join(",\n");
     if (entries.length === 0) return this;
     if (spans.length === 0) return new SessionFile(this.name, new TextEncoder().encode(`[\n${text}\n]\n`));
-    const end = spans.at(-1)[1];
+    const end = there(spans.at(-1))[1];
     return this.changedBy([end, end], new TextEncoder().encode(`,\n${text}`));
   }
 

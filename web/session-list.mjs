@@ -2,6 +2,7 @@
 // The list of sessions on both pages: filtered by close and by name. Rows are there only where they can be seen, so it may be long.
 import { countOf, shapeOf } from "./closes.mjs";
 import { at, cut, make, makeButton, plural } from "./elements.mjs";
+import { there } from "./there.mjs";
 
 /** @typedef {{ name: string, close: string | null, frames: number | null, parting: object | null, isUnsolved?: boolean }} Row */
 
@@ -73,7 +74,7 @@ export class SessionList {
   /** @type {(step: number, isWanted?: (row: Row) => boolean) => number | null} */
   next(step, isWanted = () => true) {
     const isRound = !this.page.areFailuresFirst || !this.shown.includes(this.current);
-    return following(this.shown.filter((number) => isWanted(this.rows[number])), this.current, step, { isRound, placeOf: (number) => this.places.get(number) });
+    return following(this.shown.filter((number) => isWanted(this.rows[number])), this.current, step, { isRound, placeOf: (number) => there(this.places).get(number) });
   }
 
   ordered(numbers, rows = this.rows) {

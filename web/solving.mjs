@@ -5,6 +5,7 @@ import { isSameList } from "./past.mjs";
 import { firstFrom } from "./recording.mjs";
 import { framesOf, gameOf, isPlayOf, isPlayed, sourceOf, takenOf } from "./replaying.mjs";
 import { refusalTold } from "./session-file.mjs";
+import { there } from "./there.mjs";
 import { hasClock } from "./ticks.mjs";
 import { withWork } from "./work.mjs";
 /** @typedef {import("./state").State} State */
@@ -18,7 +19,7 @@ const withSolving = (state, solving) => ({ ...state, solving, told: null });
 
 // Whether there is a frame from which a solution can be looked for.
 /** @param {State} state */
-export const isSolvable = (state) => isPlayed(state) && framesOf(state).length > 0 && state.played.cause === null;
+export const isSolvable = (state) => isPlayed(state) && framesOf(state).length > 0 && state.played?.cause === null;
 
 // Asks what wins from the frame that is looked at.
 /** @param {State} state */
@@ -55,7 +56,7 @@ const switchedOff = (source, presses) => presses.map((it) => gameOf(source).swit
 /** @param {State} state */
 export function solutionNow(state) {
   const asked = askedNow(state), { came } = state.solving, presses = came?.solution?.solved;
-  return asked === null || presses === undefined || switchedOff(asked.source, presses) ? null : { asked, presses, frames: came.frames };
+  return asked === null || came === null || presses === undefined || switchedOff(asked.source, presses) ? null : { asked, presses, frames: came.frames };
 }
 
 // What is said beside where time goes on by itself: a search is for presses alone, and by ticks more may be won, or by fewer presses.
@@ -88,7 +89,7 @@ export function solutionTaken(state) {
 // The state as it would be behind so many of the presses that win: what a ghost shows.
 /** @param {State} state */
 export function ghostOf(state, count) {
-  const { asked, presses, frames } = solutionNow(state), before = framesOf(state).slice(0, firstFrom(framesOf(state), asked.inputs.length + 1));
+  const { asked, presses, frames } = there(solutionNow(state)), before = framesOf(state).slice(0, firstFrom(framesOf(state), asked.inputs.length + 1));
   const all = [...before, ...frames], inputs = [...asked.inputs, ...presses];
-  return { ...state, work: { ...state.work, inputs }, played: { ...state.played, inputs, frames: all }, looked: firstFrom(all, asked.inputs.length + count + 1) - 1, messages: [], ghost: { count, of: presses.length } };
+  return { ...state, work: { ...state.work, inputs }, played: { ...there(state.played), inputs, frames: all }, looked: firstFrom(all, asked.inputs.length + count + 1) - 1, messages: [], ghost: { count, of: presses.length } };
 }

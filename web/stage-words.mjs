@@ -5,6 +5,7 @@ import { inputTold } from "./faults.mjs";
 import { refusalTold } from "./session-file.mjs";
 import { chosenStage, coverageOf, inputsOfLine, isComplete, levelsAround, lineNow, linesNeverActed, stagesNow } from "./staging.mjs";
 import { shortened } from "./texts.mjs";
+import { there } from "./there.mjs";
 /** @typedef {import("./state").State} State */
 
 const MOST_HEADINGS = 12; // that are told in words,
@@ -14,7 +15,8 @@ const MOST_RANGES = 100; // and ranges of lines: a group may have many thousand,
 function rangesTold(numbers) {
   const ranges = [];
   for (const number of numbers) {
-    if (ranges.at(-1)?.[1] === number - 1) ranges.at(-1)[1] = number;
+    const last = ranges.at(-1);
+    if (last?.[1] === number - 1) last[1] = number;
     else ranges.push([number, number]);
   }
   const told = ranges.slice(0, MOST_RANGES).map(([first, last]) => (first === last ? `${first}` : `${first} to ${last}`)), more = ranges.length - told.length;
@@ -47,7 +49,7 @@ export function headingsTold({ headings = [] }) {
 // The stage that is chosen, as its level is shown: { text, before, headings, told }.
 /** @param {State} state */
 export function stageShown(state) {
-  const number = chosenStage(state), stage = stagesNow(state).stages[number];
+  const number = there(chosenStage(state)), stage = there(stagesNow(state)).stages[number];
   return { ...levelsAround(state, number), headings: stage.headings ?? [], told: `behind ${stageTold(stage)}` };
 }
 

@@ -22,7 +22,7 @@ export class StagesPanel {
     say("stages-told", stagesTold(state));
     const stages = stagesNow(state)?.stages ?? [], chosen = chosenStage(state);
     this.drawStages(stages, chosen);
-    say("headings", headingsTold(stages[chosen] ?? {}));
+    say("headings", headingsTold(chosen === null ? {} : stages[chosen] ?? {}));
   }
 
   drawStages(stages, chosen) {

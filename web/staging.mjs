@@ -5,6 +5,7 @@ import { descriptionOf } from "./descriptions.mjs";
 import { isSameList } from "./past.mjs";
 import { firstFrom } from "./recording.mjs";
 import { framesOf, isAtEnd, isPlayOf, isPlayed, shownOf, sourceOf, wantedPlay } from "./replaying.mjs";
+import { there } from "./there.mjs";
 import { lookedAtInput } from "./work.mjs";
 /** @typedef {import("./state").State} State */
 
@@ -29,7 +30,7 @@ export const opened = (state, isOpen) => (isOpen === state.staging.isOpen ? stat
 function inputsLookedAt(state) {
   const frame = framesOf(state)[shownOf(state)];
   if (frame === undefined) return [0];
-  return isAtEnd(state) && state.played.cause !== null && frame.at < state.work.inputs.length ? [frame.at, frame.at + 1] : [frame.at];
+  return isAtEnd(state) && there(state.played).cause !== null && frame.at < state.work.inputs.length ? [frame.at, frame.at + 1] : [frame.at];
 }
 
 /** @param {State} state */
@@ -90,7 +91,7 @@ export const stageStepped = (state, count) => (state.staging.isOpen ? stageChose
 // The level texts behind a stage and before it, null where there is none.
 /** @param {State} state */
 export function levelsAround(state, number) {
-  const { wanted, stages } = stagesNow(state), before = framesOf(state)[firstFrom(framesOf(state), wanted.numbers[0]) - 1]?.level ?? null;
+  const { wanted, stages } = there(stagesNow(state)), before = framesOf(state)[firstFrom(framesOf(state), wanted.numbers[0]) - 1]?.level ?? null;
   const levels = stages.slice(0, number + 1).flatMap(({ level }) => (level === undefined ? [] : [level]));
   const isStop = stages[number].level === undefined;
   return { text: levels.at(-1) ?? before, before: isStop ? null : levels.at(-2) ?? before };
@@ -100,8 +101,8 @@ export function levelsAround(state, number) {
 
 // How many inputs are looked through, with the start as one: those that were played, and the one at which the game stopped.
 /** @param {State} state */
-function countOfInputs({ played, work: { inputs } }) {
-  const last = played.frames.at(-1)?.at ?? -1;
+function countOfInputs(state) {
+  const { work: { inputs } } = state, played = there(state.played), last = played.frames.at(-1)?.at ?? -1;
   return Math.min(inputs.length, last + (played.cause === null ? 0 : 1)) + 1;
 }
 
@@ -176,7 +177,7 @@ export function linePointedAt(state, number) {
 /** @param {State} state */
 export function inputsOfLine(state) {
   const line = lineNow(state);
-  return actedLines(state).flatMap((lines, input) => (lines.includes(line) ? [input] : []));
+  return actedLines(state).flatMap((lines, input) => (line !== null && lines.includes(line) ? [input] : []));
 }
 
 // Goes to an input in which the line acted.
@@ -197,5 +198,5 @@ export function linesNeverActed(state) {
 export function linesMarked(state) {
   const number = chosenStage(state);
   if (state.work.own !== null) return { lit: [], never: [] };
-  return { lit: number === null ? [] : stagesNow(state).stages[number].lines ?? [], never: linesNeverActed(state) };
+  return { lit: number === null ? [] : there(stagesNow(state)).stages[number].lines ?? [], never: linesNeverActed(state) };
 }

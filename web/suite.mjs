@@ -7,6 +7,7 @@ import { isSameList } from "./past.mjs";
 import { framesOf, gameOf, isAtEnd, isPlayed, sourceOf } from "./replaying.mjs";
 import { MOST_INPUTS, Refusal, SessionFile, isSolvedWanted, refusalTold } from "./session-file.mjs";
 import { isFailure } from "./session-list.mjs";
+import { there } from "./there.mjs";
 import { Clocks, hasClock, isRefusedForClock, playedText } from "./ticks.mjs";
 import { withWork } from "./work.mjs";
 /** @typedef {import("./state").State} State */
@@ -14,6 +15,7 @@ import { withWork } from "./work.mjs";
 // ---- how all sessions closed
 
 // Whether an answer is one to the file as it stands, over the text at hand.
+/** @type {<It extends import("./state").AskedSuite>(suite: It | null, state: Pick<State, "file" | "text" | "order" | "isTicked">) => suite is It} */
 const isOfNow = (suite, { file, text, order, isTicked }) => suite !== null && suite.file === file && suite.order === order && suite.isTicked === isTicked && (suite.text === text || !file.isOverAGame);
 
 // What is wanted of the engine for the sessions of the file, or null.
@@ -37,7 +39,7 @@ export function runWithFrames({ lines, runs }, number) {
 
 // Whether a session has a text of its own that isn't the one at hand.
 /** @param {State} state */
-export const isOther = (state, number) => ![ "", state.text ].includes(state.file.entries[number].source);
+export const isOther = (state, number) => ![ "", state.text ].includes(there(state.file).entries[number].source);
 
 const CLOCKS_OF = new WeakMap(); // for each file what is known of the texts of its sessions
 
@@ -75,7 +77,7 @@ const bodyWithOneMore = ({ source, inputs, level, index }) => [source, [...input
 export function clocksOf(state) {
   if (state.isTicked) return rowsOf(state).filter((row) => row.isTicked).length;
   const isWithClock = clockOf(state);
-  return (runsOfNow(state) ?? []).filter(({ cause }, number) => isRefusedForClock(state.file.entries[number].source || state.text, cause, isWithClock)).length;
+  return (runsOfNow(state) ?? []).filter(({ cause }, number) => isRefusedForClock(there(state.file).entries[number].source || state.text, cause, isWithClock)).length;
 }
 
 /** @param {State} state */
@@ -140,10 +142,10 @@ const isBroken = ({ close, isUnsolved }) => close === "differs" || close === "st
 // with; and else the first that broke.
 /** @param {State} state */
 function showingFailure(state) {
-  const { isNew, work, suite } = state, next = { ...state, isNew: false };
-  if (isNew) return suite.runs.length === 0 || isGoneOnWith(next) ? next : sessionOpened(next, Math.max(0, rowsOf(next).findIndex(isFailure)));
-  if (work.opened !== null && isBroken(suite.runs[work.opened])) return { ...next, since: isSessionOpen(next) ? changeOf(next, work.opened) : null };
-  const first = suite.runs.findIndex((run, number) => isBroken(run) && isGood(state.good?.runs[number]));
+  const { isNew, work } = state, runs = there(there(state.suite).runs), next = { ...state, isNew: false };
+  if (isNew) return runs.length === 0 || isGoneOnWith(next) ? next : sessionOpened(next, Math.max(0, rowsOf(next).findIndex(isFailure)));
+  if (work.opened !== null && isBroken(runs[work.opened])) return { ...next, since: isSessionOpen(next) ? changeOf(next, work.opened) : null };
+  const first = runs.findIndex((run, number) => isBroken(run) && isGood(state.good?.runs?.[number]));
   return first < 0 || !mayMakeWay(next) ? next : sessionOpened(next, first);
 }
 
@@ -174,16 +176,24 @@ export function isSessionOpen(state) {
   return entry !== undefined && (entry.source || text) === sourceOf(state) && entry.index === work.index && isSameList(entry.inputs, work.inputs);
 }
 
+// How the session that is open closed, and where it parts from another engine's; null where that isn't known.
 /** @param {State} state */
-export const sessionOf = (state) => (isSessionOpen(state) ? state.file.entries[state.work.opened] : null);
+export const runOfOpen = (state) => (state.work.opened === null ? null : runsOfNow(state)?.[state.work.opened] ?? null);
+
+/** @param {State} state */
+export const partingOfOpen = ({ comparison, work: { opened } }) => (opened === null ? null : comparison?.partings[opened] ?? null);
+
+/** @param {State} state */
+export const sessionOf = (state) => (isSessionOpen(state) ? there(state.file).entries[there(state.work.opened)] : null);
 
 /** @param {State} state */
 export function sessionOpened(state, number) {
-  const { name, source, inputs, index } = state.file.entries[number], parting = state.comparison?.partings[number] ?? null;
+  const { name, source, inputs, index } = there(state.file).entries[number], parting = state.comparison?.partings[number] ?? null;
   const work = { own: source === "" || source === state.text ? null : source, index, inputs, name, opened: number };
   const isPassed = isGood(runsOfNow(state)?.[number]) && parting === null;
   const next = withWork(state, work, { looked: parting?.frame ?? (isPassed ? 0 : null) });
-  return runsOfNow(next) !== null && isBroken(next.suite.runs[number]) ? { ...next, since: changeOf(next, number) } : next;
+  const runs = runsOfNow(next);
+  return runs !== null && isBroken(runs[number]) ? { ...next, since: changeOf(next, number) } : next;
 }
 
 let lastObstacle = {}; // what stood against the end that was looked at last: a recorded level may take long to read, and each draw asks for it
@@ -198,18 +208,18 @@ function obstacleOf(game, run, reached, recorded, order) {
 // what stands against accepting it. Else null.
 /** @param {State} state */
 export function differenceOf(state) {
-  const entry = sessionOf(state), run = entry === null ? null : runsOfNow(state)?.[state.work.opened] ?? null;
-  if (run === null || run.close !== "differs" || !isPlayed(state) || !isAtEnd(state) || (state.comparison?.partings[state.work.opened] ?? null) !== null) return null;
+  const entry = sessionOf(state), run = runOfOpen(state);
+  if (entry === null || run === null || run.close !== "differs" || !isPlayed(state) || !isAtEnd(state) || partingOfOpen(state) !== null) return null;
   const reached = framesOf(state).at(-1)?.level;
   if (reached === undefined) return null;
-  return { reached, recorded: entry.level, isSolved: state.played.isSolved, why: obstacleOf(gameOf(sourceOf(state)), run, reached, entry.level, state.order) };
+  return { reached, recorded: entry.level, isSolved: there(state.played).isSolved, why: obstacleOf(gameOf(sourceOf(state)), run, reached, entry.level, state.order) };
 }
 
 // The state where what is on the screen counts as seen.
 /** @param {State} state */
 export function seeing(state) {
   const difference = differenceOf(state), { opened } = state.work;
-  if (difference === null || state.seen.get(opened)?.reached === difference.reached) return state;
+  if (difference === null || opened === null || state.seen.get(opened)?.reached === difference.reached) return state;
   return { ...state, seen: new Map([...state.seen, [opened, difference]]) };
 }
 
@@ -217,8 +227,8 @@ export function seeing(state) {
 /** @param {State} state */
 export function isSeen(state, number) {
   const seen = state.seen.get(number);
-  return seen !== undefined && runsOfNow(state)?.[number].close === "differs" && state.file.entries[number].level === seen.recorded;
+  return seen !== undefined && runsOfNow(state)?.[number].close === "differs" && there(state.file).entries[number].level === seen.recorded;
 }
 
 /** @param {State} state */
-export const seenOf = (state) => [...state.seen.keys()].filter((number) => isSeen(state, number) && state.seen.get(number).why === null).sort((one, other) => one - other);
+export const seenOf = (state) => [...state.seen.keys()].filter((number) => isSeen(state, number) && state.seen.get(number)?.why === null).sort((one, other) => one - other);

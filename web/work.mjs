@@ -8,6 +8,7 @@ import { firstFrom } from "./recording.mjs";
 import { cutToPlayed, framesOf, gameOf, isAtEnd, isPlayed, sourceOf, takenOf } from "./replaying.mjs";
 import { MOST_INPUTS } from "./session-file.mjs";
 import { noFieldTold, whyNoField } from "./texts.mjs";
+import { there } from "./there.mjs";
 /** @typedef {import("./state").State} State */
 
 export const RECORDED_ORDER = "columns"; // the one of the published level texts, in which `saxtegun test` plays
@@ -129,7 +130,7 @@ export function fromLevel(state, index) {
 // The recording as it goes on over the text at hand: one of a text of its own is no session of the file then.
 /** @param {State} state */
 function overText(state) {
-  const { work, file } = state, entry = work.opened === null ? null : file.entries[work.opened];
+  const { work, file } = state, entry = work.opened === null ? null : there(file).entries[work.opened];
   return entry !== null && entry.source !== "" ? { ...work, own: null, opened: null } : { ...work, own: null };
 }
 
@@ -173,7 +174,7 @@ function stillOpened(work, file, text) {
 
 // What is there of a text and its recording where the text isn't put into the field: the recording has it as its own, unless it has another one as that; then
 // the text alone can be put back. Where there is no recording, it is one that has nothing in it yet.
-/** @type {(lost: import("./state").Lost) => import("./state").Lost & { past: import("./state").Lost[] }} */
+/** @type {(lost: import("./state").Lost & { text: string }) => import("./state").Lost & { work: import("./state").Work, past: import("./state").Lost[] }} */
 export function besideField({ text, work = workOn(text), ...more }) {
   return work.own === null ? { ...more, work: { ...work, own: text, opened: null }, past: [] } : { ...more, work, past: [{ text }] };
 }
@@ -183,9 +184,10 @@ export function besideField({ text, work = workOn(text), ...more }) {
 export function putBack(state) {
   const last = state.past.at(-1);
   if (last === undefined) return state;
-  const why = last.text === undefined ? null : whyNoField(last.text), { past, ...lost } = why === null ? { ...last, past: [] } : besideField(last);
+  const { text: lostText } = last, why = lostText === undefined ? null : whyNoField(lostText);
+  const { past, ...lost } = why === null || lostText === undefined ? { ...last, past: [] } : besideField({ ...last, text: lostText });
   const { text = state.text, work = state.work, file = state.file, isUnsaved = state.isUnsaved } = lost;
-  const below = state.past.slice(0, -1), open = { ...work, opened: stillOpened(work, file, text) }, told = why && { text: noFieldTold("The text that was put back", why), close: null };
+  const below = state.past.slice(0, -1), open = { ...work, opened: stillOpened(work, file, text) }, told = why === null ? null : { text: noFieldTold("The text that was put back", why), close: null };
   const next = { ...state, text, work: open, file, isUnsaved, past: [...(why === null ? below : leavingText(below, last.text)), ...lostNow(past, state.past)], looked: null, queue: [], ...AFRESH, told };
   return behindAll(state, next);
 }

@@ -16,7 +16,7 @@
     window.addEventListener("unhandledrejection", (event) => wrong.push(`rejection: ${event.reason?.stack ?? event.reason}`));
   }
   /** @type {import("../kinds").At} */
-  const at = (id) => document.getElementById(id);
+  const at = (id) => /** @type {HTMLElement} */ (document.getElementById(id));
   const later = (milliseconds) => new Promise((settle) => setTimeout(settle, milliseconds));
 
   // Numbers that look random, the same for the same seed.
@@ -33,7 +33,7 @@
   const marks = () => [...at("strip").querySelectorAll("button")].map((mark) => mark.title.replace(/^input \d+: /, ""));
   const shown = () => ({ text: at("source").value, inputs: marks(), name: at("name").value });
   // The rows that stand in the list of so many sessions: those that can be seen, and some around them.
-  const rowsShown = (count) => [...at("list").querySelectorAll("button")].filter((row) => row.parentElement.getAttribute("aria-setsize") === String(count));
+  const rowsShown = (count) => [...at("list").querySelectorAll("button")].filter((row) => row.parentElement?.getAttribute("aria-setsize") === String(count));
 
   const asked = (request) => new Promise((settle, refuse) => {
     request.onsuccess = () => settle(request.result);
@@ -116,7 +116,7 @@
     const buttons = [...document.querySelectorAll("button")].filter((it) => it.checkVisibility() && !it.disabled && !NOT_CLICKED.includes(it.id));
     const button = buttons[random(buttons.length)];
     button.click();
-    return `#${button.id || button.textContent.trim().slice(0, 12)}`;
+    return `#${button.id || button.textContent?.trim().slice(0, 12)}`;
   }
 
   // Does something at random: what it was, and of what kind.
@@ -140,7 +140,8 @@
         return { act: name };
       }],
     ];
-    return acts.find(([most]) => kind < most)[1]();
+    const [, act] = acts.find(([most]) => kind < most) ?? acts[0];
+    return act();
   }
 
   // Random acts. `texts` are { edits: [[from, to]], files: [[name, text]], example }.
@@ -157,7 +158,7 @@
           const after = await keptNow();
           missing(before, after, kind, texts.example).forEach((what) => note(`lost: ${what}`));
           const entries = entriesOf(after.file), rows = rowsShown(entries.length), closes = rows.map((row) => row.className);
-          if (random(5) === 0 && !closes.includes("unplayed")) found.push({ entries: rows.map((row) => entries[row.dataset.number]), text: after.text, order: after.order, closes });
+          if (random(5) === 0 && !closes.includes("unplayed")) found.push({ entries: rows.map((row) => entries[Number(row.dataset.number)]), text: after.text, order: after.order, closes });
         } else if (random(6) === 0) await idle();
         if (wrong.length > known) log.push("!");
       }
