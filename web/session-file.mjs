@@ -204,9 +204,10 @@ const sizeOf = (text) => new TextEncoder().encode(text).length;
 
 // The texts of games as the engine gets them, each made once.
 class PlayedTexts {
-  constructor(played) {
+  constructor(game, played) {
     this.played = played;
     this.known = new TextMap();
+    this.game = this.of(game);
   }
 
   // A text as it is played: { isSame, json, size }, where `isSame` is whether it stays as it is.
@@ -218,16 +219,21 @@ class PlayedTexts {
     return this.known.get(source);
   }
 
+  // The text over which an entry is played, which is the game's where it has none.
+  under(source) {
+    return source === "" ? this.game : this.of(source);
+  }
+
   // What a file has of an entry, before its text, that, and behind it.
-  /** @type {(entry: Entry, game: string) => string[]} */
-  piecesOf({ name, source, inputs, level, index }, game) {
-    return [`[${JSON.stringify(name)},[`, this.of(source || game).json, `,${JSON.stringify([inputs, level, index]).slice(1)}]`];
+  /** @type {(entry: Entry) => string[]} */
+  piecesOf({ name, source, inputs, level, index }) {
+    return [`[${JSON.stringify(name)},[`, this.under(source).json, `,${JSON.stringify([inputs, level, index]).slice(1)}]`];
   }
 
   // The bytes of these pieces, with the comma behind them.
-  /** @type {(entry: Entry, game: string, pieces: string[]) => number} */
-  sizeOf({ source }, game, [before, , behind]) {
-    return sizeOf(before) + this.of(source || game).size + sizeOf(behind) + 1;
+  /** @type {(entry: Entry, pieces: string[]) => number} */
+  sizeOf({ source }, [before, , behind]) {
+    return sizeOf(before) + this.under(source).size + sizeOf(behind) + 1;
   }
 }
 
@@ -326,11 +332,11 @@ export class SessionFile {
   // The file as it is played, with a game's text in the place of empty ones, and each text as the engine gets it: as few files as the engine takes,
   // [{ first, bytes }] with the number of the first session in each. The bytes are made once they are asked for, since a text may be that of many sessions.
   partsOver(game, played = (source) => source) {
-    const texts = new PlayedTexts(played), parts = [];
+    const texts = new PlayedTexts(game, played), parts = [];
     if (this.entries.every(({ source }) => source !== "" && texts.of(source).isSame)) return [{ first: 0, bytes: this.bytes }];
     let size = Infinity;
     this.entries.forEach((entry, number) => {
-      const pieces = texts.piecesOf(entry, game), length = texts.sizeOf(entry, game, pieces);
+      const pieces = texts.piecesOf(entry), length = texts.sizeOf(entry, pieces);
       if (size + length > MOST_BYTES) {
         parts.push(new Part(number));
         size = 2;

@@ -44,3 +44,11 @@ for (const [name, textOf] of Object.entries(CROWDS)) {
     assert.ok(crowd <= 4, `${crowd} texts at one place`);
   });
 }
+
+test("a long text that is asked for again and again, with others between, is summed once", () => {
+  const long = "a line of a game\n".repeat(60_000), others = Array.from({ length: 8 }, (_, at) => `${at}`.repeat(100)), map = new TextMap().set(long, 1);
+  for (const it of others) map.set(it, 0);
+  const { user } = process.cpuUsage();
+  for (let turn = 0; turn < 4000; turn += 1) for (const it of [long, ...others]) assert.ok(map.has(it));
+  assert.ok(process.cpuUsage().user - user < 2_000_000, "4,000 sums of a million letters take 4 seconds");
+});
