@@ -545,9 +545,9 @@ function framesOf(answer) {
 
 const isBlank = (byte) => byte === 0x20 || byte === 0x0a || byte === 0x0d || byte === 0x09;
 
-// Where the elements of the list that a text is begin and end; null where it isn't one, as far as can be seen without reading its elements.
-/** @type {(bytes: Uint8Array) => [number, number][] | null} */
-export function elementsOf(bytes) {
+// Where the elements of the list that a text is begin and end, or the first of them; null where it isn't one, as far as can be seen without reading them.
+/** @type {(bytes: Uint8Array, most?: number) => [number, number][] | null} */
+export function elementsOf(bytes, most = Infinity) {
   /** @type {[number, number][]} */
   const found = [];
   let at = 0, depth = 0, begin = 0, isEmpty = true, end = -1;
@@ -558,7 +558,7 @@ export function elementsOf(bytes) {
     const closes = byte === 0x5d || byte === 0x7d;
     if (depth === 1 && (byte === 0x2c || closes)) {
       if (isEmpty && !(closes && found.length === 0)) return null;
-      if (!isEmpty) found.push([begin, at]);
+      if (!isEmpty && found.push([begin, at]) === most) return found;
       begin = at + 1;
       isEmpty = true;
     } else if (depth > 0) {

@@ -5,7 +5,7 @@ import { at } from "./elements.mjs";
 import { allSkippedTold, nothingTold } from "./findings.mjs";
 import { atOnce } from "./pieces.mjs";
 import { MOST_SESSIONS, Refusal, codingOf, textOf } from "./session-file.mjs";
-import { hasManyLists, whyNoField } from "./texts.mjs";
+import { MOST_OF_A_SOURCE, hasManyLists, whyNoField } from "./texts.mjs";
 /** @typedef {{ kind: string, text: string, bytes?: Uint8Array, found?: import("./session-file.mjs").Entry[], skipped?: object[] }} Handed */
 
 const MOST_OF_A_FILE = 64 * 2 ** 20; // of a file that is read, as python/saxtegun/files.py has it
@@ -30,6 +30,16 @@ function entriesIn(text) {
 
 const isLines = (text) => text.trimStart()[0] === "{" && !text.includes('"source"');
 
+// Recordings with a line feed at the end of each line of their texts. A text that is too long to be played also then stays as it is.
+function* inLines(recordings) {
+  const made = [];
+  for (const it of recordings) {
+    yield [made.length, recordings.length];
+    made.push(it.source.length > 2 * MOST_OF_A_SOURCE ? it : { ...it, source: it.source.replaceAll("\r\n", "\n") });
+  }
+  return made;
+}
+
 // What bytes are taken for, { kind, text, bytes, found, skipped }: "sessions", "recordings" (found in a text), "lines", or a "game". Refused where they are none.
 // A long text is searched as work in pieces.
 /** @returns {Generator<number[], Handed>} */
@@ -42,7 +52,7 @@ export function* handing(name, bytes) {
   if (count !== null && count > MOST_SESSIONS) throw new Refusal(`${name} has more than 65,536 sessions`);
   if (count !== null) return { kind: "sessions", text, bytes: isWide ? new TextEncoder().encode(plain) : bytes };
   const { found, skipped } = yield* searching(plain);
-  if (found.length > 0) return { kind: "recordings", text, found, skipped };
+  if (found.length > 0) return { kind: "recordings", text, found: yield* inLines(found), skipped };
   if (isLines(plain)) return { kind: "lines", text: plain };
   if (skipped.length > 0) throw new Refusal(`no recording is left in ${name}: ${allSkippedTold(skipped)}`);
   const why = nothingTold(plain);

@@ -51,6 +51,13 @@ function queueFrom(queue) {
   return queue.slice(0, MOST_INPUTS).map(({ input, behind, looked }) => ({ input, behind, looked }));
 }
 
+const openedFrom = new WeakMap(); // by what was kept of it the file that is open
+
+function openFrom(value) {
+  if (value && !openedFrom.has(value)) openedFrom.set(value, fileFrom(value));
+  return value ? openedFrom.get(value) : null;
+}
+
 function fileFrom(value, read = (name, bytes) => new SessionFile(name, bytes)) {
   if (!value) return null;
   const bytes = unpacked(value);
@@ -77,7 +84,7 @@ export function stateFrom(value, example) {
   try {
     const { version, text, order, work, queue = [], file: bytes, isUnsaved, past, tab, isTicked, isBusy } = value.version === undefined ? fromFirst(value) : value;
     wanted(version === VERSION && isText(text) && ORDERS_OF_CELLS.includes(order) && isListOf(past, (lost) => lost !== undefined));
-    const file = fileFrom(bytes);
+    const file = openFrom(bytes);
     return { ...beginning(example), text, order, work: workFrom(work, file), queue: queueFrom(queue), file, isUnsaved: Boolean(isUnsaved), past: lastLost(past.map(lostFrom)), tab: tab === "sessions" ? tab : "game", isTicked: Boolean(isTicked), isHeld: Boolean(isBusy) };
   } catch {
     return null;

@@ -1,6 +1,6 @@
 // @ts-check
 // What can be put back: texts, recordings, names and sessions files that something else took the place of. The newest stands last.
-import { among, distinct, firstsOf } from "./text-map.mjs";
+import { among, distinct } from "./text-map.mjs";
 
 /** @typedef {import("./state").State} State */
 
@@ -95,14 +95,11 @@ function isNameLost({ work: { name } }, after) {
   return !after.past.some((it) => it.work?.name === name);
 }
 
-// What tells one session of a file from another.
-const textOfEntry = ({ name, source, inputs, level, index, rest = [] }) => JSON.stringify([name, source, inputs, level, index, ...rest]);
-
 /** @param {State} before @param {State} after */
 function isFileLost(before, after) {
   if (before.file === null || before.file === after.file || !(before.isUnsaved || after.isUnsaved)) return false;
-  const there = firstsOf((after.file?.entries ?? []).map((entry) => [textOfEntry(entry), true]));
-  return before.file.entries.some((entry) => !there.has(textOfEntry(entry))) && !after.past.some((it) => it.file === before.file);
+  const there = among(after.file?.texts ?? []);
+  return before.file.texts.some((it) => !there.has(it)) && !after.past.some((it) => it.file === before.file);
 }
 
 // What of one state isn't there any more in the next: { text, work, file, isUnsaved }, each only where it is lost; null where nothing is.

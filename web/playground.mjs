@@ -150,7 +150,7 @@ class Playground {
     try {
       const it = await this.runner.reading(`Reading ${name}`, (...words) => this.read(name, bytes, ...words));
       if (it === null) throw new Refusal(`${name} was stopped while it was read`);
-      if (it.kind === "recordings") await this.add(it.found.map((one) => ({ ...one, source: one.source.replaceAll("\r\n", "\n") })), it.skipped);
+      if (it.kind === "recordings") await this.add(it.found, it.skipped);
       else if (it.kind === "sessions") this.act(withOtherFile, new SessionFile(name, it.bytes), name === PASTED);
       else if (it.kind === "lines") await this.compare(name, it.text);
       else this.takeGame(it.text);

@@ -21,6 +21,7 @@ export class Refusal extends Error {}
 export const MOST_INPUTS = 65_536;
 export const MOST_SESSIONS = 65_536; // that come into the page: the engine plays no more, and each key would take seconds beside millions
 const MOST_BYTES = 16_777_216; // of a file that the engine plays
+const SHORT_FILE = 131_072; // bytes of one in which sessions are looked for though it isn't open: sixty take a moment
 
 const isInput = (value) => WORDS.includes(value) || (Number.isInteger(value) && value >= 0 && value <= 4);
 
@@ -148,9 +149,13 @@ function tight(bytes, [begin, end]) {
   return [first, last];
 }
 
-// Where the elements of the list stand that a span of bytes is.
-/** @type {(bytes: Uint8Array, span: Span) => Span[]} */
-const spansIn = (bytes, [begin, end]) => there(elementsOf(bytes.subarray(begin, end))).map(([one, other]) => tight(bytes, [begin + one, begin + other]));
+// Where the elements of the list stand that a span of bytes is, or the first of them.
+/** @type {(bytes: Uint8Array, span: Span, most?: number) => Span[]} */
+const spansIn = (bytes, [begin, end], most = Infinity) => there(elementsOf(bytes.subarray(begin, end), most)).map(([one, other]) => tight(bytes, [begin + one, begin + other]));
+
+// Where the body of an entry stands.
+/** @type {(bytes: Uint8Array, span: Span) => Span} */
+const bodyIn = (bytes, span) => spansIn(bytes, span, 2)[1];
 
 // The bytes with others in the place of some spans, [[span, piece]] in their order.
 /** @type {(bytes: Uint8Array, changes: [Span, Uint8Array][]) => Uint8Array} */
@@ -304,9 +309,15 @@ export class SessionFile {
     return this.read;
   }
 
-  // Those that are read.
+  // Those that are read, or soon are.
   get entriesAtHand() {
-    return this.read ?? [];
+    return this.bytes.length <= SHORT_FILE ? this.entries : this.read ?? [];
+  }
+
+  // The sessions as they are written.
+  get texts() {
+    const reading = new TextDecoder();
+    return this.entries.length === 0 ? [] : this.spans().map(([begin, end]) => reading.decode(this.bytes.subarray(begin, end)));
   }
 
   // How many sessions it has.
@@ -314,9 +325,10 @@ export class SessionFile {
     return this.counted ?? this.entries.length;
   }
 
-  // Lets go what was read, which may take thirty times the room of its bytes: it is read again once it is asked for.
+  // Lets go what was read of a long file, which may take thirty times the room of its bytes: it is read again once it is asked for.
   forget() {
-    if (this.read !== null) this.counted = this.read.length;
+    if (this.read === null || this.bytes.length <= SHORT_FILE) return;
+    this.counted = this.read.length;
     this.read = null;
   }
 
@@ -349,7 +361,7 @@ export class SessionFile {
 
   // Where the text of each session stands.
   sourceSpans() {
-    return this.spans().map((span) => spansIn(this.bytes, spansIn(this.bytes, span)[1])[0]);
+    return this.spans().map((span) => spansIn(this.bytes, bodyIn(this.bytes, span), 1)[0]);
   }
 
   spans() {
@@ -373,7 +385,7 @@ export class SessionFile {
   // The file with another value at a place of the lists of some sessions, [[number, value]].
   withParts(place, changes) {
     const spans = this.spans(), sorted = [...changes].sort(([one], [other]) => one - other);
-    const at = ([number]) => spansIn(this.bytes, spansIn(this.bytes, spans[number])[1])[place];
+    const at = ([number]) => spansIn(this.bytes, bodyIn(this.bytes, spans[number]), place + 1)[place];
     return new SessionFile(this.name, spliced(this.bytes, sorted.map((change) => [at(change), encoded(change[1])])));
   }
 

@@ -3,7 +3,7 @@
 
 // What Unicode calls white space.
 const SPACE = /[\t-\r \x85\xa0\u1680\u2000-\u200a\u2028\u2029\u202f\u205f\u3000]/;
-const MOST_OF_A_SOURCE = 1_048_576; // bytes of a text that is played
+export const MOST_OF_A_SOURCE = 1_048_576; // bytes of a text that is played
 const PRINTABLE = /[\n\r -~]+/g;
 const MOST_BEYOND_ASCII = 4096; // letters of a line that are no printable ASCII, as marks above marks, scripts that run both ways, or tabs,
 const MOST_BEYOND_IN_ALL = 32_768; // such letters of all lines,

@@ -15,6 +15,7 @@ import { mayRead, readerIn, rehearse, slowTold } from "../../web/rehearsing.mjs"
 import { MOST_SESSIONS, Refusal, SessionFile, refusalTold } from "../../web/session-file.mjs";
 import { differenceOf, rowsOf, sessionOpened } from "../../web/suite.mjs";
 import { whyNoField } from "../../web/texts.mjs";
+import { there } from "../../web/there.mjs";
 import { beginning, edited, ticked, withOwnText } from "../../web/work.mjs";
 import { Bench, GAME, comparedWithLines, module } from "./bench.mjs";
 import { IdleWorker } from "./stand-ins.mjs";
@@ -357,11 +358,19 @@ it("of members with one name each is read, as the command reads them", () => {
   assert.throws(() => fileWith(many(10_001, () => "a")), /session 0: its lists have more than 10,000 elements/);
 });
 
-it("a file that was lost keeps its bytes alone, and is read again once it is put back", async () => {
-  const bench = new Bench(), entries = [0, 1].map((input) => ({ source: GAME, inputs: [input], level: "", index: 0 })), file = fileOf(entries);
-  await bench.act(withOtherFile, file);
-  const lost = { ...bench.state, isUnsaved: true }, next = remembering(lost, { ...lost, file: null, isUnsaved: false });
-  assert.deepEqual([next.past.at(-1).file === file, file.entriesAtHand.length, file.count, file.entriesAtHand.length], [true, 0, 2, 0]);
-  assert.deepEqual(file.entries.map(({ inputs }) => inputs), [[0], [1]]);
-  assert.deepEqual([file.entriesAtHand.length, SessionFile.kept("f.json", file.bytes).entriesAtHand, SessionFile.kept("f.json", file.bytes).count], [2, [], 2]);
+it("a long file that was lost keeps its bytes alone, and is read again once it is put back", async () => {
+  for (const length of [0, 140_000]) {
+    const bench = new Bench(), file = fileOf([0, 1].map((input) => ({ source: GAME, inputs: [input], level: "x".repeat(length), index: 0 }))), left = length > 0 ? 0 : 2;
+    await bench.act(withOtherFile, file);
+    const lost = { ...bench.state, isUnsaved: true }, next = remembering(lost, { ...lost, file: null, isUnsaved: false });
+    assert.deepEqual([next.past.at(-1).file === file, file.entriesAtHand.length, file.count, file.entriesAtHand.length], [true, left, 2, left]);
+    assert.deepEqual(file.entries.map(({ inputs }) => inputs), [[0], [1]]);
+    assert.deepEqual([file.entriesAtHand.length, SessionFile.kept("f.json", file.bytes).entriesAtHand.length, SessionFile.kept("f.json", file.bytes).count], [2, left, 2]);
+  }
+});
+
+it("the texts of recordings get line feeds as they are read, in steps, but for those too long to be played", () => {
+  const entryOf = (source) => JSON.stringify(["Test", [source, [0], "background:0,", 0]]), long = "\r\n".repeat(1_048_577), text = `printed ${[GAME.replaceAll("\n", "\r\n"), long].map(entryOf).join("\n and ")}`;
+  const { found } = there(atOnce(handing("console", new TextEncoder().encode(text))));
+  assert.deepEqual(there(found).map(({ source }) => source === long || source === GAME), [true, true]);
 });
