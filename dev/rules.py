@@ -50,7 +50,8 @@ def sentences(top: Path, page: str) -> Iterator[Tuple[str, Place]]:
     for heading, number, lines in blocks_of((top / page).read_text(encoding="utf-8").splitlines()):
         parts = SENTENCE.split(re.sub(r"^(?:-|\d+\.) ", "", " ".join(lines)))
         for text, name in zip(parts[::2], parts[1::2]):
-            yield name, Place(page, number, heading, text.strip())
+            at = next(place for place, line in enumerate(lines) if f"<sub>{name}</sub>" in line)
+            yield name, Place(page, number + at, heading, text.strip())
 
 
 def definitions(top: Path) -> Iterator[Tuple[str, Place]]:

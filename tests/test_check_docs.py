@@ -65,7 +65,7 @@ class OfRules(OnOneRule):
         for kind in ("definition", "function", "case", "body"):
             with self.subTest(kind):
                 self.write(AT[kind], RULE[AT[kind]].replace("number.same", "").lstrip("\n"))
-                self.assertEqual(self.told(), [f"docs/language.md:5: the rule number.same has no {kind}"])
+                self.assertEqual(self.told(), [f"docs/language.md:6: the rule number.same has no {kind}"])
                 self.write("dev/without.txt", f"# Reasons\nnumber.* {kind}: it has none\n")
                 self.assertEqual(self.told(), [])
                 self.write("dev/without.txt", "")
@@ -138,7 +138,7 @@ class OfTheBook(OnOneRule):
             [
                 "# The rule book",
                 "## Numbers (docs/language.md)",
-                "### number.same, docs/language.md:5",
+                "### number.same, docs/language.md:6",
                 "A number is itself. It stays so.",
                 "Definition `same`, crates/pz_one/specs/Lib.antt:6",
                 "    -- the number\n    -- itself\n    abbrev pub same : ℕ → ℕ\n    same n = n",
@@ -158,13 +158,13 @@ class OfTheBook(OnOneRule):
 
     def test_words_choose_by_what_they_begin_and_by_the_id_first(self) -> None:
         self.write("docs/sessions.md", "# Files\n\nThe same numbers. <sub>file.numbers</sub>\n\nAny number stays, and a `large_number`. <sub>file.same</sub>\n")
-        for words, wanted in ((("same",), ["number.same", "file.same", "file.numbers"]), (("FILE", "number"), ["file.numbers", "file.same"]), (("large", "number"), ["file.same"]), (("`",), ["file.same"]), (("umbers",), [])):
+        for words, wanted in ((("same",), ["number.same", "file.same", "file.numbers"]), (("FILE", "number"), ["file.numbers", "file.same"]), (("large", "number"), ["file.same"]), (("`",), ["file.same"]), (("umbers",), []), (("itself",), ["number.same"]), (("large", "file", "nobody"), ["file.same", "file.numbers"])):
             with self.subTest(words):
                 self.assertEqual([it[4:].partition(",")[0] for it in run(self.book, *words).out.splitlines() if it.startswith("### ")], wanted)
 
     def test_words_that_no_rule_has(self) -> None:
-        answer = run(self.book, "number", "nobody")
-        self.assertEqual((answer.status, answer.out, answer.errors), (1, "", "rule-book: no rule has number nobody\n"))
+        answer = run(self.book, "umber", "nobody")
+        self.assertEqual((answer.status, answer.out, answer.errors), (1, "", "rule-book: no rule has umber nobody\n"))
 
     def test_an_option_that_is_none(self) -> None:
         self.assertEqual(run(self.book, "--all").status, 2)

@@ -13,6 +13,9 @@ STAND_IN = f"""#!{sys.executable}
 import os, sys
 print(os.path.basename(os.getcwd()), *sys.argv[1:-1])
 print(*sorted(os.listdir(sys.argv[-1])), sep="\\n")
+print("case=one run=ended status=0 runners=1 races=unchecked output=expected proved=no")
+print("case=two run=ended status=0 runners=1 races=unchecked output=differs proved=no")
+print("case=three run=fault status=1")
 sys.exit(5)
 """
 PUSHES = [it.name for it in (TOP / "conformance/cases").glob("push-*")]
@@ -28,12 +31,12 @@ class Try(InARoom):
         path = {**os.environ, "PATH": f"{rt.parent}:{os.environ['PATH']}"}
         ran = subprocess.run([TOP / "dev/try", *words], env=path, capture_output=True, text=True)
         call, *files = ran.stdout.splitlines() or [""]
-        return ran.returncode, call, [it for it in files if "." not in it], ran.stderr
+        return ran.returncode, call, [it for it in files if not set(it) & set(".=")], ran.stderr
 
     def test_cases_by_name(self) -> None:
         status, call, names, said = self.tried("push-*")
         self.assertEqual((status, call, names), (5, "pz_replayer try --seconds 120 --cases", sorted(PUSHES)))
-        self.assertRegex(said, rf"^dev/try: {len(PUSHES)} of [0-9]+ cases, unproved\n$")
+        self.assertRegex(said, rf"^dev/try: {len(PUSHES)} of [0-9]+ cases, unproved\ndev/try: conformance/cases/two ends otherwise\ndev/try: conformance/cases/three ends otherwise\n$")
 
     def test_a_rule_has_the_cases_that_name_it(self) -> None:
         self.assertEqual(self.tried("play.over")[2], ["all-inputs-show-over-after-the-end"])
@@ -50,6 +53,11 @@ class Try(InARoom):
     def test_what_is_neither_is_reported(self) -> None:
         status, call, names, said = self.tried("pushes")
         self.assertEqual((status, call, names, said), (2, "", [], "dev/try: there is no crate, no rule and no case named 'pushes'\n"))
+
+    def test_help(self) -> None:
+        status, call, _, said = self.tried("--help")
+        self.assertEqual((status, said), (0, ""))
+        self.assertRegex(call, r"^dev/try \[CRATE\|RULE")
 
 
 if __name__ == "__main__":
