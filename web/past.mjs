@@ -95,11 +95,24 @@ function isNameLost({ work: { name } }, after) {
   return !after.past.some((it) => it.work?.name === name);
 }
 
+const FEW = 8; // texts that are looked for one by one
+
+// Whether one of some texts isn't among others. Where both lists begin and end alike, as they do behind an act on one session, little is left to look for.
+function isOneMissing(texts, others) {
+  const most = Math.min(texts.length, others.length);
+  let head = 0, tail = 0;
+  while (head < most && texts[head] === others[head]) head += 1;
+  while (tail < most - head && texts[texts.length - 1 - tail] === others[others.length - 1 - tail]) tail += 1;
+  const left = texts.slice(head, texts.length - tail);
+  if (left.length <= FEW) return left.some((text) => !others.includes(text));
+  const there = among(others);
+  return left.some((text) => !there.has(text));
+}
+
 /** @param {State} before @param {State} after */
 function isFileLost(before, after) {
   if (before.file === null || before.file === after.file || !(before.isUnsaved || after.isUnsaved)) return false;
-  const there = among(after.file?.texts ?? []);
-  return before.file.texts.some((it) => !there.has(it)) && !after.past.some((it) => it.file === before.file);
+  return isOneMissing(before.file.texts, after.file?.texts ?? []) && !after.past.some((it) => it.file === before.file);
 }
 
 // What of one state isn't there any more in the next: { text, work, file, isUnsaved }, each only where it is lost; null where nothing is.

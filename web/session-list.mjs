@@ -14,8 +14,8 @@ const isOf = (row, close) => close === "all" || (close === "diverges" && row.par
 
 // The numbers of the rows of a close (or "all", "diverges") whose names have a text in them.
 export function listed(rows, close, text) {
-  const wanted = text.toLowerCase();
-  return [...rows.keys()].filter((number) => isOf(rows[number], close) && rows[number].name.toLowerCase().includes(wanted));
+  const wanted = text.toLowerCase(), isNamed = ({ name }) => wanted === "" || name.toLowerCase().includes(wanted);
+  return [...rows.keys()].filter((number) => isOf(rows[number], close) && isNamed(rows[number]));
 }
 
 // Whether a session needs a look: it did not pass, or isn't solved and must be, or diverges from the run that it is compared with.

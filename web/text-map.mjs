@@ -4,8 +4,8 @@ const chance = () => Math.floor(2 ** 32 * Math.random());
 
 const FIRST_SUM = chance(), TIMES = chance() | 1;
 
-const SHORT_TEXT = 4096; // letters, whose sum is made as soon as it is found
-const MOST_SUMS = 32; // that are remembered: a file must have as many other long texts between two places of one, for that to be summed again
+const SHORT_TEXT = 65_536; // letters, whose sum is made as soon as it is found
+const MOST_SUMS = 8; // that are remembered: a file must have as many other long texts between two places of one, for that to be summed again
 
 let sums = []; // the sums of the long texts that were asked for last, since many sessions may be of one: { text, sum }
 

@@ -374,3 +374,17 @@ it("the texts of recordings get line feeds as they are read, in steps, but for t
   const { found } = there(atOnce(handing("console", new TextEncoder().encode(text))));
   assert.deepEqual(there(found).map(({ source }) => source === long || source === GAME), [true, true]);
 });
+
+it("a changed file is lost where one of its sessions stands nowhere in the next, in whatever order those stand there", async () => {
+  const bench = new Bench(), all = Array.from({ length: 24 }, (_, number) => ({ source: GAME, inputs: Array(number).fill(0), level: "", index: 0 }));
+  await bench.act(withOtherFile, SessionFile.empty("f.json"));
+  const textsIn = (numbers) => JSON.stringify(numbers.map((number) => [`${number}`, [all[number].source, all[number].inputs, "", 0]])), fileWith = (numbers) => new SessionFile("f.json", bytesOf(textsIn(numbers)));
+  const isLost = (before, after) => {
+    const state = { ...bench.state, file: fileWith(before), isUnsaved: true }, { past } = remembering(state, { ...state, file: fileWith(after) });
+    return past.length > state.past.length;
+  };
+  const some = [...all.keys()].slice(0, 20);
+  for (const after of [some, [...some].reverse(), [...some, 20], [20, ...some], [...some.slice(0, 9), 20, 21, ...some.slice(9)]]) assert.equal(isLost(some, after), false);
+  for (const after of [[], some.slice(1), some.slice(0, -1), some.filter((it) => it !== 7), some.map((it) => (it === 7 ? 20 : it)), [...some].reverse().slice(1), [20, 21, 22, 23]]) assert.equal(isLost(some, after), true);
+  assert.deepEqual([isLost([1, 1], [1]), isLost([1, 2, 1], [1, 2])], [false, false]);
+});
