@@ -14,7 +14,7 @@ import { Clocks } from "./ticks.mjs";
 import { beginning } from "./work.mjs";
 
 const LONG = 65_536; // bytes of a file that is read so: none of fewer takes long
-const MOST_OF_A_STEP = 4000; // milliseconds that the worker may give no word
+const MOST_OF_A_STEP = 3000; // milliseconds that the worker may give no word
 const MOST_OF_BEGINNING = 30_000; // milliseconds until its first word
 const OFTEN = 200; // milliseconds after which a word is given
 const NAMED = { nameOf: ({ name }) => name || "a recording" }; // names from the texts themselves are read in steps

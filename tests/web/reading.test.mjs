@@ -337,7 +337,7 @@ test("only a long file is read so, and one that is stopped is told apart from on
   assert.deepEqual(asked, [{ name: "long", bytes: long, text: "a text", former: null }, { name: "long", bytes: long, text: "a text", former: { name: "f.json", bytes: bytesOf([]) } }]);
   stopping.abort();
   assert.equal(await mayRead("long", long, state, answering(false), stopping.signal), null);
-  const slow = "keeps its reader busy for over 4 seconds, in which the page would stand still";
+  const slow = "keeps its reader busy for over 3 seconds, in which the page would stand still";
   for (const short of [null, { name: "open.json", bytes: new Uint8Array(65_535) }]) assert.equal(slowTold("x.json", short), `x.json ${slow}: play it by the command`);
   assert.equal(slowTold("x.json", { name: "open.json", bytes: long }), `x.json ${slow}: play it by the command, or, if its recordings are to be added to open.json, close that first`);
 });
