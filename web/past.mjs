@@ -95,7 +95,7 @@ function isNameLost({ work: { name } }, after) {
   return !after.past.some((it) => it.work?.name === name);
 }
 
-const FEW = 8; // texts that are looked for one by one
+const FEW_LEFT = 8; // texts that are looked for one by one
 
 // Whether one of some texts isn't among others. Where both lists begin and end alike, as they do behind an act on one session, little is left to look for.
 function isOneMissing(texts, others) {
@@ -104,7 +104,7 @@ function isOneMissing(texts, others) {
   while (head < most && texts[head] === others[head]) head += 1;
   while (tail < most - head && texts[texts.length - 1 - tail] === others[others.length - 1 - tail]) tail += 1;
   const left = texts.slice(head, texts.length - tail);
-  if (left.length <= FEW) return left.some((text) => !others.includes(text));
+  if (left.length <= FEW_LEFT) return left.some((text) => !others.includes(text));
   const there = among(others);
   return left.some((text) => !there.has(text));
 }

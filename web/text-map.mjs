@@ -4,10 +4,8 @@ const chance = () => Math.floor(2 ** 32 * Math.random());
 
 const FIRST_SUM = chance(), TIMES = chance() | 1;
 
-const SHORT_TEXT = 65_536; // letters, whose sum is made as soon as it is found
-const MOST_SUMS = 8; // that are remembered: a file must have as many other long texts between two places of one, for that to be summed again
-
-let sums = []; // the sums of the long texts that were asked for last, since many sessions may be of one: { text, sum }
+const SHORT_TEXT = 64; // letters, whose sum is made as soon as it is found
+const LONG_TEXT = 65_536;
 
 function madeSum(text) {
   let sum = FIRST_SUM;
@@ -15,12 +13,27 @@ function madeSum(text) {
   return sum;
 }
 
+// The sums of the texts that were asked for last, since many sessions may be of one.
+class LastSums {
+  constructor(most) {
+    this.most = most;
+    this.last = []; // { text, sum }
+  }
+
+  of(text) {
+    const known = this.last.find((it) => it.text === text) ?? { text, sum: madeSum(text) };
+    if (this.last[0] !== known) this.last = [known, ...this.last.filter((it) => it !== known)].slice(0, this.most);
+    return known.sum;
+  }
+}
+
+// More of the long ones, which are few, since a file can't have many: to compare a text with some others may take as long as its sum.
+const lastLong = new LastSums(8), lastOther = new LastSums(3);
+
 // A sum of all letters of a text, which nobody knows who writes it.
 function sumOf(text) {
   if (text.length <= SHORT_TEXT) return madeSum(text);
-  const known = sums.find((it) => it.text === text) ?? { text, sum: madeSum(text) };
-  if (sums[0] !== known) sums = [known, ...sums.filter((it) => it !== known)].slice(0, MOST_SUMS);
-  return known.sum;
+  return (text.length < LONG_TEXT ? lastOther : lastLong).of(text);
 }
 
 export class TextMap {
