@@ -97,7 +97,7 @@ function isNameLost({ work: { name } }, after) {
 
 const FEW_LEFT = 8; // texts that are looked for one by one
 
-// Whether one of some texts isn't among others. Where both lists begin and end alike, as they do behind an act on one session, little is left to look for.
+// Whether one of some texts isn't among others. Mostly both lists begin and end alike, and little is left to look for.
 function isOneMissing(texts, others) {
   const most = Math.min(texts.length, others.length);
   let head = 0, tail = 0;

@@ -325,7 +325,7 @@ export class SessionFile {
     return this.counted ?? this.entries.length;
   }
 
-  // Lets go what was read of a long file, which may take thirty times the room of its bytes: it is read again once it is asked for.
+  // Lets go what was read of a long file, which may take thirty times the room of its bytes.
   forget() {
     if (this.read === null || this.bytes.length <= SHORT_FILE) return;
     this.counted = this.read.length;

@@ -13,7 +13,7 @@ function madeSum(text) {
   return sum;
 }
 
-// The sums of the texts that were asked for last, since many sessions may be of one.
+// The sums of the last texts, since many sessions may be of one.
 class LastSums {
   constructor(most) {
     this.most = most;
@@ -27,7 +27,7 @@ class LastSums {
   }
 }
 
-// More of the long ones, which are few, since a file can't have many: to compare a text with some others may take as long as its sum.
+// Fewer of the others: to compare a text with many may take as long as its sum.
 const lastLong = new LastSums(8), lastOther = new LastSums(3);
 
 // A sum of all letters of a text, which nobody knows who writes it.
