@@ -30,7 +30,7 @@ function entriesIn(text) {
 
 const isLines = (text) => text.trimStart()[0] === "{" && !text.includes('"source"');
 
-// Recordings with a line feed at the end of each line of their texts. A text that is too long to be played also then stays as it is.
+// Recordings with line feeds alone at the ends of lines. A text too long to be played also then stays as it is.
 function* inLines(recordings) {
   const made = [];
   for (const it of recordings) {

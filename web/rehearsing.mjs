@@ -110,7 +110,7 @@ export async function mayRead(name, bytes, { text, file }, read, signal) {
   return signal.aborted ? null : isRead;
 }
 
-// That a file isn't read. It may be a long one that is open, to which recordings would be added, which takes so long.
+// That a file isn't read: it, or the open one to which its recordings would be added, takes too long.
 export function slowTold(name, file) {
   const told = `${name} keeps its reader busy for over ${MOST_OF_A_STEP / 1000} seconds, in which the page would stand still: play it by the command`;
   return file === null || file.bytes.length < LONG ? told : `${told}, or, if its recordings are to be added to ${file.name}, close that first`;

@@ -21,7 +21,7 @@ export class Refusal extends Error {}
 export const MOST_INPUTS = 65_536;
 export const MOST_SESSIONS = 65_536; // that come into the page: the engine plays no more, and each key would take seconds beside millions
 const MOST_BYTES = 16_777_216; // of a file that the engine plays
-const SHORT_FILE = 131_072; // bytes of one in which sessions are looked for though it isn't open: sixty take a moment
+const SHORT_FILE = 131_072; // bytes of one in which sessions are looked for, though it isn't open
 
 const isInput = (value) => WORDS.includes(value) || (Number.isInteger(value) && value >= 0 && value <= 4);
 
@@ -86,7 +86,7 @@ function isNearlyDemand(value, { isDemand }) {
   return value !== DEMAND && (isDemand || (ALIKE.has(letters.length) && lettersInOrder(DEMAND, letters) >= there(ALIKE.get(letters.length))));
 }
 
-// The bytes of JSON with a list of names and values in the place of each object: of members with one name JSON.parse leaves the last.
+// The bytes of JSON with lists in the place of objects: of members with one name JSON.parse leaves the last.
 function withoutObjects(bytes) {
   const made = bytes.slice();
   let isText = false;
@@ -132,7 +132,7 @@ export function bodyFault([source, inputs, level, index = null]) {
   return [source, level].some(hasHalfALetter) ? HALF : null;
 }
 
-// What makes a value no entry of a sessions file, or null. Where it was read from a text that has objects, `whole` is the same with lists in their place.
+// What makes a value no entry of a sessions file, or null. `whole` is the same with lists in the place of objects.
 export function faultOf(entry, whole = undefined) {
   if (!Array.isArray(entry) || typeof entry[0] !== "string" || !Array.isArray(entry[1])) return "it is no list of a name and a list";
   const [name, body, ...rest] = entry;
@@ -325,7 +325,7 @@ export class SessionFile {
     return this.counted ?? this.entries.length;
   }
 
-  // Lets go what was read of a long file, which may take thirty times the room of its bytes.
+  // Lets go what was read of a long file: it may take thirty times its bytes.
   forget() {
     if (this.read === null || this.bytes.length <= SHORT_FILE) return;
     this.counted = this.read.length;

@@ -27,7 +27,7 @@ class LastSums {
   }
 }
 
-// Fewer of the others: to compare a text with many may take as long as its sum.
+// Fewer of the others: comparing takes as long as summing.
 const lastLong = new LastSums(8), lastOther = new LastSums(3);
 
 // A sum of all letters of a text, which nobody knows who writes it.
