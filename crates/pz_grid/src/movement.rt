@@ -61,7 +61,7 @@ fn neighbour<const N: usize>(sheet: &Sheet<N>, dir: Dir, x: u32, y: u32) -> Opti
     }
 }
 
-/// Where a piece goes, if that is on the map and free on its layer.
+/// Where a piece goes, if that is on the map and free on its layer. Rule `move.object`.
 fn goal<const N: usize>(sheet: &Sheet<N>, x: u32, y: u32, mover: Mover) -> Option<(u32, u32)>
     requires on_map { IsOnMap sheet.now.grid x y }
     requires layer_in { mover.layer < sheet.now.grid.depth }

@@ -422,8 +422,8 @@ impl Level {
 }
 
 /// The places of a row in a level, in the order of the scan. Left and right scan row by row from the top, each from the left. Up and down
-/// scan column by column from the left, each from the top. At one start gaps ascend. `MatchLimit`: there are more than `MATCH_LIMIT`.
-/// Rule `match.places`.
+/// scan column by column from the left, each from the top. At one start gaps ascend. `MatchLimit`: there are more than `MATCH_LIMIT`. Err:
+/// memory was refused. Rule `match.places`.
 pub fn places(
     alloc: Global,
     level: &Level,
@@ -449,7 +449,7 @@ pub fn places(
 
 /// The places of a row as `places` gives them, and how many cells a search tests as starts of the row. It tests only lines that `admitted`
 /// counts, and each cell at most once. In a line of up to 128 cells it tests only those that fit by the positions of the objects named
-/// before the row's gap, headings aside. In a longer line it tests all cells, unless it skips the line.
+/// before the row's gap, headings aside. In a longer line it tests all cells, unless it skips the line. Err: memory was refused.
 pub fn places_counted(
     alloc: Global,
     level: &Level,

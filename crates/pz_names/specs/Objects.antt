@@ -75,7 +75,7 @@ name_line_of paragraph = paragraph.line
 abbrev pub paragraph_at : Paragraph → ℕ
 paragraph_at paragraph = paragraph.line.number
 
--- one of the names is among those above, or is repeated
+-- checks.objects: one of the names is among those above, or is repeated
 abbrev pub has_repeat : List (List ℕ) → List (List ℕ) → Bool
 has_repeat above [] = false
 has_repeat above (name ∷ names) = is_name_of above name || has_repeat (above ++ name ∷ []) names

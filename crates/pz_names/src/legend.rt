@@ -187,7 +187,7 @@ fn define(
 }
 
 /// Reads the definitions of LEGEND, and adds their names. Or the fault of the first line that is no definition (`BadLegend`), defines a
-/// name that is there already (`Duplicate`), or one name too many (`TooLarge`). Rule `legend.lines`.
+/// name that is there already (`Duplicate`), or one name too many (`TooLarge`). Err: memory was refused. Rule `legend.lines`.
 pub fn definitions(
     alloc: Global,
     names: &mut NameSet,

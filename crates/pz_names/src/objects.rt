@@ -243,7 +243,8 @@ fn name_lines(alloc: Global, paragraphs: Vec<Paragraph>) -> Result<Vec<NameLine>
 }
 
 /// The name line of each object, and all names of OBJECTS; or the first fault, at the name line of an object. It is `BadObject` (no colours
-/// directly after the name line, or sprite rows that aren't five of five), `Duplicate` or `TooLarge`. Rule `objects.names`.
+/// directly after the name line, or sprite rows that aren't five of five), `Duplicate` or `TooLarge`. Err: memory was refused.
+/// Rule `objects.names`.
 pub fn read_objects(
     alloc: Global,
     lines: &[Line],

@@ -69,7 +69,7 @@ fn denoted(
 
 /// What each name of a source denotes, or the first fault of its legend. Line by line it is `BadLegend` (the form), `Duplicate` or
 /// `TooLarge`. Then it is `Unknown`, then `BadLegend` (a name that reaches itself), then `Mixed`. `names` has the names of OBJECTS, and
-/// gets those of LEGEND after them.
+/// gets those of LEGEND after them. Err: memory was refused.
 pub fn read_legend(
     alloc: Global,
     objects: &[NameLine],

@@ -59,7 +59,7 @@ fn read_plan(
     planned(alloc, rule, left.items(), right.items())
 }
 
-/// The plan of a rule, late or not, or its first fault. Its rows have the shape of rows.
+/// The plan of a rule, late or not, or its first fault. Its rows have the shape of rows. Err: memory was refused.
 #[tactic(auto, using(crate::proofs::Shaping::shaped))]
 pub fn plan_of(
     alloc: Global,

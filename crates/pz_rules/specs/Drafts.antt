@@ -57,7 +57,7 @@ with_loop_closed draft =
       | Some groups ↦ record { done = with_loop d.done groups; repeated = None; group = None; pairs = d.pairs }
     ]
 
--- rules.loop-joins: a `+` rule without a rule right above it, or with `late` in a group that isn't late
+-- rules.loop-joins, rules.late: a `+` rule without a rule right above it, or with `late` in a group that isn't late
 unfoldable pub is_misplaced : Draft → Rule → Bool
 is_misplaced draft rule =
     rule.is_joined && elim draft.group [ None ↦ true | Some group ↦ is_late_rule rule && not group.is_late ]

@@ -285,7 +285,7 @@ fn add_line(
     }
 }
 
-/// The draft with a line, or the first fault of the line. Rule `checks.rules`.
+/// The draft with a line, or the first fault of the line. Err: memory was refused. Rule `checks.rules`.
 pub fn line_added(
     patterns: &mut Patterns,
     game: &Game,

@@ -79,7 +79,8 @@ fn expansion_within(
     Ok(unless_clash(total, instances))
 }
 
-/// The instances of a rule, late or not, or its first fault. So many lines of RULES stand below it, and the rules above it have so many pairs.
+/// The instances of a rule, late or not, or its first fault. So many lines of RULES stand below it, and the rules above it have so many
+/// pairs. Err: memory was refused.
 pub fn expanded(
     patterns: &mut Patterns,
     table: &[Denotation],

@@ -114,8 +114,8 @@ unfoldable pub won_link : Frame → State → Option ℕ → Link State
 won_link won state None = ending won state
 won_link won state (Some next) = loading won (loaded_at state.game state.program state.order state.recorded next)
 
--- play.checkpoint: no win: a checkpoint makes the level the target, and `again` asks for one more tick if the step changed the
--- level
+-- play.checkpoint, play.again: no win: a checkpoint makes the level the target, and `again` asks for one more tick if the step
+-- changed the level
 unfoldable pub kept_link : FrameKind → Commands → Bool → State → Link State
 kept_link kind commands changed state = record {
   shown = frame_of state kind ∷ [];

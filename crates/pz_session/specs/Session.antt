@@ -29,7 +29,7 @@ closing verdict = record { shown = []; close = Some verdict }
 abbrev pub showing : ℕ → List Frame → Played → Played
 showing at frames later = record { shown = map (λ frame. (at, frame)) frames ++ later.shown; close = later.close }
 
--- how many ticks may follow an input's first link, which may be a tick itself
+-- play.again-limit: how many ticks may follow an input's first link, which may be a tick itself
 abbrev pub ticks_after : Input → ℕ
 ticks_after Tick = MOST_TICKS - 1
 ticks_after _ = MOST_TICKS

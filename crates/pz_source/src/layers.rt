@@ -196,7 +196,7 @@ fn known_layers(alloc: Global, table: Vec<Option<usize>>) -> Result<Vec<usize>, 
 }
 
 /// The layer of each object, and the number of layers; or the first fault of COLLISIONLAYERS. Line by line it is `Unknown`, `Mixed` (an
-/// aggregate) or `TooLarge`; then it is `NoLayer` at the name line of an object. Rule `layers.lines`.
+/// aggregate) or `TooLarge`; then it is `NoLayer` at the name line of an object. Err: memory was refused. Rule `layers.lines`.
 pub fn read_layers(
     alloc: Global,
     objects: &[NameLine],

@@ -208,7 +208,7 @@ fn read_entry(
 }
 
 /// The entries of LEVELS, or their first fault: `TooLarge` or `BadGlyph` of an entry, then `NoLevel`, with line 0, if no entry is a level.
-/// Rule `checks.levels`.
+/// Err: memory was refused. Rule `checks.levels`.
 pub fn read_levels(
     alloc: Global,
     names: &NameSet,

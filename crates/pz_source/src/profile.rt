@@ -110,7 +110,7 @@ fn rules_in_profile(
 }
 
 /// The rule lines of a source in the profile. Else `OutsideProfile`, at its line: the first line of the prelude with the keyword
-/// `realtime_interval`, or of RULES with a word `random`, `randomdir` or `rigid`.
+/// `realtime_interval`, or of RULES with a word `random`, `randomdir` or `rigid`. Err: memory was refused.
 pub fn read_rules(
     alloc: Global,
     lines: &[Line],

@@ -82,7 +82,8 @@ fn read_win(
     }
 }
 
-/// The lines of WINCONDITIONS, or their first fault: `BadWin` (a line of another form) or `Unknown` (a name that is not there).
+/// The lines of WINCONDITIONS, or their first fault: `BadWin` (a line of another form) or `Unknown` (a name that is not there). Err: memory
+/// was refused.
 pub fn read_wins(
     alloc: Global,
     names: &NameSet,
