@@ -157,8 +157,8 @@ class OfTheBook(OnOneRule):
         )
 
     def test_words_choose_by_what_they_begin_and_by_the_id_first(self) -> None:
-        self.write("docs/sessions.md", "# Files\n\nThe same numbers. <sub>file.numbers</sub>\n\nAny number stays, and a `large_number`. <sub>file.same</sub>\n")
-        for words, wanted in ((("same",), ["number.same", "file.same", "file.numbers"]), (("FILE", "number"), ["file.numbers", "file.same"]), (("large", "number"), ["file.same"]), (("`",), ["file.same"]), (("umbers",), []), (("itself",), ["number.same"]), (("large", "file", "nobody"), ["file.same", "file.numbers"])):
+        self.write("docs/sessions.md", "# Files\n\nThe same numbers, not another. <sub>file.numbers</sub>\n\nAny number stays, and isn't a `large_number`. <sub>file.same</sub>\n")
+        for words, wanted in ((("same",), ["number.same", "file.same", "file.numbers"]), (("FILE", "number"), ["file.numbers", "file.same"]), (("large", "number"), ["file.numbers", "file.same"]), (("large", "stays"), ["file.same"]), (("`",), ["file.same"]), (("umbers",), []), (("itself",), ["number.same"]), (("another", "number"), ["file.numbers"]), (("isn", "stays"), ["file.same"]), (("isn", "itself"), ["number.same"]), (("large", "file", "nobody"), ["file.same", "file.numbers"])):
             with self.subTest(words):
                 self.assertEqual([it[4:].partition(",")[0] for it in run(self.book, *words).out.splitlines() if it.startswith("### ")], wanted)
 

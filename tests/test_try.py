@@ -12,10 +12,10 @@ from tool import TOP, InARoom
 STAND_IN = f"""#!{sys.executable}
 import os, sys
 print(os.path.basename(os.getcwd()), *sys.argv[1:-1])
-print(*sorted(os.listdir(sys.argv[-1])), sep="\\n")
-print("case=one run=ended status=0 runners=1 races=unchecked output=expected proved=no")
-print("case=two run=ended status=0 runners=1 races=unchecked output=differs proved=no")
-print("case=three run=fault status=1")
+print(*sorted(os.listdir(sys.argv[-1])), sep="\\n", flush=True)
+print("case=one run=ended status=0 runners=1 races=unchecked output=expected proved=no", file=sys.stderr)
+print("case=two run=ended status=0 runners=1 races=unchecked output=differs proved=no", file=sys.stderr)
+print("case=three run=fault status=1", file=sys.stderr)
 sys.exit(5)
 """
 PUSHES = [it.name for it in (TOP / "conformance/cases").glob("push-*")]
