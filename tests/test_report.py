@@ -147,6 +147,18 @@ class Report(OnSessions):
             self.assertEqual(([caption for caption, _ in session["sides"]], session["told"]), (captions, f"the recorded level has {count} cells, and the one that was reached 2"))
             self.assertEqual(max(map(len, page.json("index")["notes"])), len("a game: ") + 200 + len("..") + len("."))
 
+    def test_a_frame_that_a_browser_would_read_for_long_has_its_sides_or_its_beginning_alone(self) -> None:
+        sessions = self.write("sessions.json", json.dumps([["large", ["", [0, 0, 0], "background:0,"]]]))
+        names = "a,b" * 700_000
+        levels = [f"background:0,{'0,' * 16_383}", f"background:0,{'0,' * 16_384}", "background:0,0,\n" + "0,0,\n" * 9_999, names, "a,b:0,"]
+        frames = [{"at": min(at, 3), "frame": at, "kind": "move" if at else "start", "level": level, "session": 0} for at, level in enumerate(levels)]
+        close = {"close": "differs", "frames": len(levels), "name": "large", "session": 0}
+        session = self.page(sessions, self.write("lines", "".join(json.dumps(it) + "\n" for it in [*frames, close]))).json("session-0")
+        (played, shown), *_ = session["sides"]
+        changes = [change for _, _, change in shown]
+        self.assertEqual((played, {**changes[0], "cells": len(changes[0]["cells"])}), ("played", {"width": 16_384, "cells": 16_384}))
+        self.assertEqual(changes[1:], [{"width": 16_385, "height": 1}, {"width": 2, "height": 10_000}, {"text": f"{names[:200]}.."}, {"text": "a,b:0,"}])
+
     def test_a_session_in_another_level_is_reported_as_such(self) -> None:
         lines = self.lines.read_text(encoding="utf-8").split("\n")
         entries = json.loads(EXAMPLE.read_text(encoding="utf-8"))

@@ -1,9 +1,10 @@
 // @ts-check
 // Levels beside one another on both pages: how large they are drawn, which part of them is seen, which cells are framed, and what stands in a cell.
 import { DifferingCells, InWords, cellTold } from "./cells.mjs";
-import { Pictures, SIDE, cellBelow, drawLevel, scaleFor } from "./drawing.mjs";
+import { cellBelow, drawLevel, forgetShown, scaleFor } from "./drawing.mjs";
 import { at, isMotionReduced } from "./elements.mjs";
 import { differing, heightOf, isDrawn, numberAt, placeOf } from "./levels.mjs";
+import { Pictures, SIDE } from "./pictures.mjs";
 import { put, putAttribute, putText } from "./saying.mjs";
 
 const DIFFERS = "#ff85ad";
@@ -31,6 +32,7 @@ export class Boards {
     this.cells = new DifferingCells((number) => { this.draw(); this.reveal(number); });
     this.places.forEach(([canvas], place) => {
       for (const kind of ["pointermove", "pointerdown"]) at(canvas).addEventListener(kind, (event) => this.pointAt(place, event));
+      at(canvas).addEventListener("contextrestored", () => this.drawAnew(canvas));
     });
     at("smaller").addEventListener("click", () => this.zoomBy(-1));
     at("larger").addEventListener("click", () => this.zoomBy(1));
@@ -81,6 +83,12 @@ export class Boards {
     put(at("blink"), { hidden: !this.isCompared });
     putAttribute(at("blink"), "aria-pressed", String(this.blinking !== null));
     this.page.drawn?.(room, levels.filter(isDrawn), this.scale);
+  }
+
+  // Draws all where a browser has lost what a canvas showed, as when its graphics were taken away.
+  drawAnew(canvas) {
+    forgetShown(at(canvas));
+    this.draw();
   }
 
   drawSide(canvas, captionBeside, { level, caption, told, changed = [], headings = [] }) {

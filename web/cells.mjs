@@ -5,6 +5,7 @@ import { heightOf, isDrawn, numberAt } from "./levels.mjs";
 import { put, putText } from "./saying.mjs";
 
 const MOST_LISTED = 300;
+const MOST_IN_WORDS = 100_000; // letters of all rows, and of all cells listed: of some scripts a browser takes a second to lay these out
 const MOST_OF_A_CELL = 400; // letters of what is told of one: a stranger's level may have millions of them, in each cell
 
 // What stands in a cell, by the names of its objects, as far as they are told.
@@ -32,6 +33,16 @@ export function rowsInWords(level, namesOf) {
   });
 }
 
+// The first of these texts, as many as have at most so many letters together.
+function firstOf(texts, most) {
+  let count = 0;
+  for (let letters = 0; count < texts.length; count += 1) {
+    letters += texts[count].length;
+    if (letters > most) break;
+  }
+  return texts.slice(0, count);
+}
+
 // A level in words, made once somebody looks.
 export class InWords {
   constructor() {
@@ -48,7 +59,8 @@ export class InWords {
 
   draw() {
     if (!at("in-words").open || this.level === null) return;
-    fill(at("words"), rowsInWords(this.level, this.namesOf).map((row) => make("li", "", row)));
+    const rows = rowsInWords(this.level, this.namesOf), told = firstOf(rows, MOST_IN_WORDS), more = rows.length - told.length;
+    fill(at("words"), [...told.map((row) => make("li", "", row)), ...(more > 0 ? [make("li", "faint", `and ${plural(more, "row")} more`)] : [])]);
   }
 }
 
@@ -84,14 +96,14 @@ export class DifferingCells {
 
   draw() {
     const first = Math.max(0, Math.min(this.cells.length - MOST_LISTED, (this.current ?? 0) - Math.floor(MOST_LISTED / 2)));
-    const listed = this.cells.slice(first, first + MOST_LISTED), more = this.cells.length - listed.length;
-    const items = listed.map((cell, place) => this.item(cell, first + place));
+    const told = firstOf(this.cells.slice(first, first + MOST_LISTED).map((cell) => this.told(cell)), MOST_IN_WORDS), more = this.cells.length - told.length;
+    const items = told.map((text, place) => this.item(text, first + place));
     at("differing").replaceChildren(...items, ...(more > 0 ? [make("li", "faint", `and ${plural(more, "cell")} more`)] : []));
     putText(at("chosen-cell"), this.current === null ? "" : `${this.current + 1} of ${this.cells.length}: ${this.told(this.chosen)}`);
   }
 
-  item(cell, place) {
-    const item = make("li", "", this.told(cell));
+  item(text, place) {
+    const item = make("li", "", text);
     item.setAttribute("aria-current", String(place === this.current));
     return item;
   }

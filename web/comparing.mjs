@@ -19,7 +19,7 @@ const isLong = (text) => text.length > MOST_OF_A_LEVEL;
 // Whether two level texts spell the same cells.
 function isSameLevel(one, other) {
   if (one === other) return true;
-  if (isLong(one) || isLong(other)) throw new Refusal("the text of a level has more than 2,097,152 letters, and is not read where it is another one here");
+  if (isLong(one) || isLong(other)) throw new Refusal("the text of a level has more than 1,048,576 letters, and is not read where it is another one here");
   const labels = new Labels(), cells = readCells(one, labels), others = readCells(other, labels);
   return cells !== null && others !== null && cells.length === others.length && cells.every((label, at) => label === others[at]) && feedsOf(one) === feedsOf(other);
 }
@@ -93,7 +93,7 @@ export class Ending {
 export function endingTold(ending) {
   const { reached, recorded, cells } = ending;
   if (reached === null) return "the level that was reached can't be read back, since a name of an object in it holds a comma";
-  if (ending.isUnread) return "the text of the recorded level has more than 2,097,152 letters, and is not read";
+  if (ending.isUnread) return "the text of the recorded level has more than 1,048,576 letters, and is not read";
   if (recorded === null) return "the recorded level is no level text";
   if (cells === null) return `the recorded level has ${plural(recorded.cells.length, "cell")}, and the one that was reached ${reached.cells.length}`;
   const order = reached.order, turned = ending.isTurned ? `; the recorded level is this one listed in the other order, not by ${order}` : "";

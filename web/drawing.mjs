@@ -1,91 +1,54 @@
 // @ts-check
-// Draws a level on a canvas, from the look of its game: { ground, objects }. The ground is a colour; each object is
-// [name, layer, colours, sprite], where a colour that is null is transparent, and a sprite is 25 letters (a digit for a colour,
-// or "." for none), or "" for a block of the first colour. A game without objects is one that couldn't be read: its cells are drawn by letters.
+// Draws a level on a canvas, by the pixels of its cells; the cells of a game that couldn't be read are drawn by letters.
 import { drawArrows } from "./arrows.mjs";
 import { differing, heightOf, isDrawn, numberAt, placeOf } from "./levels.mjs";
+import { SIDE } from "./pictures.mjs";
 import { put } from "./saying.mjs";
-import { firstsOf } from "./text-map.mjs";
+import { there } from "./there.mjs";
 
-export const SIDE = 5; // pixels of a sprite
-const ON_CANVAS = new WeakMap(); // for each canvas what it shows: { level, pictures, scale, marked }
-const MOST_PICTURES = 1024; // of cells that are kept
-const LETTER = 40; // pixels of a cell that is drawn by a letter
+const ON_CANVAS = new WeakMap(); // for each canvas what it shows: { level, pictures, scale, marked, sheet }
+const PIXEL_BYTES = 4;
+const LETTER_SHARE = 0.8; // of a cell's side
 const BRIGHT = "#ffffff";
 const DARK = "#000000"; // of the inner line of a frame
 
-function paintObject(context, [, , colours, sprite]) {
-  const pixels = sprite === "" ? [[0, 0, 0, SIDE]] : Array.from(sprite, (letter, number) => [letter, number % SIDE, Math.floor(number / SIDE), 1]);
-  for (const [letter, column, row, side] of pixels) {
-    const colour = letter === "." ? null : colours[Number(letter)];
-    if (!colour) continue;
-    context.fillStyle = colour;
-    context.fillRect(column, row, side, side);
-  }
-}
-
-// Whether nothing below an object is seen.
-function isOpaque([, , colours, sprite]) {
-  return sprite === "" ? Boolean(colours[0]) : Array.from(sprite).every((letter) => letter !== "." && Boolean(colours[Number(letter)]));
-}
-
-// Draws a cell by the first letter of a name in it, that of the background only where there is no other.
-function paintLetter(context, names) {
-  const name = names.find((it) => it !== "background") ?? names[0] ?? " ";
-  Object.assign(context, { font: `${0.8 * LETTER}px monospace`, fillStyle: BRIGHT, textAlign: "center", textBaseline: "middle" });
-  context.fillText(name === "background" ? "." : [...name][0], LETTER / 2, LETTER / 2);
-}
-
-function emptyPicture(side) {
-  const picture = document.createElement("canvas");
-  picture.width = side;
-  picture.height = side;
-  return picture;
-}
-
-// The pictures of a game's objects, and of its cells, each painted once while it is kept: those of so many cells are, since a stranger's level may have
-// thousands that are all unlike. `labels` says for a label which objects stand in the cell, by their names.
-export class Pictures {
-  constructor(look, labels) {
-    this.ground = look.ground;
-    this.objects = firstsOf(look.objects.map((object) => [object[0], { object, isOpaque: isOpaque(object), picture: null }]));
-    this.side = look.objects.length === 0 ? LETTER : SIDE;
-    this.labels = labels;
-    this.pictures = new Map();
+// A level with one pixel for each of a sprite's, of which a canvas shows every pixel enlarged. However unlike its cells are, a browser is then asked for one
+// picture, and not for one of each.
+class Sheet {
+  constructor(level) {
+    this.canvas = document.createElement("canvas");
+    this.canvas.width = level.width * SIDE;
+    this.canvas.height = heightOf(level) * SIDE;
+    this.context = there(this.canvas.getContext("2d"));
+    this.image = this.context.createImageData(this.canvas.width, this.canvas.height);
+    this.pixels = new DataView(this.image.data.buffer);
   }
 
-  // The picture of a cell, up to the next that is asked for.
-  of(label) {
-    const known = this.pictures.get(label);
-    if (known !== undefined) return known;
-    const picture = this.pictures.size < MOST_PICTURES ? emptyPicture(this.side) : this.forgotten();
-    this.paint(picture.getContext("2d"), this.labels[label]);
-    this.pictures.set(label, picture);
-    return picture;
+  // Takes the cells of a level that have these numbers.
+  put(level, numbers, pictures) {
+    for (const number of numbers) this.putCell(...placeOf(level, number), pictures.pixelsOf(level.cells[number]));
+    this.context.putImageData(this.image, 0, 0);
   }
 
-  // The picture that was made first, which is that of no cell any more.
-  forgotten() {
-    const [label, picture] = this.pictures.entries().next().value;
-    this.pictures.delete(label);
-    return picture;
-  }
-
-  paint(context, names) {
-    context.fillStyle = this.ground;
-    context.fillRect(0, 0, this.side, this.side);
-    if (this.side === LETTER) paintLetter(context, names);
-    const there = names.map((name) => this.objects.get(name)).filter(Boolean).sort((one, other) => one.object[1] - other.object[1]);
-    for (const it of there.slice(Math.max(0, there.map((it) => it.isOpaque).lastIndexOf(true)))) context.drawImage(this.ofObject(it), 0, 0);
-  }
-
-  ofObject(it) {
-    if (it.picture === null) {
-      it.picture = emptyPicture(SIDE);
-      paintObject(it.picture.getContext("2d"), it.object);
+  putCell(column, row, pixels) {
+    for (let place = 0; place < pixels.length; place += 1) {
+      const across = column * SIDE + (place % SIDE), down = row * SIDE + Math.floor(place / SIDE);
+      this.pixels.setUint32(PIXEL_BYTES * (down * this.image.width + across), pixels[place]);
     }
-    return it.picture;
   }
+}
+
+// Draws a cell by a letter, and nothing of it beside the cell.
+function drawLetter(context, left, top, size, letter, ground) {
+  context.save();
+  context.beginPath();
+  context.rect(left, top, size, size);
+  context.clip();
+  context.fillStyle = ground;
+  context.fillRect(left, top, size, size);
+  Object.assign(context, { font: `${LETTER_SHARE * size}px monospace`, fillStyle: BRIGHT, textAlign: "center", textBaseline: "middle" });
+  context.fillText(letter, left + size / 2, top + size / 2);
+  context.restore();
 }
 
 // The largest whole number of pixels for a sprite's pixel with which a level fits into a room, from 1 to `most`.
@@ -121,6 +84,9 @@ function frameCells(context, level, size, { cells, colour, isWhole = true, weigh
   }
 }
 
+// Lets go what is known of a canvas, so that the next level is drawn whole.
+export const forgetShown = (canvas) => ON_CANVAS.delete(canvas);
+
 // The cells in which a canvas doesn't show a level: those that changed, or had a mark. Null where it shows another game, or another size.
 function unshown(shown, level, pictures, scale) {
   if (shown === undefined || shown.pictures !== pictures || shown.scale !== scale || shown.level.order !== level.order) return null;
@@ -128,10 +94,36 @@ function unshown(shown, level, pictures, scale) {
   return changed === null ? null : [...new Set(changed.concat(shown.marked))];
 }
 
-function allOf(canvas, level, size) {
+// Makes a canvas as large as a level, with nothing on it; the sheet for it, where the game has pixels.
+function begin(canvas, level, pictures, size) {
   canvas.width = level.width * size;
   canvas.height = heightOf(level) * size;
-  return [...level.cells.keys()];
+  return pictures.isLettered ? null : new Sheet(level);
+}
+
+function drawLetters(context, level, pictures, size, numbers) {
+  for (const number of numbers) {
+    const [column, row] = placeOf(level, number);
+    drawLetter(context, column * size, row * size, size, pictures.letterOf(level.cells[number]), pictures.ground);
+  }
+}
+
+// Enlarges the cells of a sheet that have these numbers.
+function enlarge(context, sheet, level, size, numbers) {
+  for (const number of numbers) {
+    const [column, row] = placeOf(level, number);
+    context.drawImage(sheet.canvas, column * SIDE, row * SIDE, SIDE, SIDE, column * size, row * size, size, size);
+  }
+}
+
+// Draws the cells of a level that have these numbers, or all of them at once where none are named.
+function drawCells(context, level, pictures, size, sheet, numbers) {
+  const them = numbers ?? [...level.cells.keys()];
+  if (sheet === null) return drawLetters(context, level, pictures, size, them);
+  sheet.put(level, them, pictures);
+  context.imageSmoothingEnabled = false;
+  if (numbers !== null) return enlarge(context, sheet, level, size, them);
+  return context.drawImage(sheet.canvas, 0, 0, level.width * size, heightOf(level) * size);
 }
 
 // Draws a level so many pixels for each of a sprite's, of what the canvas shows already only the cells that change. `framed` are cells that get a frame,
@@ -139,16 +131,13 @@ function allOf(canvas, level, size) {
 export function drawLevel(canvas, level, pictures, scale, framed = [], headings = []) {
   put(canvas, { hidden: !isDrawn(level) });
   if (canvas.hidden) return;
-  const size = SIDE * scale, context = canvas.getContext("2d");
-  for (const number of unshown(ON_CANVAS.get(canvas), level, pictures, scale) ?? allOf(canvas, level, size)) {
-    const [column, row] = placeOf(level, number);
-    context.imageSmoothingEnabled = false;
-    context.drawImage(pictures.of(level.cells[number]), column * size, row * size, size, size);
-  }
+  const size = SIDE * scale, shown = ON_CANVAS.get(canvas), numbers = unshown(shown, level, pictures, scale);
+  const sheet = numbers === null ? begin(canvas, level, pictures, size) : shown.sheet, context = canvas.getContext("2d");
+  drawCells(context, level, pictures, size, sheet, numbers);
   for (const frame of framed) frameCells(context, level, size, frame);
   drawArrows(context, headings, size);
   const marked = [...framed.flatMap(({ cells }) => cells), ...headings.map(([column, row]) => numberAt(level, column, row))];
-  ON_CANVAS.set(canvas, { level, pictures, scale, marked });
+  ON_CANVAS.set(canvas, { level, pictures, scale, marked, sheet });
 }
 
 // The column and the row of the cell below a pointer, both from 0.

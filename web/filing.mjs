@@ -44,12 +44,25 @@ export function namesakeOf(state) {
   return opened !== null && entries[opened]?.name === name ? opened : entries.findIndex((entry) => entry.name === name);
 }
 
-// Saves the recording as a session, in the place of another where one is named. A recording over the text at hand has no text of its own.
+// Saves the recording as a session, in the place of another where one is named. A recording over the text at hand has no text of its own. What can't be saved
+// is told.
 /** @param {State} state */
 export function savedAs(state, number = null) {
   if (!isSavable(state) || state.order !== RECORDED_ORDER) return state;
+  try {
+    return withSession(state, number);
+  } catch (error) {
+    if (!(error instanceof Refusal)) throw error;
+    return { ...state, saved: `Not saved: ${error.message}.` };
+  }
+}
+
+/** @param {State} state */
+function withSession(state, number) {
   const { own, inputs, index } = state.work, entry = { name: nameOf(state), source: own ?? "", inputs, level: there(framesOf(state).at(-1)).level, index };
-  const former = state.file ?? SessionFile.empty(RECORDINGS), file = number === null ? former.with(entry) : former.withReplaced(number, entry);
+  const former = state.file ?? SessionFile.empty(RECORDINGS);
+  if (number === null && former.entries.length >= MOST_SESSIONS) throw new Refusal(`${former.name} has 65,536 sessions, and with more it wouldn't be read again`);
+  const file = number === null ? former.with(entry) : former.withReplaced(number, entry);
   const opened = number ?? file.entries.length - 1;
   const next = withFile({ ...state, work: { ...state.work, opened: null } }, file, { work: { ...state.work, opened }, looked: null });
   const demanded = isSolvedWanted(file.entries[opened]) && !state.played?.isSolved ? " It must be solved, and isn't." : "";

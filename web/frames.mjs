@@ -4,7 +4,7 @@ import { differing, isOfOneSize } from "./levels.mjs";
 
 const KEPT = 64; // a whole level is kept for each so many frames
 
-// A whole level, whose labels may be written as letters; one that can't be read back has its text alone.
+// A whole level, whose labels may be written as letters; one that can't be read back has its text alone, and one larger than any that is played its sides.
 function unpacked(level, order, labels) {
   const cells = typeof level.cells === "string" ? Array.from(level.cells, (letter) => labels.get(letter)) : level.cells;
   return { ...level, order, cells };
@@ -79,7 +79,7 @@ export class Run {
 
 // A level's text as docs/sessions.md has it.
 export function textOf(level, names) {
-  if (!level.cells) return level.text;
+  if (!level.cells) return level.text ?? "";
   const numbers = new Map();
   const pieces = level.cells.map((label, place) => {
     const isNew = !numbers.has(label);

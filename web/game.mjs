@@ -84,7 +84,7 @@ export class Game {
     return this.definitions.get(name)?.kind === "property";
   }
 
-  // The game as drawing.mjs draws it. An object without a layer is drawn above all others.
+  // The game as pictures.mjs takes it. An object without a layer is drawn above all others.
   look() {
     const above = 1 + this.objects.reduce((most, { layer }) => Math.max(most, layer ?? 0), 0);
     return { ground: this.ground, objects: this.objects.map(({ name, layer, colours, sprite }) => [name, layer ?? above, colours, sprite]) };

@@ -163,10 +163,14 @@ function suiteTold(state, runs) {
   return countOfOthers(state) > 0 ? { text: `All passed, but not all over the text on the left: ${took}.${behind}`, close: null } : { text: `All passed: ${took}.${behind}`, close: clocks > 0 ? null : "passed" };
 }
 
+// Two engines that both refuse a session are the same, and nothing of it was played.
 /** @param {NonNullable<State["comparison"]>} comparison */
-function comparisonTold({ name, partings }) {
-  const parting = partings.filter((it) => it !== null).length;
-  return { text: `Compared with ${name}: ${partings.length - parting} the same, ${parting} ${parting === 1 ? "diverges" : "diverge"}.`, close: parting === 0 ? "passed" : "differs" };
+function comparisonTold({ name, others, partings }) {
+  const parting = partings.filter((it) => it !== null).length, refused = partings.filter((it, number) => it === null && others[number].close === "refused").length;
+  const unplayed = refused === 0 ? "" : `; ${refused} ${refused === 1 ? "was" : "were"} refused by both, and not played`;
+  const text = `Compared with ${name}: ${partings.length - parting} the same, ${parting} ${parting === 1 ? "diverges" : "diverge"}${unplayed}.`;
+  if (parting > 0) return { text, close: "differs" };
+  return { text, close: refused > 0 || partings.length === 0 ? null : "passed" };
 }
 
 // How the sessions closed: { text, close }.

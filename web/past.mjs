@@ -130,10 +130,9 @@ export function lostIn(before, after) {
 
 const numberOf = ({ number = 0 }) => number;
 
-// Things that were lost now, behind others: each has a number, by which it is known which were lost first, wherever they stand. Of a file its bytes stay.
+// Things that were lost now, behind others: each has a number, by which it is known which were lost first, wherever they stand.
 export function lostNow(things, past) {
   const last = past.reduce((most, it) => Math.max(most, numberOf(it)), 0);
-  things.forEach(({ file }) => file?.forget());
   return things.map((lost, place) => ({ ...lost, number: last + 1 + place }));
 }
 
@@ -159,17 +158,23 @@ export function lastLost(past, others = []) {
 /** @param {State} before @param {State} after */
 const pastBelow = (before, after) => (before.text === after.text ? after.past : leavingText(after.past, before.text));
 
+// What can be put back, of whose files the bytes stay alone.
+function lettingGo(past) {
+  past.forEach(({ file }) => file?.forget());
+  return past;
+}
+
 // The next state, in which can be put back what it lost of the one before.
 /** @param {State} before @param {State} after */
 export function remembering(before, after) {
   const lost = lostIn(before, after), past = pastBelow(before, after);
   if (lost === null) return past === after.past ? after : { ...after, past };
-  return { ...after, past: lastLost([...(lost.text === undefined ? past : after.past), ...lostNow([lost], after.past)]) };
+  return { ...after, past: lettingGo(lastLost([...(lost.text === undefined ? past : after.past), ...lostNow([lost], after.past)])) };
 }
 
 // The next state where what is worked on takes the place of what is put back: that stands first then, and comes last.
 /** @param {State} before @param {State} after */
 export function behindAll(before, after) {
   const lost = lostIn(before, after);
-  return lost === null ? after : { ...after, past: lastLost([...lostNow(withTexts([lost], before.text), after.past), ...after.past]) };
+  return lost === null ? after : { ...after, past: lettingGo(lastLost([...lostNow(withTexts([lost], before.text), after.past), ...after.past])) };
 }

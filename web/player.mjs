@@ -19,8 +19,9 @@ const POINT = "Point at a cell, or tap it, to see what stands in it.";
 
 // Why a level isn't drawn.
 function whyNotDrawn(level) {
-  if (isTooLarge(level)) return `a level ${level.width} wide and ${heightOf(level)} high, larger than any that is played`;
-  return level.text === undefined ? "an empty level text" : `a level text that can't be read back: ${cut(level.text, QUOTED)}`;
+  if (level.text !== undefined) return `a level text that can't be read back: ${cut(level.text, QUOTED)}`;
+  const isLarge = level.height !== undefined || isTooLarge(level); // one with its height comes without its cells
+  return isLarge ? `a level ${level.width} wide and ${level.height ?? heightOf(level)} high, larger than any that is played` : "an empty level text";
 }
 
 export class Player {

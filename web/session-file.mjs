@@ -11,7 +11,7 @@ import { there } from "./there.mjs";
 const WORDS = ["undo", "restart", "tick"];
 const MOST_INDEX = 2 ** 64;
 const HALF_A_LETTER = /\p{Surrogate}/u;
-const BLANK = [0x20, 0x0a, 0x0d, 0x09];
+const isWhite = (byte) => byte === 0x20 || byte === 0x0a || byte === 0x0d || byte === 0x09;
 const QUOTE = 0x22, BACKSLASH = 0x5c;
 const IN_A_LIST = { 0x7b: 0x5b, 0x7d: 0x5d, 0x3a: 0x2c }; // what stands in a list where an object has { or } or :
 
@@ -144,8 +144,8 @@ export function faultOf(entry, whole = undefined) {
 /** @type {(bytes: Uint8Array, span: Span) => Span} */
 function tight(bytes, [begin, end]) {
   let [first, last] = [begin, end];
-  while (first < last && BLANK.includes(bytes[first])) first += 1;
-  while (first < last && BLANK.includes(bytes[last - 1])) last -= 1;
+  while (first < last && isWhite(bytes[first])) first += 1;
+  while (first < last && isWhite(bytes[last - 1])) last -= 1;
   return [first, last];
 }
 
@@ -297,6 +297,7 @@ export class SessionFile {
     this.bytes = bytes;
     this.read = entries;
     this.counted = null; // how many there are, where they were read and let go
+    this.places = null; // where they stand, once that was asked for
   }
 
   // A file that was kept, which is read once its sessions are asked for: many may have been. It has none where they can't be read.
@@ -330,6 +331,7 @@ export class SessionFile {
     if (this.read === null || this.bytes.length <= SHORT_FILE) return;
     this.counted = this.read.length;
     this.read = null;
+    this.places = null;
   }
 
   static empty(name) {
@@ -365,7 +367,8 @@ export class SessionFile {
   }
 
   spans() {
-    return spansIn(this.bytes, [0, this.bytes.length]);
+    this.places ??= spansIn(this.bytes, [0, this.bytes.length]);
+    return this.places;
   }
 
   changedBy(span, piece) {
@@ -429,7 +432,7 @@ const REFUSALS = {
   memory: "there is not enough memory",
   "long-lines": "its lines have more than 512 MiB, or those of a session 256, or than there is memory for: play it by the command, or part by part",
   broken: "the engine stopped at a fault of its own",
-  "long-level": "a level's text has more than 2,097,152 letters, which the page doesn't draw",
+  "long-level": "a level's text has more than 1,048,576 letters, which the page doesn't draw",
   "no-solutions": "the engine of this page is an older one, which solves no levels",
 };
 

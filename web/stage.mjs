@@ -1,6 +1,6 @@
 // @ts-check
 // How the playground shows levels (boards.mjs): beside or below one another, as large as there is room for, and scrolled to what changes.
-import { SIDE } from "./drawing.mjs";
+import { SIDE } from "./pictures.mjs";
 import { at } from "./elements.mjs";
 import { heightOf, isDrawn } from "./levels.mjs";
 import { put } from "./saying.mjs";

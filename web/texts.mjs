@@ -8,6 +8,8 @@ const PRINTABLE = /[\n\r -~]+/g;
 const MOST_BEYOND_ASCII = 4096; // letters of a line that are no printable ASCII, as marks above marks, scripts that run both ways, or tabs,
 const MOST_BEYOND_IN_ALL = 32_768; // such letters of all lines,
 const MOST_LINES_OF_FIELD = 32_768; // and lines: a browser lays out all of a field at once, for minutes where there are many more of any of them
+const LONG_LINE = 8192; // letters; on longer lines a browser takes the longer for each such letter,
+const MOST_ON_LONG_LINES = 2 ** 28; // so their number times the line's letters counts: Firefox takes two seconds for as much
 const END_OF_LINE = /\r\n?|\n/; // in a field
 const LAID_OUT = "which a browser may take minutes to lay out";
 const MOST_LISTS = 1_048_576; // of a text that is read as JSON: of 65,536 sessions each has three; with millions a browser would stand still for half a minute
@@ -19,7 +21,8 @@ export const fold = (text) => text.replace(/[A-Z]/g, (letter) => letter.toLowerC
 // Whether a text is longer than one that is played.
 export const isTooLong = (text) => text.length > MOST_OF_A_SOURCE || (3 * text.length > MOST_OF_A_SOURCE && new TextEncoder().encode(text).length > MOST_OF_A_SOURCE);
 
-const isBeyond = (text, most) => text.length > most && text.replace(PRINTABLE, "").length > most;
+const beyondIn = (text) => text.replace(PRINTABLE, "").length;
+const isBeyond = (text, most) => text.length > most && beyondIn(text) > most;
 
 // Why a text isn't put into the field where it would be edited, in words that go on behind it; or null.
 export function whyNoField(text) {
@@ -27,6 +30,8 @@ export function whyNoField(text) {
   const lines = text.split(END_OF_LINE), at = lines.findIndex((line) => isBeyond(line, MOST_BEYOND_ASCII));
   if (lines.length > MOST_LINES_OF_FIELD) return `has more than 32,768 lines, ${LAID_OUT}`;
   if (at >= 0) return `has more than 4,096 letters beyond printable ASCII on line ${at + 1}, ${LAID_OUT}`;
+  const onLongLines = lines.filter((line) => line.length > LONG_LINE).reduce((sum, line) => sum + line.length * beyondIn(line), 0);
+  if (onLongLines > MOST_ON_LONG_LINES) return `has many letters beyond printable ASCII on very long lines, ${LAID_OUT}`;
   return isBeyond(text, MOST_BEYOND_IN_ALL) ? `has more than 32,768 letters beyond printable ASCII, ${LAID_OUT}` : null;
 }
 

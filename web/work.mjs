@@ -111,8 +111,10 @@ export function cutBack(state) {
   return inputs.length === 0 ? state : cutToPlayed(withWork(state, { ...state.work, inputs: inputs.slice(0, isAtEnd(state) ? -1 : takenOf(state)) }));
 }
 
+const HALVES = /\p{Surrogate}/gu; // of letters: a browser leaves one where a field is full
+
 /** @param {State} state */
-export const named = (state, name) => ({ ...state, work: { ...state.work, name } });
+export const named = (state, name) => ({ ...state, work: { ...state.work, name: name.replace(HALVES, "") } });
 
 /** @param {State} state */
 export const begunAnew = (state) => withWork(state, { ...state.work, inputs: [], name: "", opened: null });

@@ -35,6 +35,8 @@ MOST_NOTES = 50
 LETTERS = "".join(chr(code) for code in range(33, 127) if chr(code) not in "\"\\<>&")
 # A change of so many cells is written as a whole level: a cell of it takes a letter, and one that changed takes its number too.
 DEAR = 5
+# A text that can't be read back is in the page if it has at most so many letters, as web/level-text.mjs has it.
+MOST_OF_A_LEVEL = 2**20
 # How a session stands in the page that passed, and is asked for more.
 FAILED = "failed"
 
@@ -66,14 +68,17 @@ class Levels:
         self.width = 0
 
     def change(self, text: str) -> Any:
-        """What makes the next level of the one before: 0 nothing, a list of cells with their new labels, or a whole level."""
+        """What makes the next level of the one before: 0 nothing, a list of cells with their new labels, or a whole level. Of one that can't be read back
+        that is its text, or the beginning of a long one, and of one with more cells than any that is played its sides: a browser would read it for long."""
         if text == self.text:
             return 0
         cells, before, width = self.follower.read(text), self.cells, self.width
         self.text, self.cells = text, cells
         if cells is None:
-            return {"text": text}
+            return {"text": text if len(text) <= MOST_OF_A_LEVEL else begin_of(text)}
         self.width = width_of(text, len(cells))
+        if len(cells) > MOST_CELLS:
+            return {"width": self.width, "height": len(cells) // self.width}
         if before is not None and len(before) == len(cells) and width == self.width:
             numbers = differing(cells, before)
             if DEAR * len(numbers) <= len(cells):

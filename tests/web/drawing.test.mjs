@@ -2,16 +2,19 @@
 // What is drawn on a canvas: all of a level at first, and then only the cells that changed or had a mark, so that it shows what it would if all were drawn.
 import assert from "node:assert/strict";
 import test from "node:test";
-import { Pictures, drawLevel } from "../../web/drawing.mjs";
-import { putDocument, takeDocument } from "./stand-ins.mjs";
+import { drawLevel, forgetShown } from "../../web/drawing.mjs";
+import { putDocument } from "./stand-ins.mjs";
 
-// A canvas that knows what stands in each cell of so many pixels, and how many were drawn.
+const SPRITE = 5;
+
+// A canvas that knows what stands in each square of so many pixels, and how many were drawn: of a sheet the pixels of a cell, by their numbers.
 class Canvas {
   constructor(size) {
     this.size = size;
     this.cells = new Map();
     this.marks = new Map();
     this.drawn = 0;
+    this.pictures = 0;
     this.hidden = false;
     this.sides = [0, 0];
   }
@@ -22,17 +25,55 @@ class Canvas {
     this.marks.clear();
   }
 
+  get width() {
+    return this.sides[0];
+  }
+
   set height(height) {
     this.sides[1] = height;
   }
 
+  get height() {
+    return this.sides[1];
+  }
+
+  // What stands in a square is what the sheet has there.
+  take(sheet, across, down, column, row) {
+    this.drawn += 1;
+    this.cells.set(`${column},${row}`, sheet.cells.get(`${across},${down}`));
+    this.marks.delete(`${column},${row}`);
+  }
+
+  drawImage(sheet, ...where) {
+    this.pictures += 1;
+    if (where.length > 4) {
+      const [left, top, width, height, toLeft, toTop, toWidth, toHeight] = where;
+      assert.deepEqual([width, height, toWidth, toHeight], [SPRITE, SPRITE, this.size, this.size]);
+      return this.take(sheet, left / SPRITE, top / SPRITE, toLeft / this.size, toTop / this.size);
+    }
+    assert.deepEqual(where, [0, 0, ...this.sides]);
+    assert.deepEqual(this.sides, sheet.sides.map((side) => (side / SPRITE) * this.size));
+    for (let column = 0; column < sheet.sides[0] / SPRITE; column += 1) {
+      for (let row = 0; row < sheet.sides[1] / SPRITE; row += 1) this.take(sheet, column, row, column, row);
+    }
+  }
+
+  // Takes an image of sprites: of each square the 25 numbers that its pixels are, by four bytes each.
+  putImage({ data, width, height }) {
+    const pixels = new DataView(data.buffer);
+    for (let column = 0; column < width / SPRITE; column += 1) {
+      for (let row = 0; row < height / SPRITE; row += 1) {
+        const square = Array.from({ length: SPRITE * SPRITE }, (_, place) => pixels.getUint32(4 * ((row * SPRITE + Math.floor(place / SPRITE)) * width + column * SPRITE + (place % SPRITE))));
+        this.cells.set(`${column},${row}`, square.join(" "));
+      }
+    }
+  }
+
   getContext() {
     return {
-      drawImage: (picture, left, top) => {
-        this.drawn += 1;
-        this.cells.set(`${left / this.size},${top / this.size}`, picture);
-        this.marks.delete(`${left / this.size},${top / this.size}`);
-      },
+      createImageData: (width, height) => ({ data: new Uint8ClampedArray(4 * width * height), width, height }),
+      putImageData: (image) => this.putImage(image),
+      drawImage: (...words) => this.drawImage(...words),
       beginPath: () => {},
       closePath: () => {},
       moveTo: (left, top) => { this.at = `${Math.floor(left / this.size)},${Math.floor(top / this.size)}`; },
@@ -47,8 +88,12 @@ class Canvas {
   }
 }
 
-const PICTURES = { of: (label) => `picture ${label}` };
-const OTHERS = { of: (label) => `other ${label}` };
+putDocument({ createElement: () => new Canvas(SPRITE) });
+
+// Each pixel of a cell has a number of its own.
+const numbersOf = (first) => Uint32Array.from({ length: SPRITE * SPRITE }, (_, place) => first + place);
+const PICTURES = { isLettered: false, pixelsOf: (label) => numbersOf(0x01020300 + 100 * label) };
+const OTHERS = { isLettered: false, pixelsOf: (label) => numbersOf(0xfa000000 + 100 * label) };
 const SCALE = 2, SIZE = 10;
 const level = (width, cells, order = "columns") => ({ width, cells, order });
 const frame = (...cells) => [{ cells, colour: "red" }];
@@ -58,6 +103,12 @@ function freshly(...words) {
   drawLevel(canvas, ...words);
   return canvas;
 }
+
+test("a level is drawn with the pixels of its cells where they stand", () => {
+  const { shown } = freshly(level(2, [0, 1, 2, 3], "rows"), PICTURES, SCALE), at = (label) => [...PICTURES.pixelsOf(label)].join(" ");
+  assert.deepEqual(shown, { cells: [["0,0", at(0)], ["0,1", at(2)], ["1,0", at(1)], ["1,1", at(3)]], marks: [], sides: [20, 20] });
+  assert.deepEqual(freshly(level(2, [0, 2, 1, 3]), PICTURES, SCALE).shown, shown);
+});
 
 test("what is drawn over another level is what is drawn at once", () => {
   const canvas = new Canvas(SIZE);
@@ -105,58 +156,31 @@ test("a level that can't be read back hides the canvas, and what stood there is 
   assert.deepEqual([canvas.hidden, canvas.drawn], [false, 1]);
 });
 
-test("the cells of a game that couldn't be read are letters", () => {
-  const drawn = [], context = { fillRect: (...where) => drawn.push(where), fillText: (letter) => drawn.push(letter), drawImage: () => {} };
-  putDocument({ createElement: () => ({ getContext: () => context }) });
-  const labels = [["background"], ["background", "crate"], ["\u{1f600}x"], []], unread = new Pictures({ ground: "#000000", objects: [] }, labels);
-  const sides = labels.map((_, label) => unread.of(label).width);
-  assert.deepEqual(drawn.filter((it) => typeof it === "string"), [".", "c", "\u{1f600}", " "]);
-  assert.ok(sides.every((side) => side === sides[0] && side > 5));
-  drawn.length = 0;
-  assert.equal(new Pictures({ ground: "#000000", objects: [["crate", 0, ["#ffffff"], ""]] }, labels).of(1).width, 5);
-  assert.deepEqual(drawn, [[0, 0, 5, 5], [0, 0, 5, 5]]);
-  takeDocument();
+test("a canvas that lost what it showed is drawn whole", () => {
+  const canvas = new Canvas(SIZE), it = level(2, [0, 1]);
+  drawLevel(canvas, it, PICTURES, SCALE);
+  const { shown } = canvas;
+  canvas.width = 20; // which empties it, as a browser does with a context that is restored
+  forgetShown(canvas);
+  drawLevel(canvas, level(2, [0, 1]), PICTURES, SCALE);
+  assert.deepEqual(canvas.shown, shown);
 });
 
-// A picture that knows what was painted on it since it was filled whole.
-class Painted {
-  constructor() {
-    this.shown = [];
-  }
-
-  getContext() {
-    return {
-      set fillStyle(colour) {
-        this.colour = colour;
-      },
-      fillRect: (left, top, width, height) => { this.shown = width === 5 && height === 5 ? [] : [...this.shown, [left, top]]; },
-      drawImage: (picture, left, top) => this.shown.push([picture, left, top]),
-    };
-  }
-}
-
-test("of cells that are all unlike few pictures are kept, and each object is painted once", () => {
+test("a level of cells that are all unlike is one picture, and is enlarged by one call", () => {
   let made = 0;
-  putDocument({ createElement: () => { made += 1; return new Painted(); } });
-  const objects = Array.from({ length: 40 }, (_, number) => [`o${number}`, 40 - number, ["#ffffff", null], "0".repeat(24) + "1"]), pairs = [];
-  for (let one = 0; one < 40; one += 1) for (let other = 0; other < 40; other += 1) pairs.push([`o${one}`, `o${other}`, "nobody"]);
-  const pictures = new Pictures({ ground: "#000000", objects }, pairs), first = pictures.of(0);
-  for (const label of [...pairs.keys(), 3, 1599, 0, 0]) {
-    const [one, other] = pairs[label].map((name) => Number(name.slice(1))), shown = pictures.of(label).shown;
-    assert.deepEqual(shown.map(([picture]) => picture), [Math.max(one, other), Math.min(one, other)].map((number) => pictures.ofObject(pictures.objects.get(`o${number}`))));
-    assert.ok(shown.every(([picture, left, top]) => picture.shown.length === 24 && left === 0 && top === 0));
-  }
-  assert.equal(made, 1024 + 40);
-  assert.equal(pictures.of(0), pictures.of(0));
-  assert.ok(first instanceof Painted);
-  takeDocument();
+  putDocument({ createElement: () => { made += 1; return new Canvas(SPRITE); } });
+  const canvas = freshly(level(128, [...Array(16_384).keys()]), PICTURES, SCALE);
+  assert.deepEqual([made, canvas.pictures, canvas.drawn], [1, 1, 16_384]);
 });
 
-test("what an object hides isn't painted", () => {
-  putDocument({ createElement: () => new Painted() });
-  const objects = [["low", 0, ["#000000"], ""], ["wall", 1, ["#ffffff"], "0".repeat(25)], ["hole", 2, ["#ffffff", null], "0".repeat(24) + "1"], ["high", 3, ["#ffffff"], "0".repeat(24) + "."]];
-  const labels = [["high", "low"], ["wall", "low"], ["low", "hole", "wall"], ["hole", "low", "high"], []], pictures = new Pictures({ ground: "#000000", objects }, labels);
-  const shown = labels.map((_, label) => pictures.of(label).shown.map(([picture]) => objects.findIndex(([name]) => pictures.objects.get(name).picture === picture)));
-  assert.deepEqual(shown, [[0, 3], [1], [1, 2], [0, 2, 3], []]);
-  takeDocument();
+test("the cells of a game that couldn't be read are letters, each on the ground and nowhere else", () => {
+  const done = [], context = new Proxy({}, { get: (_, name) => (...words) => done.push([name, ...words]), set: (_, name, value) => done.push([name, value]) > 0 });
+  const canvas = { getContext: () => context, hidden: false, width: 0, height: 0 }, unread = { isLettered: true, letterOf: (label) => "ab"[label], ground: "black" };
+  drawLevel(canvas, level(2, [0, 1]), unread, SCALE);
+  const drawn = (letter, left) => [["save"], ["beginPath"], ["rect", left, 0, 10, 10], ["clip"], ["fillStyle", "black"], ["fillRect", left, 0, 10, 10], ["font", "8px monospace"], ["fillStyle", "#ffffff"], ["textAlign", "center"], ["textBaseline", "middle"], ["fillText", letter, left + 5, 5], ["restore"]];
+  assert.deepEqual(done.slice(0, 24), [...drawn("a", 0), ...drawn("b", 10)]);
+  assert.deepEqual([canvas.width, canvas.height], [20, 10]);
+  done.length = 0;
+  drawLevel(canvas, level(2, [0, 0]), unread, SCALE);
+  assert.deepEqual(done.slice(0, 12), drawn("a", 10));
 });

@@ -144,6 +144,7 @@ test("how far what comes is read is said where it takes long", () => {
 const MARKED = `title A game\n\n\n\n(${"a\u0301".repeat(4097)})\n${GAME}`, MANY_LINES = `${GAME}${"\n".repeat(32_768)}`;
 const OF_A_LINE = "has more than 4,096 letters beyond printable ASCII on line 5, which a browser may take minutes to lay out";
 const OF_ALL = "has more than 32,768 letters beyond printable ASCII, which a browser may take minutes to lay out";
+const OF_LONG_LINES = "has many letters beyond printable ASCII on very long lines, which a browser may take minutes to lay out";
 const OF_LINES = "has more than 32,768 lines, which a browser may take minutes to lay out";
 
 it("a text that a browser would lay out for minutes comes not to hand", () => {
@@ -158,7 +159,7 @@ it("a text that a browser would lay out for minutes comes not to hand", () => {
 });
 
 test("it is told of a text why it isn't put into the field, at its bounds", () => {
-  const cases = [["", null], [GAME, null], [`${"a\u0301".repeat(4096)}\n`.repeat(8), null], [`${`${"a\u0301".repeat(4096)}\n`.repeat(8)}\u0301`, OF_ALL], ["a\t\n".repeat(32_767), null], ["ab\t".repeat(4097), OF_A_LINE.replace("line 5", "line 1")], [`${"a".repeat(500_000)}${"\u05d0".repeat(4096)}`, null], ["x".repeat(1_048_576), null],
+  const cases = [["", null], [GAME, null], [`${"a\u0301".repeat(4096)}\n`.repeat(8), null], [`${`${"a\u0301".repeat(4096)}\n`.repeat(8)}\u0301`, OF_ALL], ["a\t\n".repeat(32_767), null], ["ab\t".repeat(4097), OF_A_LINE.replace("line 5", "line 1")], [`${"a".repeat(500_000)}${"\u05d0".repeat(532)}`, null], [`${"a".repeat(500_000)}${"\u05d0".repeat(537)}`, OF_LONG_LINES], [`${"a".repeat(8_192 - 4_096)}${"\u05d0".repeat(4096)}\n`.repeat(8), null], [`${"a".repeat(130_000)}${"\u05d0".repeat(1_000)}\n`.repeat(3), OF_LONG_LINES], ["x".repeat(1_048_576), null],
     ["\n".repeat(32_767), null], ["\r\n".repeat(32_767), null], ["\n".repeat(32_768), OF_LINES], ["\r".repeat(32_768), OF_LINES], [MANY_LINES, OF_LINES], [MARKED, OF_A_LINE],
     [`\n\r\n\n\r${"a \u05d0 1 ".repeat(4097)}`, OF_A_LINE], ["x".repeat(1_048_577), "is longer than a game's text may be"]];
   for (const [text, why] of cases) assert.equal(whyNoField(text), why);
@@ -176,13 +177,13 @@ test("what is pasted into a field is left to it, but for a text that a browser w
 });
 
 test("an answer with a level whose text is very long is handed over as none", () => {
-  const frame = (level) => ({ at: 0, kind: "start", level }), long = "a".repeat(2 ** 21 + 1), short = { frames: [frame(long.slice(1))], cause: null, isSolved: true };
+  const frame = (level) => ({ at: 0, kind: "start", level }), long = "a".repeat(2 ** 20 + 1), short = { frames: [frame(long.slice(1))], cause: null, isSolved: true };
   assert.equal(readableAnswer(short), short);
   for (const answer of [{ frames: [frame("a:0,"), frame(long)], cause: null, isSolved: true }, { stages: [{ stage: "end", level: long }], fault: null }]) {
     const { frames, stages, cause, fault, isSolved, solution } = readableAnswer(answer);
     assert.deepEqual([frames, stages, cause, fault, isSolved, solution], [[], [], "engine:long-level", "long-level", false, null]);
   }
-  assert.match(refusalTold("long-level"), /2,097,152 letters/);
+  assert.match(refusalTold("long-level"), /1,048,576 letters/);
 });
 
 test("an answer with more frames or stages than the page takes in a moment is handed over as none", () => {
@@ -202,8 +203,8 @@ test("an answer with more headings and lines in its stages than the page takes i
 });
 
 test("an answer whose levels take more room than the page has for them is handed over as none", () => {
-  for (const [letter, most] of Object.entries({ a: 128, "\u20ac": 64 })) {
-    const level = letter.repeat(2 ** 21), answerOf = (count) => ({ frames: new Array(count - 1).fill({ at: 0, kind: "start", level }), stages: [{ stage: "end", level }], cause: null, fault: null });
+  for (const [letter, most] of Object.entries({ a: 256, "\u20ac": 128 })) {
+    const level = letter.repeat(2 ** 20), answerOf = (count) => ({ frames: new Array(count - 1).fill({ at: 0, kind: "start", level }), stages: [{ stage: "end", level }], cause: null, fault: null });
     const whole = answerOf(most);
     assert.equal(readableAnswer(whole), whole);
     const { frames, stages, cause, fault } = readableAnswer(answerOf(most + 1));

@@ -11,7 +11,7 @@ export const WORK = { own: null, index: 0, inputs: [], name: "", opened: null };
 export const stateOf = (parts) => /** @type {State} */ (parts);
 
 // A document that has what is asked of it and nothing more, until it is taken away.
-/** @type {(document: { getElementById?: (id: string) => object, createElement?: (tag: string) => object }) => void} */
+/** @type {(document: { getElementById?: (id: string) => object, createElement?: (tag: string) => object, createDocumentFragment?: () => object }) => void} */
 export function putDocument(document) {
   Object.defineProperty(globalThis, "document", { value: document, configurable: true, writable: true });
 }

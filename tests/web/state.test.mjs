@@ -222,6 +222,24 @@ it("what is accepted or replaced and isn't solved though it must be is told as t
   assert.equal(bench.state.saved, "Saved in mine.json as session 1.");
 });
 
+it("a session isn't saved in a file that wouldn't be read again with it, but in the place of another", async () => {
+  const bench = await withPush();
+  await bench.act(begunAnew);
+  await bench.act(pressed, 3);
+  const state = { ...bench.state, file: fileOf(new Array(65_536).fill(["x", ["", [], ""]])) }, [next, replaced] = [savedAs(state), savedAs(state, 7)];
+  assert.deepEqual([next.saved, next.file === state.file], ["Not saved: mine.json has 65,536 sessions, and with more it wouldn't be read again.", true]);
+  assert.deepEqual([replaced.saved, entriesIn(replaced)[7][1][1]], ["Saved in mine.json as session 7.", [3]]);
+});
+
+it("half a letter of a name is left out, and what can't be saved is told", async () => {
+  const bench = await withPush();
+  await bench.act(named, "wall\ud83d");
+  await bench.act(savedAs);
+  assert.deepEqual([bench.state.saved, entriesIn(bench.state)[1][0]], ["Saved in recordings.json as session 1.", "wall"]);
+  const state = { ...bench.state, work: { ...bench.state.work, name: "wall\ud83d" } }, next = savedAs(state);
+  assert.deepEqual([next.saved, next.file === state.file], ["Not saved: recordings.json, session 2: a text of it holds half a letter (a lone surrogate).", true]);
+});
+
 // ---- all is played at each edit, and the first that broke is shown
 
 it("the first session that breaks is shown where nothing is in the way, and else the tab tells it", async () => {
@@ -721,6 +739,20 @@ it("lines of another engine are compared, and an edit ends that", async () => {
   assert.match(statusOf(bench.state).text, /^Diverges at frame 7, after input 6 \(/);
   await bench.act(edited, BROKEN);
   assert.equal(bench.state.comparison, null);
+});
+
+it("sessions that both engines refuse are the same, but neither played nor passed", async () => {
+  const [refused, fine] = [["one", ["title X\n\nOBJECTS\n", [], ""]], ["two", [GAME, [], ""]]];
+  for (const [sessions, told, close] of /** @type {[unknown[], string, string | null][]} */ ([
+    [[refused, refused], "2 the same, 0 diverge; 2 were refused by both, and not played.", null],
+    [[fine, refused], "2 the same, 0 diverge; 1 was refused by both, and not played.", null],
+    [[fine, fine], "2 the same, 0 diverge.", "passed"],
+  ])) {
+    const bench = new Bench();
+    await bench.act(withOtherFile, fileOf(sessions));
+    await bench.act(comparedWithLines, "theirs", new TextDecoder().decode(bench.state.suite.lines));
+    assert.deepEqual(verdictOf(bench.state, null), { text: `Compared with theirs: ${told}`, close });
+  }
 });
 
 it("where the cells of another engine's level stand in other lines, that is said", async () => {

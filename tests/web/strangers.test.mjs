@@ -3,7 +3,7 @@
 import assert from "node:assert/strict";
 import test from "node:test";
 import { Boards } from "../../web/boards.mjs";
-import { cellTold, rowsInWords } from "../../web/cells.mjs";
+import { InWords, cellTold, rowsInWords } from "../../web/cells.mjs";
 import { sayable } from "../../web/elements.mjs";
 import { Ending, endingTold, obstacleTold, partingOf, partingTold } from "../../web/comparing.mjs";
 import { MOST_OF_A_LEVEL } from "../../web/level-text.mjs";
@@ -30,6 +30,17 @@ test("cells with long names are told apart where their beginnings are the same",
   assert.deepEqual(rowsInWords(level([0, 0, 1]), (label) => names[label]), [`2 \u00d7 ${cell}, ${cell}`]);
 });
 
+test("of a level in words no more rows are told than a browser lays out at once, and how many more there are", () => {
+  const listed = { replaceChildren: ({ nodes }) => { listed.nodes = nodes.map(({ textContent }) => textContent); }, nodes: [] };
+  const fragment = () => ({ nodes: [], append(node) { this.nodes.push(node); } });
+  putDocument({ getElementById: (id) => (id === "words" ? listed : { open: true, addEventListener: () => {} }), createElement: () => ({}), createDocumentFragment: fragment });
+  const told = (rows, name) => { new InWords().show({ ...level(new Array(rows).fill(0)), width: 1 }, () => [name]); return listed.nodes; };
+  assert.deepEqual(told(3, "wall"), ["wall", "wall", "wall"]);
+  assert.deepEqual(told(252, "x".repeat(400)), [...new Array(250).fill("x".repeat(400)), "and 2 rows more"]);
+  assert.equal(told(6_553, "wall").length, 6_553);
+  takeDocument();
+});
+
 test("a level of more cells than one that is played has is not drawn, and compared with none", () => {
   const [most, more] = [16_384, 16_385].map((count) => ({ ...level(new Array(count).fill(0)), width: 128 }));
   assert.deepEqual([most, more, level([]), null, undefined, { text: "x" }].map((it) => [isDrawn(it), Boolean(isTooLarge(it))]), [[true, false], [false, true], ...new Array(4).fill([false, false])]);
@@ -54,9 +65,9 @@ test("what was zoomed before is drawn no larger than a browser draws it", () => 
 test("a report tells why a level isn't drawn, and no long text of it", () => {
   putDocument({ getElementById: () => ({ checked: false }) });
   const told = (it) => Player.prototype.sideShown.call({ at: 0, captionOf: () => "a caption" }, { caption: "played", run: { last: 0 } }, it).caption;
-  assert.deepEqual([level([0]), level([]), level(new Array(20_000).fill(0)), { text: `a,b:0,${LONG}` }].map(told), [
+  assert.deepEqual([level([0]), level([]), level(new Array(20_000).fill(0)), { width: 4_000_000, height: 9 }, { text: `a,b:0,${LONG}` }].map(told), [
     "a caption", "played: an empty level text", "played: a level 20000 wide and 1 high, larger than any that is played",
-    `played: a level text that can't be read back: a,b:0,${"x".repeat(494)}\u2026`,
+    "played: a level 4000000 wide and 9 high, larger than any that is played", `played: a level text that can't be read back: a,b:0,${"x".repeat(494)}\u2026`,
   ]);
   takeDocument();
 });
@@ -89,11 +100,11 @@ test("of what is drawn otherwise no more is told than is read", () => {
 test("a level text that is longer than one that is read is compared letter by letter alone", () => {
   const most = `${"x".repeat(MOST_OF_A_LEVEL - 3)}:0,`, more = `x${most}`, ending = (recorded) => new Ending("a:0,", recorded, "columns");
   assert.deepEqual([most, more].map((it) => [ending(it).recorded?.cells.length ?? null, endingTold(ending(it)), obstacleTold({ cause: null }, ending(it))]), [
-    [1, "1 of 1 cell (1 wide, 1 high) differs from the recorded level", null], [null, "the text of the recorded level has more than 2,097,152 letters, and is not read", null],
+    [1, "1 of 1 cell (1 wide, 1 high) differs from the recorded level", null], [null, "the text of the recorded level has more than 1,048,576 letters, and is not read", null],
   ]);
   const run = (level) => ({ frames: [{ at: 0, kind: "start", level }], close: "differs", cause: null });
   assert.deepEqual([partingOf(run(more), run(more)), partingOf(run("a:0,"), run(most))], [null, { frame: 0, kind: "level" }]);
-  for (const levels of [[more, "a:0,"], ["a:0,", more]]) assert.throws(() => partingOf(...levels.map(run)), { message: "the text of a level has more than 2,097,152 letters, and is not read where it is another one here" });
+  for (const levels of [[more, "a:0,"], ["a:0,", more]]) assert.throws(() => partingOf(...levels.map(run)), { message: "the text of a level has more than 1,048,576 letters, and is not read where it is another one here" });
 });
 
 test("of whatever is said no more is said in one piece than a browser lays out in a moment, with a sign that it is cut", () => {

@@ -24,6 +24,7 @@ test("what is no number in an address is none", () => {
     assert.equal(readAddress(`#session=${text}`).text, text === "%" ? "%" : text);
   }
   assert.deepEqual(readAddress(""), { session: null, frame: null, close: null, name: null, text: null });
+  assert.equal(readAddress(`#name=${"x".repeat(100_000)}`).name?.length, 2000);
 });
 
 const whole = (cells) => ({ width: 3, cells });
