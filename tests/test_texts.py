@@ -10,6 +10,7 @@ from difflib import get_close_matches
 from pathlib import Path
 from random import Random
 from typing import Any, Callable, List, Sequence, Tuple
+from xml.etree import ElementTree
 
 from day import OnSessions
 from test_test import RULE, OfAGame
@@ -130,6 +131,17 @@ class DayOfTexts(OfTwoTexts):
         for words in calls:
             with self.subTest(words[0]):
                 self.assertIn(self.remark(self.mixed), run(*words).errors)
+
+    def test_what_passes_over_its_own_text_alone_fails_in_a_report_and_for_a_ci(self) -> None:
+        self.with_rule(STUCK)
+        why = f"over its own text, and was not played over {self.game}"
+        page = run("report", self.mixed, "--game", self.game).out
+        blocks = {name: json.loads(text) for name, text in re.findall('<script type="application/json" id="(index|session-1)">([^<]*)<', page)}
+        self.assertEqual(([row[1] for row in blocks["index"]["sessions"]], blocks["session-1"]["told"]), (["differs", "failed"], f"passed: {why}"))
+        lines = self.write("lines", run("lines", self.mixed, "--game", self.game).out)
+        suite = ElementTree.fromstring(run("junit", self.mixed, lines, "--game", self.game).out)[0]
+        self.assertEqual((suite.get("failures"), [it[0].get("message") for it in suite][1]), ("2", why))
+        self.assertEqual(ElementTree.fromstring(run("junit", self.mixed, lines).out)[0].get("failures"), "1")
 
     def test_an_added_recording_follows_the_text_at_hand(self) -> None:
         new = self.room / "new.json"

@@ -3,7 +3,7 @@ from __future__ import annotations
 
 from functools import lru_cache
 from shlex import quote
-from typing import Iterable, List, NamedTuple, Optional, Sequence, Tuple
+from typing import Dict, Iterable, List, NamedTuple, Optional, Sequence, Tuple
 
 from saxtegun.commands import Refused, cut, plural, say
 from saxtegun.descriptions import Undescribed
@@ -104,6 +104,11 @@ def say_others(verb: str, sessions: Sessions, game: Optional[GameText]) -> List[
     if game and others:
         say(f"{verb}: {remark(sessions.path, others, game)}")
     return others
+
+
+def not_over(others: Sequence[Entry], game: Optional[GameText]) -> Dict[int, str]:
+    """Why sessions with another text than the one at hand fail though they pass; by their numbers. They weren't played over that."""
+    return {it.number: f"over its own text, and was not played over {game.path}" for it in others} if game else {}
 
 
 def say_untested(verb: str, entries: Iterable[Entry]) -> None:

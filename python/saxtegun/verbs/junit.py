@@ -4,7 +4,8 @@ Each session is a test case. `differs` and `stopped` are failures. `refused` is
 an error, or with --refused skipped a skipped test. With SESSIONS, the file that
 was played, each has the words of `saxtegun explain`; and it shows that the
 lines are whole, which they can't show themselves. Sessions that must be solved
-are then played, and are failures if they aren't.
+are then played, and are failures if they aren't; with --game those are failures
+that have another text than GAME.
 
 Exit status: 0, or 2 if a file is refused."""
 from __future__ import annotations
@@ -22,7 +23,7 @@ from saxtegun.mismatches import Tests, read_runs
 from saxtegun.playing import engine_of
 from saxtegun.sessions import read_sessions
 from saxtegun.solutions import unsolved_among
-from saxtegun.texts import over, read_game, say_others
+from saxtegun.texts import not_over, over, read_game, say_others
 
 USAGE = "junit [SESSIONS] LINES [--game GAME.txt] [--order rows|columns] [--refused error|skipped] >junit.xml"
 
@@ -41,13 +42,13 @@ def main(given: Namespace) -> int:
     guard_output(*given.files, *([given.game] if given.game else []))
     game = read_game(given.game)
     sessions = over(read_sessions(given.files[0]), game) if len(given.files) == 2 else None
+    others = say_others("junit", sessions, game) if sessions else []
     if sessions:
-        say_others("junit", sessions, game)
         expect(it.source for it in sessions.entries)
     runs = read_runs(given.files[-1], sessions, Tests(order=given.order))
     first = next(runs, None)
     if first is None:
         raise Refused(f"{given.files[-1]} closes no session, so nothing was played")
-    unsolved = unsolved_among(sessions, engine_of(given)) if sessions else {}
-    sys.stdout.write(junit_of(chain([first], runs), Path(given.files[0]).name, sessions, given.order, given.refused, unsolved))
+    failures = {**not_over(others, game), **unsolved_among(sessions, engine_of(given))} if sessions else {}
+    sys.stdout.write(junit_of(chain([first], runs), Path(given.files[0]).name, sessions, given.order, given.refused, failures))
     return 0

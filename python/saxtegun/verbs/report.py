@@ -5,7 +5,7 @@ SESSIONS is the file that was played, and LINES what the program wrote for it
 (`-`: standard input). Without LINES the sessions are played now, and one that
 hangs is played further, to find out where. --order must be the order of the
 lines. Sessions that must be solved are played in any case, and fail if they
-aren't. The page opens from the disk in any browser, and needs no network. The
+aren't; with --game those fail that have another text than GAME. The page opens from the disk in any browser, and needs no network. The
 same files give the same page; only --date puts a date there.
 
 Exit status: 0, or 2 if a file is refused, or with --timeout some session had no
@@ -26,7 +26,7 @@ from saxtegun.pages import Report
 from saxtegun.playing import engine_of, lines_or_played
 from saxtegun.sessions import read_sessions
 from saxtegun.solutions import unsolved_among
-from saxtegun.texts import over, read_game, say_others
+from saxtegun.texts import not_over, over, read_game, say_others
 
 USAGE = "report SESSIONS [LINES] [--game GAME.txt] [--order rows|columns] >report.html"
 
@@ -44,16 +44,16 @@ def main(given: Namespace) -> int:
     guard_output(given.sessions, *(it for it in (given.lines, given.game) if it))
     game = read_game(given.game)
     sessions = over(read_sessions(given.sessions), game)
-    say_others("report", sessions, game)
+    others = say_others("report", sessions, game)
     engine = engine_of(given)
     expect(it.source for it in sessions.entries)
-    unsolved = unsolved_among(sessions, engine)
+    failures = {**not_over(others, game), **unsolved_among(sessions, engine)}
     with lines_or_played(sessions, given.lines, engine) as runs:
         played = f"Lines: {Path(given.lines).name}" if given.lines else program_told(engine.words())
         report = Report(sessions, given.order, origin_of(sessions, given, played), *([] if given.lines else [Finder(sessions, engine)]))
         late = False
         for run in runs:
-            report.add(run, unsolved.get(run.number))
+            report.add(run, failures.get(run.number))
             late = late or run.close == UNANSWERED
     sys.stdout.write(report.page())
     return 2 if late else 0
