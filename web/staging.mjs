@@ -153,8 +153,26 @@ export function isCoverageWanted(state, asked) {
 /** @param {State} state */
 export function coverageCame(state, wanted, { lines = [], fault }) {
   if (!isCoverageWanted(state, wanted)) return state;
-  const { source, index, order, isTicked, inputs } = wanted;
-  return withStaging(state, { fault, acted: { source, index, order, isTicked, inputs, lines: [...actedLines(state), ...lines] } });
+  const { source, index, order, isTicked, inputs } = wanted, before = actedLines(state);
+  return withStaging(state, { fault, acted: { source, index, order, isTicked, inputs, lines: [...before, ...sharing(lines, before.at(-1))] } });
+}
+
+// Lists, of which each that is like the one before it is that: thousands of lines may act in each of thousands of inputs.
+function sharing(lists, former) {
+  let last = former;
+  return lists.map((list) => {
+    if (last === undefined || !isSameList(last, list)) last = list;
+    return last;
+  });
+}
+
+// What stands in any of these lists, worked out once for the same lists.
+/** @type {{ lists: number[][], all: Set<number> }} */
+let together = { lists: [], all: new Set() };
+
+function allOf(lists) {
+  if (!isSameList(together.lists, lists)) together = { lists, all: new Set(lists.filter((list, place) => list !== lists[place - 1]).flat()) };
+  return together.all;
 }
 
 const ASKED = { isStopped: false, fault: null };
@@ -189,7 +207,7 @@ export const lookedAtActed = (state, input) => withStaging(lookedAtInput(state, 
 export function linesNeverActed(state) {
   const { isOpen, isCovered } = state.staging;
   if (!isOpen || !isCovered || !isComplete(coverageOf(state))) return [];
-  const acted = new Set(actedLines(state).flat());
+  const acted = allOf(actedLines(state));
   return ruleLinesOf(sourceOf(state)).filter((line) => !acted.has(line));
 }
 

@@ -116,6 +116,20 @@ it("lines that never acted are grey once all inputs are looked through", async (
   assert.deepEqual([linesMarked(bench.state).never, coverageTold(bench.state)], [[], ""]);
 });
 
+it("which lines never acted is worked out once, and lists of lines that are alike are held once", async () => {
+  const bench = await staged(new Told(), [2, 1, 0, 0, 1, 1], TWO_RULES);
+  await bench.act(opened, true);
+  await bench.act(covered);
+  await lookedThrough(bench);
+  const { acted } = bench.state.staging, alike = acted.lines.filter((list, place) => place > 0 && String(list) === String(acted.lines[place - 1]));
+  assert.deepEqual([alike.length > 0, acted.lines.filter((list, place) => list === acted.lines[place - 1]).length], [true, alike.length]);
+  let reads = 0;
+  const lines = acted.lines.map((list) => new Proxy(list, { get: (it, asked) => { reads += 1; return Reflect.get(it, asked); } }));
+  const state = { ...bench.state, staging: { ...bench.state.staging, acted: { ...acted, lines } } }, told = [linesMarked(state).never, reads];
+  assert.deepEqual([told[0], coverageTold(state)], [[RULE + 1], "1 line of rules never acted (grey)."]);
+  assert.deepEqual([linesMarked(state).never, reads], told);
+});
+
 it("of a recording over its own text the lines that never acted are told by their numbers, and none is grey", async () => {
   const bench = await staged(new Told(), [], GAME);
   await bench.act((state) => ({ ...state, work: { ...state.work, own: `\n${TWO_RULES}`, inputs: [2] } }));
