@@ -179,11 +179,12 @@ class DayOfSolving(OfLevels):
         line = game.read_text(encoding="utf-8").split("\n").index("#*..#")
         self.assertIn(f",line={line},", answer.out)
         out = self.room / "out.xml"
-        answer = run("test", game, halfway, "--solvable", "--levels", "10", "--quiet", "--junit", out)
+        answer = run("test", game, halfway, "--solvable", "--levels", "10", "--quiet", "--junit", out, "--report", self.room / "page.html")
         self.assertEqual(answer.status, 2)
         self.assertIn("level 1: not known: no list of up to ", answer.out)
         self.assertIn("; 1 level can't be won; 1 level not known", answer.out)
         self.assertIn('tests="4" failures="1" errors="1"', out.read_text(encoding="utf-8"))
+        self.assertRegex((self.room / "page.html").read_text(encoding="utf-8"), '"result":"2 sessions: 2 passed.*; 1 level can\'t be won; 1 level not known"')
         answer = run("test", self.write_entries(self.entries), "--solvable")
         self.assertEqual((answer.status, answer.out), (2, ""))
 

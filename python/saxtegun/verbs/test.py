@@ -228,6 +228,8 @@ def write_files(suite: Suite, failures: List[Failure], though_passed: Dict[int, 
         report = Report(suite.sessions, given.order, origin_of(suite.sessions, given, program_told(engine_of(given).words())), hung)
         for run in suite.runs:
             report.add(run, though_passed.get(run.number))
+        # levels aren't shown there: where one fails, the page says the counts in place of how many sessions passed
+        report.result = counts if levels else ""
         write_whole(given.report, report.page())
     if given.markdown:
         write_whole(given.markdown, markdown(failures, counts))
