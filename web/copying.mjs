@@ -33,7 +33,8 @@ async function copy(text) {
 export function makeCopy(button, textNow) {
   const label = button.textContent;
   button.addEventListener("click", async () => {
-    button.textContent = (await copy(textNow())) ? "Copied" : "Not copied";
+    const text = textNow();
+    button.textContent = text !== "" && (await copy(text)) ? "Copied" : "Not copied";
     setTimeout(() => { button.textContent = label; }, SHOWN);
   });
 }
