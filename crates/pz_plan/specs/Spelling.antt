@@ -26,7 +26,7 @@ abbrev pub is_property : Kind → Bool
 is_property kind.Property = true
 is_property _ = false
 
--- a property of several members stands for one of them, and under `no` for each
+-- expand.no-property: a property of several members stands for one of them, and under `no` for each
 abbrev pub is_chosen : Option (Lead Class) → Denotation → Bool
 is_chosen word denotation = is_property denotation.kind && not (is_no word) && not (length denotation.members == 1)
 
@@ -43,7 +43,7 @@ denotation_if_any table name = option_and_then (slice_get table) name
 unfoldable pub mentions_at : List Denotation → Phrase → List Mention
 mentions_at table phrase = option_map_or (mentions_of phrase.lead) (denotation_if_any table phrase.name) []
 
--- expand.no-property: the phrases of a cell, with each name replaced by what it stands for; what is said twice counts once
+-- the phrases of a cell, with each name replaced by what it stands for; what is said twice counts once
 unfoldable pub spelled_out : Side → List Denotation → List Phrase → List Mention
 spelled_out side table phrases = firsts (says_the_same side) (flat_map (mentions_at table) phrases)
 

@@ -92,7 +92,7 @@ fn add_mention(side: Side, mention: Mention, mentions: &mut Vec<Mention>) -> Res
     Ok(())
 }
 
-/// Whether the name stands for one of its members.
+/// Whether the name stands for one of its members: under `no` it stands for each. Rule `expand.no-property`.
 fn is_chosen(lead: Option<Lead<Class>>, denotation: &Denotation) -> bool
     ensures { result ≡ is_chosen lead denotation.now }
 {
@@ -166,7 +166,7 @@ fn add_phrase(
     }
 }
 
-/// What the phrases of a cell stand for. Rule `expand.no-property`.
+/// What the phrases of a cell stand for.
 #[tactic(auto, using(crate::proofs::Mentions::mentioning), unfolding(crate::specs::Spelling::spelled_out))]
 fn spelled_out(
     alloc: Global,

@@ -159,7 +159,7 @@ ticked_to state (Ok end) = Ok (if is_idle end then idle state else effect Tick s
 unfoldable pub tick_link : State → Result (Link State) Stop
 tick_link state = ticked_to state (step_of state.game state.program state.level None)
 
--- the last level of the past, if there is one, is taken from it and becomes the level; the target stays
+-- play.undo: the last level of the past, if there is one, is taken from it and becomes the level; the target stays
 abbrev pub undo_to : State → List Grid → State
 undo_to state [] = state
 undo_to state (last ∷ past) = record state { level = last; past = past }

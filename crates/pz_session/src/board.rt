@@ -266,7 +266,7 @@ impl<'a> Board<'a> {
         }
     }
 
-    /// Makes the level the target, if the commands have `checkpoint`.
+    /// Makes the level the target, if the commands have `checkpoint`. Rule `play.checkpoint`.
     fn set_target(&mut self, commands: Commands) -> Result<(), AllocError>
         ensures { OnOk result (self.new ≡
             record self.old { target = if has commands checkpoint then self.old.level else self.old.target }) }
@@ -278,7 +278,7 @@ impl<'a> Board<'a> {
     }
 
     /// Shows the level after a step that doesn't win. A checkpoint makes it the target. `again` asks for one more tick if the step changed
-    /// the level. Rules `play.checkpoint`, `play.again`.
+    /// the level. Rule `play.again`.
     fn keep(
         &mut self,
         kind: FrameKind,
@@ -380,7 +380,7 @@ impl<'a> Board<'a> {
         self.take(FrameKind::Tick, commands, changed)
     }
 
-    /// Takes the last level of the past, if there is one, as the level.
+    /// Takes the last level of the past, if there is one, as the level. Rule `play.undo`.
     fn step_back(&mut self) -> Result<(), AllocError>
         ensures { OnOk result (self.new ≡ undo_to self.old self.old.past) }
     {
@@ -394,7 +394,7 @@ impl<'a> Board<'a> {
         Ok(())
     }
 
-    /// Rule `play.undo`.
+    /// No tick follows an undo. Rule `play.undo`.
     fn undo(&mut self) -> Result<Shown, PlayFault>
         ensures { GivesLink (Ok (undo_link self.old)) self.new result }
     {
