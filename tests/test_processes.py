@@ -8,6 +8,7 @@ import signal
 import subprocess
 import sys
 import tempfile
+import threading
 import time
 import unittest
 from pathlib import Path
@@ -177,6 +178,13 @@ class Bounds(Programs):
             self.watched("exec yes", MOST_WRITTEN=2**20)
         with self.assertRaisesRegex(Refused, "was stopped: it said more than 1 MiB on standard error"):
             self.watched("exec 1>&2; exec head -c 500000000 /dev/zero", MOST_SAID=2**20)
+
+    def test_no_thread_beside_writes_to_our_streams(self) -> None:
+        """One that writes as this process ends would hold the stream, and Python aborts where it can't write that out."""
+        by: List[threading.Thread] = []
+        with mock.patch.object(processes, "say", lambda line: by.append(threading.current_thread())):
+            self.assertEqual(self.watched("for it in a b c; do echo $it >&2; done").status, 0)
+        self.assertEqual(by, [threading.main_thread()] * 3)
 
     def test_what_a_program_leaves_behind_is_ended_with_it(self) -> None:
         self.assertEqual(self.watched(f"sleep 1000 & echo $! >'{self.room}/left'; exit 0").status, 0)

@@ -82,10 +82,13 @@ def opened(entry: Entry, engine: Engine) -> Iterator[Optional[OpenSession]]:
         command = [words[0], str(OPEN_IN_NODE), "--order", engine.order, str(entry.index), f"{room}/game.txt"]
         with started(command, subprocess.PIPE, subprocess.PIPE) as ran:
             assert ran.stdin is not None and ran.stdout is not None and ran.stderr is not None
-            Said(ran.stderr)
-            with ran.stdout as answered, closed_at_last(ran.stdin) as asked:
-                session = OpenSession(entry.name, asked, answered)
-                yield session if opens(session) else None
+            said = Said(ran.stderr)
+            try:
+                with ran.stdout as answered, closed_at_last(ran.stdin) as asked:
+                    session = OpenSession(entry.name, asked, answered)
+                    yield session if opens(session) else None
+            finally:
+                said.hand_on()
 
 
 @contextmanager

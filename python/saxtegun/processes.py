@@ -8,10 +8,11 @@ import shutil
 import signal
 import subprocess
 import tempfile
+from collections import deque
 from contextlib import contextmanager
 from threading import Thread, current_thread, main_thread
 from time import monotonic
-from typing import IO, Any, Callable, Dict, Generic, Iterator, List, Mapping, NamedTuple, Optional, Sequence, TypeVar
+from typing import IO, Any, Callable, Deque, Dict, Generic, Iterator, List, Mapping, NamedTuple, Optional, Sequence, TypeVar
 
 from saxtegun.commands import Refused, say
 from saxtegun.programs import environment_of
@@ -163,11 +164,13 @@ def started(words: Sequence[str], stdin: Any, output: Any, environment: Optional
 
 
 class Said(Thread):
-    """Reads what a program says. What stands before its last line, as ./replay says while it builds, is handed on at once."""
+    """Reads what a program says, and keeps what stands before its last line, as ./replay says while it builds, for whoever waits for the program to hand it
+    on. It writes nothing itself: where this process ends while it writes, it would hold our stream, and Python, which can't end without that, aborts."""
 
     def __init__(self, stream: IO[bytes]) -> None:
         super().__init__(daemon=True)
         self.stream, self.last, self.count = stream, "", 0
+        self.before: Deque[str] = deque()
         self.start()
 
     def run(self) -> None:
@@ -181,8 +184,13 @@ class Said(Thread):
 
     def take(self, line: str) -> None:
         if self.last and self.count <= MOST_SAID:
-            say(self.last)
+            self.before.append(self.last)
         self.last = line
+
+    def hand_on(self) -> None:
+        """Says what has come since."""
+        for _ in range(len(self.before)):
+            say(self.before.popleft())
 
 
 def written_to(output: Any) -> Callable[[], int]:
@@ -223,20 +231,25 @@ def watched(words: Sequence[str], output: Any, stdin: Any = None, seconds: Optio
     with started(words, stdin, output, folder=folder) as ran:
         assert ran.stderr is not None
         said = Said(ran.stderr)
-        while ran.poll() is None:
-            check_bounds(words[0], written(), said.count)
-            said.join(time_left(begin, seconds))
-            if not said.is_alive():
-                wait_a_while(ran, time_left(begin, seconds))
-        said.join(PAUSE)
-        if said.is_alive():
-            # what it has started, and left behind, still holds its stream
-            end(ran)
+        try:
+            while ran.poll() is None:
+                said.hand_on()
+                check_bounds(words[0], written(), said.count)
+                said.join(time_left(begin, seconds))
+                if not said.is_alive():
+                    wait_a_while(ran, time_left(begin, seconds))
             said.join(PAUSE)
-    check_library(said.last)
-    if ran.returncode in (0, 1) and said.last:
-        say(said.last)
-    return Ran(ran.returncode, said.last)
+            if said.is_alive():
+                # what it has started, and left behind, still holds its stream
+                end(ran)
+                said.join(PAUSE)
+        finally:
+            said.hand_on()
+    last = said.last
+    check_library(last)
+    if ran.returncode in (0, 1) and last:
+        say(last)
+    return Ran(ran.returncode, last)
 
 
 def wait_a_while(ran: "subprocess.Popen[bytes]", seconds: float) -> None:
