@@ -328,7 +328,7 @@ class InACi(unittest.TestCase):
             for name in ("game.txt", "recordings.json"):
                 shutil.copy(TOP / "examples/day" / name, runner.work)
             (runner.room / "kept").mkdir()
-            for name in ("lines", "report.html", "times", "parts"):
+            for name in ("lines", "report.html", "junit.xml", "times", "parts"):
                 (runner.room / "kept/file").write_text("kept")
                 (runner.work / name).symlink_to(runner.room / "kept" / ("file" if name != "parts" else ""))
             with self.subTest(commands):
@@ -349,6 +349,12 @@ class InACi(unittest.TestCase):
         recordings = runner.work / "recordings.json"
         recordings.write_text(json.dumps(json.loads(recordings.read_text(encoding="utf-8"))[:4]), encoding="utf-8")
         self.assertEqual(runner.run({"run": commands}), (0, "", ""))
+        # but not where one passes over a text of its own alone
+        entries = json.loads(recordings.read_text(encoding="utf-8"))
+        entries[1][1][0] = (runner.work / "game.txt").read_text(encoding="utf-8") + "\n(its own)\n"
+        recordings.write_text(json.dumps(entries), encoding="utf-8")
+        self.assertEqual(runner.run({"run": commands})[:2], (1, ""))
+        self.assertIn("over its own text, and was not played over game.txt", (runner.work / "junit.xml").read_text(encoding="utf-8"))
         # lines of that run stand there no more where the next ends early
         self.assertTrue((runner.work / "parts/00000000.lines").exists())
         (runner.work / "game.txt").write_text("")

@@ -100,6 +100,20 @@ class DayOfTests(OfAGame):
         self.assertEqual((answer.status, answer.out.splitlines()[:2]), (0, [ENDS[1], ENDS[3]]))
         self.assert_refused(run("test", self.game, self.recordings, "--filter", "level 9*"), "--filter fits no session (level 9*)")
 
+    def test_what_a_filter_leaves_out_is_told_in_each_file(self) -> None:
+        page, xml, text = (self.room / it for it in ("page.html", "junit.xml", "summary.md"))
+        answer = run("test", self.game, self.recordings, "--filter", "the second*", "--filter", "there*", "--report", page, "--junit", xml, "--markdown", text)
+        counts = "2 sessions: 2 passed, 0 differ, 0 stopped, 0 refused; 1 solved, 0 solved in part, 1 not solved; 3 left out by --filter"
+        self.assertEqual((answer.status, answer.out.splitlines()[-1]), (0, counts))
+        self.assertIn(f'"result":"{counts}"', page.read_text(encoding="utf-8"))
+        self.assertIn('"Sessions: recordings.json (2 sessions; 3 left out by --filter)."', page.read_text(encoding="utf-8"))
+        suite = ElementTree.parse(xml).getroot()[0]
+        self.assertEqual((suite.get("tests"), suite.get("skipped"), [it.tag for it in suite]), ("2", "0", ["properties", "testcase", "testcase"]))
+        self.assertEqual(suite[0][0].attrib, {"name": "left out by --filter", "value": "3 sessions"})
+        self.assertEqual(text.read_text(encoding="utf-8"), f"**{counts.replace(':', '&#58;').replace('-', '&#45;')}**\n")
+        # nor is anything of it where nothing is left out
+        self.assertNotIn("left out", run("test", self.game, self.recordings, "--filter", "*", "--report", page, "--junit", xml).out + page.read_text(encoding="utf-8") + xml.read_text(encoding="utf-8"))
+
     def test_of_many_failures_some_are_reported(self) -> None:
         answer = run("test", self.game, self.write_entries(self.entries[4:] * 3), "--max-fail", 1)
         self.assertEqual((answer.out.count(": differs: "), answer.out.splitlines()[-2]), (1, "and 2 more failures"))

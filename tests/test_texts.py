@@ -142,6 +142,9 @@ class DayOfTexts(OfTwoTexts):
         suite = ElementTree.fromstring(run("junit", self.mixed, lines, "--game", self.game).out)[0]
         self.assertEqual((suite.get("failures"), [it[0].get("message") for it in suite][1]), ("2", why))
         self.assertEqual(ElementTree.fromstring(run("junit", self.mixed, lines).out)[0].get("failures"), "1")
+        told = run("explain", self.mixed, lines, "--game", self.game).out
+        self.assertIn(f"session 1, {self.own[0]}: passed: {why}\n", told)
+        self.assertEqual(told.splitlines()[-1], "2 sessions: 1 passed, 1 differs, 0 stopped, 0 refused, 1 only over its own text")
 
     def test_an_added_recording_follows_the_text_at_hand(self) -> None:
         new = self.room / "new.json"

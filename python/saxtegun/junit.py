@@ -5,6 +5,7 @@ import re
 from typing import Dict, Iterable, Optional, Sequence, Set, Tuple
 from xml.etree import ElementTree
 
+from saxtegun.commands import plural
 from saxtegun.explanations import told
 from saxtegun.failures import Failure
 from saxtegun.lines import UNANSWERED, Run
@@ -44,8 +45,8 @@ def case_of(run: Run, name: str, entry: Optional[Entry], order: str, refused: st
     return case, counted
 
 
-def junit_of(runs: Iterable[Run], name: str, sessions: Optional[Sessions], order: str, refused: str = "error", failures: Optional[Dict[int, str]] = None, levels: Sequence[Failure] = ()) -> str:
-    """The JUnit file of runs, and of levels that can't be won or of which it isn't known."""
+def junit_of(runs: Iterable[Run], name: str, sessions: Optional[Sessions], order: str, refused: str = "error", failures: Optional[Dict[int, str]] = None, levels: Sequence[Failure] = (), left_out: int = 0) -> str:
+    """The JUnit file of runs, and of levels that can't be won or of which it isn't known; so many sessions a filter left out."""
     suite, counts = ElementTree.Element("testsuite"), {"failure": 0, "error": 0, "skipped": 0}
     names: Set[str] = set()
     for run in runs:
@@ -61,7 +62,11 @@ def junit_of(runs: Iterable[Run], name: str, sessions: Optional[Sessions], order
         case = ElementTree.SubElement(suite, "testcase", {"classname": "levels", "name": writable(it.name)})
         ElementTree.SubElement(case, counted, {"message": writable(it.sentence), "type": it.close}).text = writable(it.sentence)
         counts[counted] += 1
-    numbers = {"tests": len(suite), "failures": counts["failure"], "errors": counts["error"], "skipped": counts["skipped"]}
+    if left_out:
+        properties = ElementTree.Element("properties")
+        ElementTree.SubElement(properties, "property", {"name": "left out by --filter", "value": plural(left_out, "session")})
+        suite.insert(0, properties)
+    numbers = {"tests": len(suite.findall("testcase")), "failures": counts["failure"], "errors": counts["error"], "skipped": counts["skipped"]}
     suite.attrib.update({"name": writable(name), **{key: str(value) for key, value in numbers.items()}})
     suites = ElementTree.Element("testsuites")
     suites.append(suite)

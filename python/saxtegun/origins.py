@@ -22,13 +22,18 @@ def digest_of(data: bytes) -> str:
     return hashlib.sha256(data).hexdigest()[:DIGITS]
 
 
-def origin_of(sessions: Sessions, given: Namespace, played: str) -> List[str]:
-    """The sentences of a page on where it comes from; `played` is the one on the lines or the program."""
+def left_out_told(count: int) -> str:
+    """How many sessions a filter left out, behind how many there are."""
+    return f"; {count} left out by --filter" if count else ""
+
+
+def origin_of(sessions: Sessions, given: Namespace, played: str, left_out: int = 0) -> List[str]:
+    """The sentences of a page on where it comes from; `played` is the one on the lines or the program, and so many sessions a filter left out."""
     content = f"; SHA-256 {digest_of(sessions.text.encode())}" if sessions.text else ""
     version = VERSION.read_text(encoding="utf-8").strip() if VERSION.is_file() else "of no version"
     date = [f"Date: {cut(given.date)}."] if given.date else []
     ticks = ["Played without realtime_interval: ticks as recorded."] if getattr(given, "ticks_as_recorded", False) else []
-    return [*date, *ticks, f"Sessions: {cut(Path(sessions.path).name)} ({plural(len(sessions.entries), 'session')}{content}).", f"{cut(played)}, order {given.order}.", f"Written by saxtegun {version}."]
+    return [*date, *ticks, f"Sessions: {cut(Path(sessions.path).name)} ({plural(len(sessions.entries), 'session')}{left_out_told(left_out)}{content}).", f"{cut(played)}, order {given.order}.", f"Written by saxtegun {version}."]
 
 
 def program_told(words: List[str]) -> str:

@@ -111,6 +111,11 @@ def not_over(others: Sequence[Entry], game: Optional[GameText]) -> Dict[int, str
     return {it.number: f"over its own text, and was not played over {game.path}" for it in others} if game else {}
 
 
+def elsewhere_told(count: int) -> str:
+    """How many sessions passed over a text of their own alone, behind how they were closed."""
+    return f", {count} only over its own text" if count else ""
+
+
 def say_untested(verb: str, entries: Iterable[Entry]) -> None:
     """Says how many sessions must be solved, where nothing looks whether they are."""
     say_demands(verb, sum(1 for it in entries if it.is_solved_wanted))

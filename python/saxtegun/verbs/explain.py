@@ -7,7 +7,8 @@ refuses have one together. Below it stands the line of the source that the cause
 names, or the first cells that differ, with what stands there and what was
 recorded. If the game's letters can draw them, both levels follow. A session that
 passed, and isn't solved though its entry demands that, has a line too: those that
-must be solved are played for that, also where LINES are there.
+must be solved are played for that, also where LINES are there. With --game one
+that has another text than GAME has a line: it wasn't played over GAME.
 
 Sessions and frames are counted from 0, as the program does, columns and rows
 from 1. --order must be the order of the lines.
@@ -27,7 +28,7 @@ from saxtegun.lines import UNANSWERED, Run
 from saxtegun.playing import engine_of, lines_or_played
 from saxtegun.sessions import read_sessions
 from saxtegun.solutions import unsolved_among, unsolved_told
-from saxtegun.texts import over, read_game, say_others
+from saxtegun.texts import elsewhere_told, not_over, over, read_game, say_others
 from saxtegun.ticks import ticks_told
 
 USAGE = "explain SESSIONS [LINES] [--game GAME.txt] [--order rows|columns]"
@@ -59,19 +60,20 @@ def main(given: Namespace) -> int:
     guard_output(given.sessions, *(it for it in (given.lines, given.game) if it))
     game = read_game(given.game)
     sessions = over(read_sessions(given.sessions), game)
-    say_others("explain", sessions, game)
+    others = say_others("explain", sessions, game)
     expect(it.source for it in sessions.entries)
     engine = engine_of(given)
     closes: List[str] = []
-    count = 0
     told_of: Dict[Tuple[object, ...], Told] = {}
-    unsolved = unsolved_among(sessions, engine)
+    elsewhere, unsolved = not_over(others, game), unsolved_among(sessions, engine)
+    failures = {**elsewhere, **unsolved}
+    failed: List[int] = []
     with lines_or_played(sessions, given.lines, engine) as runs:
         for run in runs:
             closes.append(run.close)
-            if run.close == "passed" and run.number in unsolved:
-                count += 1
-                told_of[(run.number,)] = Told(run, unsolved[run.number], [], [])
+            if run.close == "passed" and run.number in failures:
+                failed.append(run.number)
+                told_of[(run.number,)] = Told(run, failures[run.number], [], [])
             elif run.close != "passed":
                 entry = sessions.entries[run.number]
                 # one fault of a game is one, however many sessions it refuses
@@ -81,5 +83,6 @@ def main(given: Namespace) -> int:
                 else:
                     told_of[key] = Told(run, *told(run, entry, given.order, given.game or ""), [])
     lines = [line for it in told_of.values() for line in it.lines()]
-    sys.stdout.write("\n".join([*lines, summary(closes) + unsolved_told(count) + ticks_told()]) + "\n")
+    counts = summary(closes) + unsolved_told(sum(it in unsolved for it in failed)) + elsewhere_told(sum(it in elsewhere for it in failed))
+    sys.stdout.write("\n".join([*lines, counts + ticks_told()]) + "\n")
     return 2 if UNANSWERED in closes else 0

@@ -42,7 +42,7 @@ from saxtegun.hangs import Finder
 from saxtegun.junit import junit_of
 from saxtegun.lines import UNANSWERED, Run
 from saxtegun.logs import write_command
-from saxtegun.origins import add_date, origin_of, program_told
+from saxtegun.origins import add_date, left_out_told, origin_of, program_told
 from saxtegun.pages import Report
 from saxtegun.playing import engine_of, runs_of
 from saxtegun.regressions import divergences
@@ -50,7 +50,7 @@ from saxtegun.sessions import Entry, Sessions, fits, read_sessions, unfitting
 from saxtegun.solutions import SOLVED, no_longer, solved_of, unsolved_told
 from saxtegun.solvability import UNKNOWN, UNSOLVABLE, levels_not_won
 from saxtegun.solving import add_bounds, bounds_of
-from saxtegun.texts import GameText, of_another_text, over, read_game, remark, split_files
+from saxtegun.texts import GameText, elsewhere_told, of_another_text, over, read_game, remark, split_files
 from saxtegun.ticks import forget, ticks_told
 
 USAGE = "test [GAME.txt] SESSIONS.json.. [options]"
@@ -75,7 +75,8 @@ def add_words(words: ArgumentParser) -> None:
 
 class Suite(NamedTuple):
     """What was played: the sessions of all files, numbered through, what they showed, how they ended, and the file of each. `elsewhere` is why sessions fail
-    that passed over a text of their own, and `remarks` tells which have one, and which files have no session; `game` is the text at hand, over which those of `unanswered` weren't answered."""
+    that passed over a text of their own, and `remarks` tells which have one, and which files have no session; `game` is the text at hand, over which those of `unanswered` weren't answered.
+    A filter left so many out."""
 
     sessions: Sessions
     runs: List[Run]
@@ -85,6 +86,7 @@ class Suite(NamedTuple):
     remarks: List[str]
     game: Optional[GameText]
     unanswered: List[int]
+    left_out: int
 
 
 class Picked(NamedTuple):
@@ -138,8 +140,10 @@ def elsewhere_in(file: Picked, runs: List[Run], game: GameText, given: Namespace
 def played(given: Namespace) -> Suite:
     game = read_game(split_files(given.files)[0])
     engine = engine_of(given)
-    suite = Suite(Sessions(", ".join(Path(it).name for it in split_files(given.files)[1]), "", []), [], {}, [], {}, [], game, [])
-    for file in read_files(given, game):
+    files = read_files(given, game)
+    left_out = sum(len(it.sessions.entries) - len(it.entries) for it in files)
+    suite = Suite(Sessions(", ".join(Path(it).name for it in split_files(given.files)[1]), "", []), [], {}, [], {}, [], game, [], left_out)
+    for file in files:
         if not file.sessions.entries:
             suite.remarks.append(f"{file.sessions.path} has no session, so nothing of it was played")
         first = len(suite.runs)
@@ -205,12 +209,12 @@ def tell(suite: Suite, failures: List[Failure], unsolved: Dict[int, str], given:
         show(f"and {plural(len(failures) - most, 'more failure')}")
     ends = Counter("solved" if it == SOLVED else "not solved" if it == "not solved" else "solved in part" for it in suite.solved.values())
     counts = summary(it.close for it in suite.runs) + unsolved_told(len(unsolved))
-    counts += f", {len(suite.elsewhere)} only over its own text" if suite.elsewhere else ""
+    counts += elsewhere_told(len(suite.elsewhere))
     counts += f"; {', '.join(f'{ends[it]} {it}' for it in ('solved', 'solved in part', 'not solved'))}"
     for close, told_so in ((UNSOLVABLE, "can't be won"), (UNKNOWN, "not known")):
         count = sum(it.close == close for it in failures)
         counts += f"; {plural(count, 'level')} {told_so}" if count else ""
-    counts += ticks_told()
+    counts += left_out_told(suite.left_out) + ticks_told()
     for line in suite.remarks:
         show(line)
     show(counts)
@@ -223,13 +227,13 @@ def tell(suite: Suite, failures: List[Failure], unsolved: Dict[int, str], given:
 
 def write_files(suite: Suite, failures: List[Failure], though_passed: Dict[int, str], counts: str, given: Namespace, hung: Finder, levels: List[Failure]) -> None:
     if given.junit:
-        write_whole(given.junit, junit_of(suite.runs, suite.sessions.path, suite.sessions, given.order, "error", though_passed, levels))
+        write_whole(given.junit, junit_of(suite.runs, suite.sessions.path, suite.sessions, given.order, "error", though_passed, levels, suite.left_out))
     if given.report:
-        report = Report(suite.sessions, given.order, origin_of(suite.sessions, given, program_told(engine_of(given).words())), hung)
+        report = Report(suite.sessions, given.order, origin_of(suite.sessions, given, program_told(engine_of(given).words()), suite.left_out), hung)
         for run in suite.runs:
             report.add(run, though_passed.get(run.number))
-        # levels aren't shown there: where one fails, the page says the counts in place of how many sessions passed
-        report.result = counts if levels else ""
+        # neither levels nor what was left out is shown there: the page says the counts in place of how many sessions passed
+        report.result = counts if levels or suite.left_out else ""
         write_whole(given.report, report.page())
     if given.markdown:
         write_whole(given.markdown, markdown(failures, counts))
