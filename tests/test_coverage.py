@@ -150,6 +150,13 @@ class DayOfCoverage(OfAGame):
         last = self.write_entries([self.entries[1]])
         self.assertEqual(run("coverage", self.game, last).status, 0)
 
+    def test_a_rule_that_wins_is_needed_where_a_session_is_won_by_it(self) -> None:
+        names = "Background .\nblack\nGoal g\nblue\nPlayer p\nwhite\n"
+        text = f"title Won\nOBJECTS\n{names}LEGEND\nCOLLISIONLAYERS\nBackground\nGoal\nPlayer\nRULES\nlate [ Player Goal ] -> WIN\nWINCONDITIONS\nLEVELS\np.g\n"
+        for inputs, level, status in (([3, 3], "background:0,0,background goal player:1,\n", 0), ([3], "background:0,background player:1,background goal:2,\n", 1)):
+            answer = run("coverage", self.write("won.txt", text), self.write_entries([["walk", ["", inputs, level, 0]]]))
+            self.assertEqual((answer.status, answer.out.splitlines()[-1]), (status, f"1 line left out in turn: {status} that no session notices"))
+
     def test_a_game_that_is_refused_is_not_covered_by_sessions_of_another_text(self) -> None:
         self.with_rule(RULE.replace("Crate", "Crat"))
         mixed = self.write_entries([self.entries[1], ["own", [self.source, *self.entries[1][1][1:]]]], "mixed.json")

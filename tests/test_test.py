@@ -1,6 +1,7 @@
 """`saxtegun test`: on the example, of which is known by hand what passes and what is solved, and on games with one fault each."""
 from __future__ import annotations
 
+import hashlib
 import json
 import os
 import re
@@ -106,7 +107,8 @@ class DayOfTests(OfAGame):
         counts = "2 sessions: 2 passed, 0 differ, 0 stopped, 0 refused; 1 solved, 0 solved in part, 1 not solved; 3 left out by --filter"
         self.assertEqual((answer.status, answer.out.splitlines()[-1]), (0, counts))
         self.assertIn(f'"result":"{counts}"', page.read_text(encoding="utf-8"))
-        self.assertIn('"Sessions: recordings.json (2 sessions; 3 left out by --filter)."', page.read_text(encoding="utf-8"))
+        content = hashlib.sha256(self.source.encode()).hexdigest()[:16]
+        self.assertIn(f'"origin":["Game: game.txt (SHA-256 {content}).","Sessions: recordings.json (2 sessions; 3 left out by --filter)."', page.read_text(encoding="utf-8"))
         suite = ElementTree.parse(xml).getroot()[0]
         self.assertEqual((suite.get("tests"), suite.get("skipped"), [it.tag for it in suite]), ("2", "0", ["properties", "testcase", "testcase"]))
         self.assertEqual(suite[0][0].attrib, {"name": "left out by --filter", "value": "3 sessions"})

@@ -146,6 +146,17 @@ class DayOfTexts(OfTwoTexts):
         self.assertIn(f"session 1, {self.own[0]}: passed: {why}\n", told)
         self.assertEqual(told.splitlines()[-1], "2 sessions: 1 passed, 1 differs, 0 stopped, 0 refused, 1 only over its own text")
 
+    def test_a_line_of_a_text_of_its_own_is_not_named_in_the_text_at_hand(self) -> None:
+        number = self.source[: self.source.index(RULE)].count("\n") + 1
+        own = [self.own[0], [self.source.replace(RULE, f"random {RULE}"), *self.own[1][1:]]]
+        suite, console = self.write_entries([self.entries[0], own], "own.json"), self.write("console.txt", json.dumps(own))
+        test = run("test", self.game, suite, "--github")
+        self.assertEqual(test.status, 1)
+        self.assertIn(f"::error file={suite},line=1,title=", test.out)
+        for told in (test.out, run("explain", suite, "--game", self.game).out, run("add", self.room / "new.json", console, "--game", self.game).errors):
+            self.assertIn(f"line {number} has what is not played here", told)
+            self.assertNotIn(f"{self.game}:{number}", told)
+
     def test_an_added_recording_follows_the_text_at_hand(self) -> None:
         new = self.room / "new.json"
         answer = run("add", new, "--game", self.game, stdin=json.dumps(self.own).encode())

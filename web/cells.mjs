@@ -96,8 +96,10 @@ export class DifferingCells {
 
   draw() {
     const first = Math.max(0, Math.min(this.cells.length - MOST_LISTED, (this.current ?? 0) - Math.floor(MOST_LISTED / 2)));
-    const told = firstOf(this.cells.slice(first, first + MOST_LISTED).map((cell) => this.told(cell)), MOST_IN_WORDS), more = this.cells.length - told.length;
-    const items = told.map((text, place) => this.item(text, first + place));
+    const near = this.cells.slice(first, first + MOST_LISTED).map((cell) => this.told(cell)), chosen = (this.current ?? 0) - first;
+    // where there is no room for all up to the chosen one, it is the first
+    const begin = chosen < firstOf(near, MOST_IN_WORDS).length ? 0 : chosen, told = firstOf(near.slice(begin), MOST_IN_WORDS), more = this.cells.length - told.length;
+    const items = told.map((text, place) => this.item(text, first + begin + place));
     at("differing").replaceChildren(...items, ...(more > 0 ? [make("li", "faint", `and ${plural(more, "cell")} more`)] : []));
     putText(at("chosen-cell"), this.current === null ? "" : `${this.current + 1} of ${this.cells.length}: ${this.told(this.chosen)}`);
   }

@@ -44,7 +44,7 @@ function sessionTold(state) {
   if (parting !== null) return { text: `Diverges at ${partingTold(parting, runWithFrames(there(state.suite), opened), there(state.comparison).others[there(opened)], inputs)}.`, close: "differs" };
   const clock = state.isTicked && hasClock(sourceOf(state)) ? ` Played ${WITHOUT_CLOCK}.` : "";
   if (run.isUnsolved) return { text: `Passed: the last level is the recorded one. But it must be solved, and isn't.${clock}`, close: "failed" };
-  if (run.close === "passed") return { text: `Passed: the last level is the recorded one.${clock}`, close: "passed" };
+  if (run.close === "passed") return { text: `Passed: the last level is the recorded one.${clock}`, close: clock ? null : "passed" };
   return run.close === "differs" ? { text: `Differs from what was recorded.${sinceTold(state)}${clock}`, close: "differs" } : null;
 }
 
@@ -77,7 +77,7 @@ export function visitTold({ unreadable, isCut, waiting, whyNot, isGone = false, 
 
 // What is promised of where the work is: whether the browser kept it, or null where that takes long.
 export function keepingTold(isKept) {
-  const told = isKept === null ? "This browser has not kept your last changes yet. Wait, or save your work as files." : isKept ? "What you work on stays in this browser; save it as files." : "This browser keeps nothing for a page from the disk: save your work as files.";
+  const told = isKept === null ? "This browser has not kept your last changes yet. Wait, or save your work as files." : isKept ? "What you work on stays in this browser; save it as files." : "This browser has no room for your work, or keeps nothing for a page from the disk: save your work as files.";
   return `Nothing leaves this machine. ${told}`;
 }
 
@@ -155,22 +155,30 @@ export function tabTold(state) {
 /** @param {State} state */
 function suiteTold(state, runs) {
   const failures = failuresOf(state), unsolved = failures.filter(({ isUnsolved }) => isUnsolved).length, broken = failures.length - unsolved, took = `${plural(runs.length, "session")} in ${(there(state.suite).milliseconds / 1000).toFixed(1)} s`;
-  const clocks = state.isTicked ? clocksOf(state) : 0, behind = clocks > 0 ? ` ${clocks} ${clocks === 1 ? "was" : "were"} played ${WITHOUT_CLOCK}.` : "";
+  const behind = clocksTold(state);
   if (runs.length === 0) return { text: "The file has no session.", close: null };
   const failed = [[broken, "did not pass"], [unsolved, UNSOLVED]].filter(([count]) => count > 0).map((it) => it.join(" ")).join(", ");
   if (failed) return { text: `${failed}: ${took}.${behind}`, close: "differs" };
   // no tick where a session was played over something else
-  return countOfOthers(state) > 0 ? { text: `All passed, but not all over the text on the left: ${took}.${behind}`, close: null } : { text: `All passed: ${took}.${behind}`, close: clocks > 0 ? null : "passed" };
+  return countOfOthers(state) > 0 ? { text: `All passed, but not all over the text on the left: ${took}.${behind}`, close: null } : { text: `All passed: ${took}.${behind}`, close: behind ? null : "passed" };
+}
+
+// What is said behind how sessions closed, where some were played without their clock.
+/** @param {State} state */
+function clocksTold(state) {
+  const count = state.isTicked ? clocksOf(state) : 0;
+  return count > 0 ? ` ${count} ${count === 1 ? "was" : "were"} played ${WITHOUT_CLOCK}.` : "";
 }
 
 // Two engines that both refuse a session are the same, and nothing of it was played.
-/** @param {NonNullable<State["comparison"]>} comparison */
-function comparisonTold({ name, others, partings }) {
+/** @param {State} state */
+function comparisonTold(state) {
+  const { name, others, partings } = there(state.comparison), behind = clocksTold(state);
   const parting = partings.filter((it) => it !== null).length, refused = partings.filter((it, number) => it === null && others[number].close === "refused").length;
   const unplayed = refused === 0 ? "" : `; ${refused} ${refused === 1 ? "was" : "were"} refused by both, and not played`;
-  const text = `Compared with ${name}: ${partings.length - parting} the same, ${parting} ${parting === 1 ? "diverges" : "diverge"}${unplayed}.`;
+  const text = `Compared with ${name}: ${partings.length - parting} the same, ${parting} ${parting === 1 ? "diverges" : "diverge"}${unplayed}.${behind}`;
   if (parting > 0) return { text, close: "differs" };
-  return { text, close: refused > 0 || partings.length === 0 ? null : "passed" };
+  return { text, close: behind || refused > 0 || partings.length === 0 ? null : "passed" };
 }
 
 // How the sessions closed: { text, close }.
@@ -178,7 +186,7 @@ function comparisonTold({ name, others, partings }) {
 export function verdictOf(state, doing) {
   const runs = runsOfNow(state);
   if (doing !== null) return { text: `Playing: ${doing.done} of ${plural(doing.total, "session")}`, close: null };
-  if (runs !== null) return state.comparison === null ? suiteTold(state, runs) : comparisonTold(state.comparison);
+  if (runs !== null) return state.comparison === null ? suiteTold(state, runs) : comparisonTold(state);
   return { text: state.suite?.why ?? "Not played yet.", close: null };
 }
 

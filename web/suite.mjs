@@ -75,7 +75,7 @@ const bodyWithOneMore = ({ source, inputs, level, index }) => [source, [...input
 // How many sessions are refused since their games have a clock, or are played without it.
 /** @param {State} state */
 export function clocksOf(state) {
-  if (state.isTicked) return rowsOf(state).filter((row) => row.isTicked).length;
+  if (state.isTicked) return rowsOf(state).filter(({ isTicked, close }) => isTicked && close !== "refused").length;
   const isWithClock = clockOf(state);
   return (runsOfNow(state) ?? []).filter(({ cause }, number) => isRefusedForClock(there(state.file).entries[number].source || state.text, cause, isWithClock)).length;
 }

@@ -31,9 +31,14 @@ def once(failures: Iterable[Failure]) -> List[Failure]:
     return [them[0]._replace(name=them[0].name + (f" and {plural(len(them) - 1, 'more session')}" if len(them) > 1 else "")) for them in of.values()]
 
 
+def escaped_in_table(text: str) -> str:
+    """A text without any letter that Markdown reads otherwise."""
+    return re.sub(r"[&<>\"'\\`*_{}\[\]()#+!|~@:-]|(?<=[wW]{3})\.", lambda it: f"&#{ord(it[0])};", text)
+
+
 def in_table(text: str) -> str:
     """A text of a stranger in a cell of a table of Markdown."""
-    return re.sub(r"[&<>\"'\\`*_{}\[\]()#+!|~@:-]|(?<=[wW]{3})\.", lambda it: f"&#{ord(it[0])};", cut(printable(text)))
+    return escaped_in_table(cut(printable(text)))
 
 
 def fenced(lines: Iterable[str]) -> str:
@@ -56,7 +61,7 @@ def within(lines: List[str], most: int) -> List[str]:
 
 def markdown(failures: List[Failure], counts: str) -> str:
     """A job's summary: a table of failures, and below it what was reached beside what was recorded."""
-    parts = [f"**{in_table(counts)}**\n"]
+    parts = [f"**{escaped_in_table(counts)}**\n"]
     if failures:
         rows = [f"| {in_table(it.name)} | {it.close} | {in_table(it.sentence)} |" for it in failures[:MOST_FAILURES]]
         more = [f"\nAnd {plural(len(failures) - MOST_FAILURES, 'more failure')}."] if len(failures) > MOST_FAILURES else []

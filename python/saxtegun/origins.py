@@ -4,11 +4,12 @@ from __future__ import annotations
 import hashlib
 from argparse import ArgumentParser, Namespace
 from pathlib import Path
-from typing import List
+from typing import List, Optional
 
 from saxtegun.commands import cut, plural
 from saxtegun.programs import file_that_plays
 from saxtegun.sessions import Sessions
+from saxtegun.texts import GameText
 
 VERSION = Path(__file__).resolve().parents[2] / "VERSION"
 DIGITS = 16
@@ -27,13 +28,15 @@ def left_out_told(count: int) -> str:
     return f"; {count} left out by --filter" if count else ""
 
 
-def origin_of(sessions: Sessions, given: Namespace, played: str, left_out: int = 0) -> List[str]:
-    """The sentences of a page on where it comes from; `played` is the one on the lines or the program, and so many sessions a filter left out."""
+def origin_of(sessions: Sessions, given: Namespace, played: str, game: Optional[GameText] = None, left_out: int = 0) -> List[str]:
+    """The sentences of a page on where it comes from; `played` is the one on the lines or the program, `game` the text at hand, and so many sessions a filter
+    left out."""
     content = f"; SHA-256 {digest_of(sessions.text.encode())}" if sessions.text else ""
     version = VERSION.read_text(encoding="utf-8").strip() if VERSION.is_file() else "of no version"
     date = [f"Date: {cut(given.date)}."] if given.date else []
     ticks = ["Played without realtime_interval: ticks as recorded."] if getattr(given, "ticks_as_recorded", False) else []
-    return [*date, *ticks, f"Sessions: {cut(Path(sessions.path).name)} ({plural(len(sessions.entries), 'session')}{left_out_told(left_out)}{content}).", f"{cut(played)}, order {given.order}.", f"Written by saxtegun {version}."]
+    text = [f"Game: {cut(Path(game.path).name)} (SHA-256 {digest_of(game.source.encode())})."] if game else []
+    return [*date, *ticks, *text, f"Sessions: {cut(Path(sessions.path).name)} ({plural(len(sessions.entries), 'session')}{left_out_told(left_out)}{content}).", f"{cut(played)}, order {given.order}.", f"Written by saxtegun {version}."]
 
 
 def program_told(words: List[str]) -> str:

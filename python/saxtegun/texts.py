@@ -72,6 +72,11 @@ def of_another_text(entries: Sequence[Entry], game: Optional[GameText]) -> List[
     return [it for it in entries if game and it.source and not same_text(it.source, game.source)]
 
 
+def file_of(entry: Entry, game: Optional[GameText]) -> str:
+    """The file that holds the text of an entry, so that a line of it can be named there; the empty text where that is the sessions file."""
+    return game.path if game and same_text(entry.source, game.source) else ""
+
+
 def names_told(entries: Sequence[Entry]) -> str:
     names = ", ".join(cut(it.name) for it in entries[:NAMES_TOLD])
     return f"{names}, .." if len(entries) > NAMES_TOLD else names

@@ -19,6 +19,7 @@ import { withOtherFile } from "../../web/filing.mjs";
 import { differenceOf, rowsOf, sessionOpened } from "../../web/suite.mjs";
 import { hasClock, withoutClock } from "../../web/ticks.mjs";
 import { lineNow, linePointedAt, opened } from "../../web/staging.mjs";
+import { there } from "../../web/there.mjs";
 import { Bench, module } from "./bench.mjs";
 
 const it = (name, act) => test(name, { skip: module === undefined && "there is no module" }, act);
@@ -168,12 +169,20 @@ it("a game with a clock is played without it where that is wanted, which the ver
   assert.match(verdictOf(bench.state, null).text, /1 was played without `realtime_interval`, with its ticks as recorded\.$/);
   assert.equal(verdictOf(bench.state, null).close, null);
   await bench.act(sessionOpened, 0);
-  assert.equal(statusOf(bench.state).text, "Passed: the last level is the recorded one. Played without `realtime_interval`, with its ticks as recorded.");
+  assert.deepEqual(statusOf(bench.state), { text: "Passed: the last level is the recorded one. Played without `realtime_interval`, with its ticks as recorded.", close: null });
+  // nor is a comparison of what was played so one of the game
+  const comparison = { name: "theirs", others: there(bench.state.suite).runs, partings: [null, null] };
+  assert.deepEqual(verdictOf({ ...bench.state, comparison }, null), { text: "Compared with theirs: 2 the same, 0 diverge. 1 was played without `realtime_interval`, with its ticks as recorded.", close: null });
   assert.deepEqual(clockTold(bench.state), { text: "Played without `realtime_interval`, with its ticks as recorded.", isAsked: false });
   await bench.reload();
   assert.equal(bench.state.isTicked, true);
   await bench.act(ticked, false);
   assert.deepEqual([rowsOf(bench.state)[0].close, clockTold(bench.state).isAsked], ["refused", true]);
+  // what is refused for something else wasn't played so
+  await bench.act(ticked, true);
+  await bench.act(edited, CLOCKED.replace("RULES", "RULES\n[ No Such ] -> [ ]"));
+  assert.deepEqual(rowsOf(bench.state).map(({ close }) => close), ["refused", "passed"]);
+  assert.doesNotMatch(verdictOf(bench.state, null).text, /realtime_interval/);
 });
 
 // Does something while texts are read by another engine.

@@ -3,7 +3,7 @@
 import assert from "node:assert/strict";
 import test from "node:test";
 import { Boards } from "../../web/boards.mjs";
-import { InWords, cellTold, rowsInWords } from "../../web/cells.mjs";
+import { DifferingCells, InWords, cellTold, rowsInWords } from "../../web/cells.mjs";
 import { sayable } from "../../web/elements.mjs";
 import { Ending, endingTold, obstacleTold, partingOf, partingTold } from "../../web/comparing.mjs";
 import { MOST_OF_A_LEVEL } from "../../web/level-text.mjs";
@@ -38,6 +38,18 @@ test("of a level in words no more rows are told than a browser lays out at once,
   assert.deepEqual(told(3, "wall"), ["wall", "wall", "wall"]);
   assert.deepEqual(told(252, "x".repeat(400)), [...new Array(250).fill("x".repeat(400)), "and 2 rows more"]);
   assert.equal(told(6_553, "wall").length, 6_553);
+  takeDocument();
+});
+
+test("of cells that differ the chosen one is listed, however long the others are told", () => {
+  const elements = { differing: { nodes: [], replaceChildren(...nodes) { this.nodes = nodes; } } }, element = () => ({ addEventListener: () => {}, setAttribute() { this.isCurrent = arguments[1]; } });
+  putDocument({ getElementById: (id) => (elements[id] ??= element()), createElement: element });
+  const cells = new DifferingCells(() => {}), letters = 1_000, listed = () => elements.differing.nodes.map(({ textContent, isCurrent }) => [textContent.slice(0, 3), isCurrent]);
+  cells.show(Array.from({ length: 1_000 }, (_, cell) => cell), (cell) => `${cell}`.padEnd(letters));
+  assert.deepEqual([listed().length, listed()[0], listed().at(-1)], [101, ["0  ", "false"], ["and", undefined]]);
+  for (let pressed = 0; pressed < 400; pressed += 1) cells.next();
+  assert.deepEqual([listed().length, listed().filter(([, isCurrent]) => isCurrent === "true")], [101, [["399", "true"]]]);
+  assert.equal(elements.differing.nodes.at(-1).textContent, "and 900 cells more");
   takeDocument();
 });
 

@@ -31,7 +31,7 @@ from saxtegun.files import guard_places, locked, write_whole
 from saxtegun.playing import engine_of, runs_of
 from saxtegun.recordings import Known, as_sessions, is_broken, named, own_name, read_findings
 from saxtegun.sessions import Entry, Sessions, check_name, guard_size, read_or_new, with_more
-from saxtegun.texts import GameText, of_another_text, over, read_game, remark, same_text
+from saxtegun.texts import GameText, file_of, of_another_text, over, read_game, remark, same_text
 
 USAGE = "add SESSIONS.json [CONSOLE.txt|-] [--game GAME.txt] [--name NAME] [--anyway] [--order rows|columns]"
 # What to do where a file has no room for more.
@@ -95,7 +95,7 @@ def failures_in(new: Sessions, game: Optional[GameText], given: Namespace) -> in
     for entry, run in zip(entries, runs_of(entries, new, engine_of(given))):
         if run.close == "passed":
             continue
-        sentence, below = told(run, entry, given.order, given.game or "")
+        sentence, below = told(run, entry, given.order, file_of(entry, game))
         is_let = given.anyway and run.close == "differs"
         failed += not is_let
         say(f"add: {cut(entry.name)}: {run.close}{'' if is_let else ', not added'}: {sentence}")

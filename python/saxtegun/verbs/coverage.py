@@ -5,8 +5,8 @@ plays the suite again.
     saxtegun coverage GAME.txt SESSIONS.json
         the game's text is the source of each recording whose source is empty
 
-A session notices that a line is gone if it closes differently; with a win line
-also if it wins differently. The lines of a game whose sessions are all refused
+A session notices that a line is gone if it closes differently; with a win line,
+or a rule that wins, also if it wins differently. The lines of a game whose sessions are all refused
 are not tried, nor are lines without which the rest is refused. Behind 600
 seconds, or --within N, no more lines are left out.
 
@@ -14,6 +14,7 @@ Exit status: 0 each line is noticed by some session, 1 some line by none, 2
 there is no whole answer."""
 from __future__ import annotations
 
+import re
 import sys
 from argparse import ArgumentParser, Namespace
 from time import monotonic
@@ -39,6 +40,8 @@ MOST_LETTERS = 2_000_000
 MOST_ENTRIES = 5_000
 FIRST_AT_ONCE, QUICK, SHARES = 1, 1.0, 20
 WITHIN = 600.0
+# A rule that wins by itself.
+WINS = re.compile(r"->.*\bwin\b", re.I | re.S)
 Signature = Tuple[object, ...]
 
 
@@ -168,7 +171,7 @@ class Coverage:
             self.alone += 1
             return
         self.tried += 1
-        is_win = trial.part.section == "winconditions"
+        is_win = trial.part.section == "winconditions" or WINS.search(trial.part.text) is not None
         before = [self.before[it.number] for it in trial.entries]
         if all(one[0] == other[0] and (not is_win or one[1] == other[1]) for one, other in zip(before, found)):
             self.unnoticed.append(trial)

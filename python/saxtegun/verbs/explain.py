@@ -28,7 +28,7 @@ from saxtegun.lines import UNANSWERED, Run
 from saxtegun.playing import engine_of, lines_or_played
 from saxtegun.sessions import read_sessions
 from saxtegun.solutions import unsolved_among, unsolved_told
-from saxtegun.texts import elsewhere_told, not_over, over, read_game, say_others
+from saxtegun.texts import elsewhere_told, file_of, not_over, over, read_game, say_others
 from saxtegun.ticks import ticks_told
 
 USAGE = "explain SESSIONS [LINES] [--game GAME.txt] [--order rows|columns]"
@@ -81,7 +81,7 @@ def main(given: Namespace) -> int:
                 if key in told_of:
                     told_of[key].more.append(run.number)
                 else:
-                    told_of[key] = Told(run, *told(run, entry, given.order, given.game or ""), [])
+                    told_of[key] = Told(run, *told(run, entry, given.order, file_of(entry, game)), [])
     lines = [line for it in told_of.values() for line in it.lines()]
     counts = summary(closes) + unsolved_told(sum(it in unsolved for it in failed)) + elsewhere_told(sum(it in elsewhere for it in failed))
     sys.stdout.write("\n".join([*lines, counts + ticks_told()]) + "\n")

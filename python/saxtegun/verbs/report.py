@@ -50,7 +50,7 @@ def main(given: Namespace) -> int:
     failures = {**not_over(others, game), **unsolved_among(sessions, engine)}
     with lines_or_played(sessions, given.lines, engine) as runs:
         played = f"Lines: {Path(given.lines).name}" if given.lines else program_told(engine.words())
-        report = Report(sessions, given.order, origin_of(sessions, given, played), *([] if given.lines else [Finder(sessions, engine)]))
+        report = Report(sessions, given.order, origin_of(sessions, given, played, game), *([] if given.lines else [Finder(sessions, engine)]))
         late = False
         for run in runs:
             report.add(run, failures.get(run.number))

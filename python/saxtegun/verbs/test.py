@@ -50,7 +50,7 @@ from saxtegun.sessions import Entry, Sessions, fits, read_sessions, unfitting
 from saxtegun.solutions import SOLVED, no_longer, solved_of, unsolved_told
 from saxtegun.solvability import UNKNOWN, UNSOLVABLE, levels_not_won
 from saxtegun.solving import add_bounds, bounds_of
-from saxtegun.texts import GameText, elsewhere_told, of_another_text, over, read_game, remark, split_files
+from saxtegun.texts import GameText, elsewhere_told, file_of, of_another_text, over, read_game, remark, split_files
 from saxtegun.ticks import forget, ticks_told
 
 USAGE = "test [GAME.txt] SESSIONS.json.. [options]"
@@ -171,13 +171,14 @@ def unsolved_in(suite: Suite, patterns: List[str]) -> Dict[int, str]:
 
 
 def failures_of(suite: Suite, though_passed: Dict[int, str], given: Namespace, hung: Finder) -> List[Failure]:
-    game, paths = split_files(given.files)
+    paths = split_files(given.files)[1]
     found: Dict[int, Failure] = {}
     for entry, run in zip(suite.sessions.entries, suite.runs):
         path, number = suite.files[entry.number]
         place = f"{path}: session {number}" if len(paths) > 1 else f"session {number}"
         if run.close == "passed" and entry.number not in though_passed:
             continue
+        game = file_of(entry, suite.game)
         sentence, below = told(run, entry, given.order, game, hung.told(entry, run))
         fault = fault_in(run.cause or "")
         if run.close == "passed":
@@ -229,7 +230,7 @@ def write_files(suite: Suite, failures: List[Failure], though_passed: Dict[int, 
     if given.junit:
         write_whole(given.junit, junit_of(suite.runs, suite.sessions.path, suite.sessions, given.order, "error", though_passed, levels, suite.left_out))
     if given.report:
-        report = Report(suite.sessions, given.order, origin_of(suite.sessions, given, program_told(engine_of(given).words()), suite.left_out), hung)
+        report = Report(suite.sessions, given.order, origin_of(suite.sessions, given, program_told(engine_of(given).words()), suite.game, suite.left_out), hung)
         for run in suite.runs:
             report.add(run, though_passed.get(run.number))
         # neither levels nor what was left out is shown there: the page says the counts in place of how many sessions passed
