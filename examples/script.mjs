@@ -1,9 +1,11 @@
 // @ts-check
 // Plays a sessions file and prints the sessions that didn't pass: node examples/script.mjs FILE
 import { readFileSync } from "node:fs";
+import { pathToFileURL } from "node:url";
 import { load, parse } from "../engine/saxtegun.mjs";
 
-const engine = await load();
+// SAXTEGUN_MODULE may name another module than engine/out/saxtegun.wasm
+const { SAXTEGUN_MODULE } = process.env, engine = await load(SAXTEGUN_MODULE && pathToFileURL(SAXTEGUN_MODULE));
 const { status, lines, fault } = engine.replay(readFileSync(process.argv[2]));
 if (fault) console.error(fault);
 // what would move a cursor in a terminal stands there by its number

@@ -135,6 +135,8 @@ class Verbs(OnSessions):
         joined = run("join", self.room / "parts")
         self.assertEqual((joined.status, joined.errors), (1, "join: 1 session must be solved, which lines don't tell: saxtegun test looks whether it is\n"))
         self.assertEqual(run("explain", EXAMPLE, self.lines).errors, "")
+        stale = self.write("stale.json", json.dumps([*entries[:4], [*entries[4], "solved"]]))
+        self.assertIn("\naccept: 1 session must be solved, which lines don't tell: saxtegun test looks whether it is\n", run("accept", stale, self.lines).errors)
 
     def demanding(self, end: str) -> Tuple[Path, Path]:
         """The example, of which the first session must be solved, and a program that shows such an end of it with one more input."""

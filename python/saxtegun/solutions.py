@@ -9,7 +9,7 @@ from saxtegun.lines import Run
 from saxtegun.playing import Engine, runs_of, runs_played
 from saxtegun.sessions import Entry, Sessions
 
-SOLVED = "solved"
+SOLVED, NOT_SOLVED, NOT_PLAYED = "solved", "not solved", "not played"
 # The last win shows no frame of its own; with one more input that runs no rule, play that is over shows it.
 ONE_MORE = "undo"
 MOST_INPUTS = 65_536
@@ -18,11 +18,11 @@ MOST_INPUTS = 65_536
 def solved_told(entry: Entry, run: Optional[Run]) -> str:
     """How a session ended: `run` is what it shows with one more input."""
     if run is None or not run.frames:
-        return "not played"
+        return NOT_PLAYED
     if run.frames[-1].kind == "over":
         return SOLVED
     wins = wins_of(run)
-    return f"solved up to level {first_level(entry) + wins - 1}" if wins else "not solved"
+    return f"solved up to level {first_level(entry) + wins - 1}" if wins else NOT_SOLVED
 
 
 def with_one_more(entries: Sequence[Entry]) -> List[Entry]:
@@ -42,7 +42,7 @@ def unsolved_told(count: int) -> str:
 def unsolved_among(sessions: Sessions, engine: Engine) -> Dict[int, str]:
     """Why sessions fail that must be solved as their file says, if they pass; by their numbers. Lines don't show the last win, so they are played."""
     wanted = [it for it in sessions.entries if it.is_solved_wanted]
-    ends = {it.number: "not played" for it in wanted}
+    ends = {it.number: NOT_PLAYED for it in wanted}
     played = [it for it in wanted if len(it.inputs) < MOST_INPUTS]
     for entry, run in zip(played, runs_played(with_one_more(played), sessions, engine) if played else ()):
         ends[entry.number] = solved_told(entry, run)

@@ -40,7 +40,7 @@ from saxtegun.lines import UNANSWERED, Run
 from saxtegun.playing import engine_of, lines_or_played
 from saxtegun.reindexing import WITHIN, reindexed
 from saxtegun.sessions import Entry, Sessions, changed, chosen, guard_size, read_sessions
-from saxtegun.texts import over, read_game, say_others
+from saxtegun.texts import over, read_game, say_others, say_untested
 
 USAGE = "accept SESSIONS [LINES] [--only PATTERN..] [--review|--reindex] [--in-place] [--game GAME.txt] [--order rows|columns] [>NEW]"
 ASKED = "accept it? y: yes, n: no, a: it and all that follow, q: none of those that follow "
@@ -184,5 +184,6 @@ def main(given: Namespace) -> int:
             say_all("not written: ", said)
         raise
     say_all("", said)
+    say_untested("accept", (sessions.entries[it] for it in changes))
     say(f"accept: {len(changes)} of {plural(len(sessions.entries), 'recorded level')} changed")
     return 2 if late else 1 if failed and given.only else 0

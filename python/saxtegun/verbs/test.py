@@ -47,7 +47,7 @@ from saxtegun.pages import Report
 from saxtegun.playing import engine_of, runs_of
 from saxtegun.regressions import divergences
 from saxtegun.sessions import Entry, Sessions, fits, read_sessions, unfitting
-from saxtegun.solutions import SOLVED, no_longer, solved_of, unsolved_told
+from saxtegun.solutions import NOT_PLAYED, NOT_SOLVED, SOLVED, no_longer, solved_of, unsolved_told
 from saxtegun.solvability import UNKNOWN, UNSOLVABLE, levels_not_won
 from saxtegun.solving import add_bounds, bounds_of
 from saxtegun.texts import GameText, elsewhere_told, file_of, of_another_text, over, read_game, remark, split_files
@@ -133,7 +133,7 @@ def elsewhere_in(file: Picked, runs: List[Run], game: GameText, given: Namespace
         if run.close != "passed":
             found[place] = f"over its own text, but not over {game.path}: {run.close}: {told(run, entry, given.order, game.path)[0]}"
         elif must_be_solved(entry, given.solved) and ends.get(number) != SOLVED:
-            found[place] = f"over its own text, but over {game.path} no longer solved: {ends.get(number, 'not played')}"
+            found[place] = f"over its own text, but over {game.path} no longer solved: {ends.get(number, NOT_PLAYED)}"
     return found, [place for place, run in zip(places, shown) if run.close == UNANSWERED]
 
 
@@ -166,7 +166,7 @@ def played(given: Namespace) -> Suite:
 def unsolved_in(suite: Suite, patterns: List[str]) -> Dict[int, str]:
     """Why sessions fail that passed, and must be solved."""
     wanted = [it for it in suite.sessions.entries if must_be_solved(it, patterns)]
-    ends = {it.number: suite.solved.get(it.number, "not played") for it in wanted}
+    ends = {it.number: suite.solved.get(it.number, NOT_PLAYED) for it in wanted}
     return {number: no_longer(end) for number, end in ends.items() if end != SOLVED and suite.runs[number].close == "passed"}
 
 
@@ -200,7 +200,7 @@ def tell(suite: Suite, failures: List[Failure], unsolved: Dict[int, str], given:
     if not given.quiet:
         for run in suite.runs:
             if run.close == "passed" and run.number not in suite.elsewhere:
-                show(f"passed, {suite.solved.get(run.number, 'not played')}: {cut(run.name)}")
+                show(f"passed, {suite.solved.get(run.number, NOT_PLAYED)}: {cut(run.name)}")
     most = given.max_fail if given.max_fail is not None else len(failures)
     for failure in failures[:most]:
         show(f"{failure.name}: {failure.close}: {failure.sentence}")
@@ -208,10 +208,11 @@ def tell(suite: Suite, failures: List[Failure], unsolved: Dict[int, str], given:
             show(f"    {line}")
     if len(failures) > most:
         show(f"and {plural(len(failures) - most, 'more failure')}")
-    ends = Counter("solved" if it == SOLVED else "not solved" if it == "not solved" else "solved in part" for it in suite.solved.values())
+    ends = Counter("solved" if it == SOLVED else it if it in (NOT_SOLVED, NOT_PLAYED) else "solved in part" for it in suite.solved.values())
     counts = summary(it.close for it in suite.runs) + unsolved_told(len(unsolved))
     counts += elsewhere_told(len(suite.elsewhere))
-    counts += f"; {', '.join(f'{ends[it]} {it}' for it in ('solved', 'solved in part', 'not solved'))}"
+    told_always = ("solved", "solved in part", NOT_SOLVED)
+    counts += f"; {', '.join(f'{ends[it]} {it}' for it in (*told_always, *([NOT_PLAYED] if ends[NOT_PLAYED] else [])))}"
     for close, told_so in ((UNSOLVABLE, "can't be won"), (UNKNOWN, "not known")):
         count = sum(it.close == close for it in failures)
         counts += f"; {plural(count, 'level')} {told_so}" if count else ""
