@@ -191,6 +191,16 @@ class Shrink(OnAYard):
         self.assert_refused(answer, "no longer parts as it did before: a program doesn't show the same each time")
         self.assertFalse((self.room / "case").exists())
 
+    def test_two_programs_that_both_fail_make_no_case(self) -> None:
+        """One ends by a signal, and the other takes longer than anybody waits."""
+        ends, hangs = self.write("ends", "#!/bin/sh\nkill -9 $$\n"), self.write("hangs", "#!/bin/sh\nexec sleep 1000\n")
+        for it in (ends, hangs):
+            it.chmod(0o755)
+        answer = run("shrink", ends, hangs, self.sessions, "idle", self.room / "case", "--timeout", "1")
+        self.assertEqual((answer.status, answer.out.count("idle: ")), (2, 2), answer)
+        self.assertIn("shrink: both programs fail on idle, and a case has the lines of one that doesn't\n", answer.errors)
+        self.assertFalse((self.room / "case").exists())
+
     def test_what_tells_no_stages_keeps_no_rules(self) -> None:
         teller = self.write("teller", "#!/bin/sh\necho 'no stages' >&2\nexit 2\n")
         teller.chmod(0o755)

@@ -107,7 +107,7 @@ def files_of_case(entry: Entry, engine: Engine, of: Sessions) -> Dict[str, bytes
         path, lines = os.path.join(room, "input.json"), os.path.join(room, "lines")
         with open(path, "w", encoding="utf-8", newline="") as file:
             file.write(text)
-        status = play_file(path, lines, engine, of._replace(entries=[entry]))
+        status = play_file(path, lines, engine, of._replace(entries=[entry]), engine.seconds)
         with open(lines, "rb") as shown:
             stdout = shown.read()
     args = "--order\nrows\n" if engine.order == "rows" else ""
@@ -199,6 +199,9 @@ def main(given: Namespace) -> int:
     if found is None:
         print(printable(f"{given.one} and {given.other} show the same"))
         return 1
+    if found.one.close in FAILED and found.other.close in FAILED:
+        tell(found.entry, found.one, found.other, programs, given)
+        raise Refused(f"both programs fail on {cut(found.entry.name)}, and a case has the lines of one that doesn't")
     begin = monotonic()
     entry, tried = shrunk(programs, started_with(programs, found), found.way, told_progress, given.within)
     if monotonic() - begin > given.within:
