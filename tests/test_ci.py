@@ -351,9 +351,11 @@ class InACi(unittest.TestCase):
         self.assertEqual(runner.run({"run": commands}), (0, "", ""))
         # but not where one passes over a text of its own alone
         entries = json.loads(recordings.read_text(encoding="utf-8"))
-        entries[1][1][0] = (runner.work / "game.txt").read_text(encoding="utf-8") + "\n(its own)\n"
+        entries[1][1][0] = "(its own)\n" + (runner.work / "game.txt").read_text(encoding="utf-8")
         recordings.write_text(json.dumps(entries), encoding="utf-8")
-        self.assertEqual(runner.run({"run": commands})[:2], (1, ""))
+        status, out, errors = runner.run({"run": commands})
+        self.assertEqual((status, out), (1, ""), errors)
+        self.assertTrue((runner.work / "junit.xml").exists(), errors)
         self.assertIn("over its own text, and was not played over game.txt", (runner.work / "junit.xml").read_text(encoding="utf-8"))
         # lines of that run stand there no more where the next ends early
         self.assertTrue((runner.work / "parts/00000000.lines").exists())

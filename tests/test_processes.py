@@ -3,6 +3,7 @@ from __future__ import annotations
 
 import json
 import os
+import re
 import shutil
 import signal
 import subprocess
@@ -185,6 +186,15 @@ class Bounds(Programs):
         with mock.patch.object(processes, "say", lambda line: by.append(threading.current_thread())):
             self.assertEqual(self.watched("for it in a b c; do echo $it >&2; done").status, 0)
         self.assertEqual(by, [threading.main_thread()] * 3)
+
+    def test_of_very_much_that_is_said_at_once_the_first_lines_are_handed_on(self) -> None:
+        """And it is told how many more there were; whoever says them wouldn't look at the time for minutes."""
+        said: List[str] = []
+        with mock.patch.object(processes, "say", said.append), mock.patch.object(processes, "MOST_HELD", 10):
+            self.assertEqual(self.watched("yes a | head -n 100000 >&2").status, 0)
+        more = [int(it[1]) for it in (re.fullmatch("and ([0-9]+) lines? more", line) for line in said) if it]
+        self.assertEqual((said[:10], said[-1]), (["a"] * 10, "a"))
+        self.assertEqual(len(said) - len(more) + sum(more), 100_000)
 
     def test_what_a_program_leaves_behind_is_ended_with_it(self) -> None:
         self.assertEqual(self.watched(f"sleep 1000 & echo $! >'{self.room}/left'; exit 0").status, 0)

@@ -14,7 +14,7 @@ from threading import Thread, current_thread, main_thread
 from time import monotonic
 from typing import IO, Any, Callable, Deque, Dict, Generic, Iterator, List, Mapping, NamedTuple, Optional, Sequence, TypeVar
 
-from saxtegun.commands import Refused, say
+from saxtegun.commands import Refused, plural, say
 from saxtegun.programs import environment_of
 
 GIB = 2**30
@@ -24,6 +24,8 @@ MOST_SAID = 2**24
 # So many bytes of a line that it says are told, and so long is waited between two looks at what it does.
 MOST_OF_LINE = 1000
 PAUSE = 0.05
+# So many lines that it says wait to be handed on.
+MOST_HELD = 1000
 # So long a program that is to end may tidy up.
 PATIENCE = 0.5
 UNANSWERED_BEGIN = "not answered in"
@@ -171,6 +173,7 @@ class Said(Thread):
         super().__init__(daemon=True)
         self.stream, self.last, self.count = stream, "", 0
         self.before: Deque[str] = deque()
+        self.skipped, self.told = 0, 0
         self.start()
 
     def run(self) -> None:
@@ -184,13 +187,20 @@ class Said(Thread):
 
     def take(self, line: str) -> None:
         if self.last and self.count <= MOST_SAID:
-            self.before.append(self.last)
+            if len(self.before) < MOST_HELD:
+                self.before.append(self.last)
+            else:
+                self.skipped += 1
         self.last = line
 
     def hand_on(self) -> None:
-        """Says what has come since."""
+        """Says what has come since: the first lines of it, and how many more, so that whoever says it still looks at the time."""
         for _ in range(len(self.before)):
             say(self.before.popleft())
+        skipped = self.skipped
+        if skipped > self.told:
+            say(f"and {plural(skipped - self.told, 'line')} more")
+            self.told = skipped
 
 
 def written_to(output: Any) -> Callable[[], int]:

@@ -171,7 +171,7 @@ it("a game with a clock is played without it where that is wanted, which the ver
   await bench.act(sessionOpened, 0);
   assert.deepEqual(statusOf(bench.state), { text: "Passed: the last level is the recorded one. Played without `realtime_interval`, with its ticks as recorded.", close: null });
   // nor is a comparison of what was played so one of the game
-  const comparison = { name: "theirs", others: there(bench.state.suite).runs, partings: [null, null] };
+  const comparison = { name: "theirs", others: there(bench.state.suite).runs.map((run) => ({ ...run, frames: [] })), partings: [null, null] };
   assert.deepEqual(verdictOf({ ...bench.state, comparison }, null), { text: "Compared with theirs: 2 the same, 0 diverge. 1 was played without `realtime_interval`, with its ticks as recorded.", close: null });
   assert.deepEqual(clockTold(bench.state), { text: "Played without `realtime_interval`, with its ticks as recorded.", isAsked: false });
   await bench.reload();
@@ -182,7 +182,7 @@ it("a game with a clock is played without it where that is wanted, which the ver
   await bench.act(ticked, true);
   await bench.act(edited, CLOCKED.replace("RULES", "RULES\n[ No Such ] -> [ ]"));
   assert.deepEqual(rowsOf(bench.state).map(({ close }) => close), ["refused", "passed"]);
-  assert.doesNotMatch(verdictOf(bench.state, null).text, /realtime_interval/);
+  assert.equal(verdictOf(bench.state, null).text.includes("realtime_interval"), false);
 });
 
 // Does something while texts are read by another engine.
