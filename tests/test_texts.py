@@ -146,6 +146,18 @@ class DayOfTexts(OfTwoTexts):
         self.assertIn(f"session 1, {self.own[0]}: passed: {why}\n", told)
         self.assertEqual(told.splitlines()[-1], "2 sessions: 1 passed, 1 differs, 0 stopped, 0 refused, 1 only over its own text")
 
+    def test_a_verb_that_is_asked_for_a_session_of_another_text_says_that_it_did_nothing(self) -> None:
+        self.with_rule(STUCK)
+        name = self.own[0]
+        accepted = run("accept", self.mixed, "--game", self.game, "--only", name)
+        self.assertEqual((accepted.status, accepted.out), (1, self.mixed.read_text(encoding="utf-8")))
+        self.assertIn(f"accept: session 1, {name}: passed, not accepted: it was played over its own text, and not over {self.game}\n", accepted.errors)
+        mended = run("mend", self.game, self.mixed, "--only", name)
+        self.assertEqual((mended.status, mended.out), (1, f"session 1, {name}: not mended: it has another text than {self.game}\n0 of 2 recordings mended\n"))
+        # two texts are compared, whatever the session's own is
+        old = self.write("old.txt", self.source)
+        self.assertEqual(run("why", self.game, self.mixed, "--number", "1", "--old", old).status, 1)
+
     def test_a_line_of_a_text_of_its_own_is_not_named_in_the_text_at_hand(self) -> None:
         number = self.source[: self.source.index(RULE)].count("\n") + 1
         own = [self.own[0], [self.source.replace(RULE, f"random {RULE}"), *self.own[1][1:]]]

@@ -156,7 +156,7 @@ def main(given: Namespace) -> int:
         guard_places(given.sessions)
     game = read_game(given.game)
     sessions = over(read_sessions(given.sessions), game)
-    say_others("accept", sessions, game)
+    others = {it.number for it in say_others("accept", sessions, game)}
     expect(it.source for it in sessions.entries)
     if given.reindex:
         return reindex(sessions, chosen(sessions, given.only), given)
@@ -167,7 +167,12 @@ def main(given: Namespace) -> int:
     failed, late = False, False
     with reviewed(sessions, changes, given), lines_or_played(sessions, given.lines, engine_of(given), is_drawn=True) as runs:
         for run in runs:
-            if run.number not in wanted or run.close == "passed":
+            if run.number not in wanted:
+                continue
+            if run.close == "passed":
+                if given.only and run.number in others:
+                    failed = True
+                    said.append(f"{heading(run)}, not accepted: it was played over its own text, and not over {given.game}")
                 continue
             why = obstacle(sessions.entries[run.number], run, given.order, review is not None)
             failed = failed or why is not None

@@ -20,7 +20,7 @@ import sys
 from argparse import ArgumentParser, Namespace
 from typing import Dict, List, Optional, Union
 
-from saxtegun.commands import Refused, add_playing, plural, printable
+from saxtegun.commands import Refused, add_playing, cut, plural, printable
 from saxtegun.explanations import heading
 from saxtegun.explanations import told as told_of_run
 from saxtegun.files import guard_output, guard_places, write_again
@@ -59,7 +59,9 @@ class Work:
     def __init__(self, sessions: Sessions, game: GameText, given: Namespace) -> None:
         self.sessions, self.game, self.given, self.engine = sessions, game, given, engine_of(given)
         others = {it.number for it in of_another_text(sessions.entries, game)}
-        wanted = [it for it in chosen(sessions, given.only) if it.number not in others]
+        named = chosen(sessions, given.only)
+        wanted = [it for it in named if it.number not in others]
+        self.elsewhere = [it for it in named if it.number in others] if given.only else []
         runs = runs_of(wanted, sessions, self.engine) if wanted else []
         self.runs: Dict[int, Run] = {it.number: run for it, run in zip(wanted, runs)}
         self.over = {wanted[place].number for place, end in solved_of(wanted, runs, sessions, self.engine).items() if end == SOLVED}
@@ -111,7 +113,9 @@ def write(mended: List[Mended], sessions: Sessions, given: Namespace) -> None:
 
 def mend(work: Work, mended: List[Mended]) -> int:
     """Mends one session after another, and says what became of each; how many are left as they are."""
-    left = 0
+    left = len(work.elsewhere)
+    for entry in work.elsewhere:
+        print(printable(f"session {entry.number}, {cut(entry.name)}: not mended: it has another text than {work.game.path}"))
     for entry in work.entries:
         it = work.become_of(entry)
         if isinstance(it, Mended):

@@ -107,6 +107,9 @@ def asked_by(given: Namespace) -> Asked:
     sessions = over(read_sessions(files[0]), game)
     entry = entry_named(sessions, given.session) if given.number is None else entry_at(sessions, given.number)
     say_others("why", sessions._replace(entries=[entry]), game)
+    if given.old and game:
+        # two texts of the game are compared, whatever the session's own is
+        entry = entry._replace(source=game.source)
     of_game = game.path if game and entry.source == game.source else ""
     return Asked(entry, sessions, Text(entry.source, of_game, given.order), engine_of(given))
 
