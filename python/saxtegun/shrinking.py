@@ -2,7 +2,7 @@
 from __future__ import annotations
 
 import re
-from itertools import combinations, takewhile
+from itertools import combinations, islice, takewhile
 from math import inf
 from time import monotonic
 from typing import Callable, Iterator, List, NamedTuple, Optional, Sequence, Set, Tuple
@@ -125,18 +125,17 @@ def size_of(entry: Entry) -> Tuple[int, int]:
     return len(entry.inputs), len(entry.source)
 
 
-def chunks(count: int) -> List[Set[int]]:
+def chunks(count: int) -> Iterator[Set[int]]:
     """So many things, all at once, in halves, in quarters, and so on down to each by itself."""
-    found: List[Set[int]] = []
     size = count
     while size:
-        found += [set(range(at, min(at + size, count))) for at in range(0, count, size)]
+        yield from (set(range(at, min(at + size, count))) for at in range(0, count, size))
         size = (size + 1) // 2 if size > 1 else 0
-    return found
 
 
-def pieces(items: List[Set[int]], size: int) -> List[List[Set[int]]]:
-    return [items[at : at + size] for at in range(0, len(items), size)]
+def pieces(items: Iterator[Set[int]], size: int) -> Iterator[List[Set[int]]]:
+    """These things, so many at a time, of which no more are made than are asked for."""
+    return iter(lambda: list(islice(items, size)), [])
 
 
 class Shrinking:

@@ -40,8 +40,6 @@ MOST_LETTERS = 2_000_000
 MOST_ENTRIES = 5_000
 FIRST_AT_ONCE, QUICK, SHARES = 1, 1.0, 20
 WITHIN = 600.0
-# A rule that wins by itself.
-WINS = re.compile(r"->.*\bwin\b", re.I | re.S)
 Signature = Tuple[object, ...]
 
 
@@ -118,6 +116,11 @@ def closing_of(run: Run) -> Signature:
     return answered(run).close, run.cause
 
 
+def wins_itself(rule: str) -> bool:
+    """Whether a rule may have the command that wins."""
+    return re.search(r"\bwin\b", rule.partition("->")[2], re.I) is not None
+
+
 def winning_of(run: Run) -> Signature:
     return wins_of(answered(run)), any(it.kind == "over" for it in run.frames)
 
@@ -171,7 +174,7 @@ class Coverage:
             self.alone += 1
             return
         self.tried += 1
-        is_win = trial.part.section == "winconditions" or WINS.search(trial.part.text) is not None
+        is_win = trial.part.section == "winconditions" or wins_itself(trial.part.text)
         before = [self.before[it.number] for it in trial.entries]
         if all(one[0] == other[0] and (not is_win or one[1] == other[1]) for one, other in zip(before, found)):
             self.unnoticed.append(trial)
