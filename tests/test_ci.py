@@ -317,8 +317,9 @@ class InACi(unittest.TestCase):
         runner = self.runner()
         self.act(runner, sessions="", sha256=self.sum)
         commands = next(it for it in commands_of_page() if "xargs" in it)
-        # typed by hand, where no shell ends at a status
-        self.assertEqual(runner.run({"run": f"set +e +o pipefail\n{commands}"}), (0, "1\n", ""))
+        # the status is that of one run, also typed by hand, where no shell ends at a status
+        self.assertEqual(runner.run({"run": commands}), (1, "", ""))
+        self.assertEqual(runner.run({"run": f"set +e +o pipefail\n{commands}"}), (1, "", ""))
         self.assertEqual((runner.work / "lines").read_text(encoding="utf-8"), lines_of_example(EXAMPLE.read_text(encoding="utf-8")))
 
     def test_the_commands_that_play_parts_write_through_no_link_of_a_checkout(self) -> None:

@@ -4,6 +4,7 @@ from __future__ import annotations
 import json
 import re
 import unittest
+from pathlib import Path
 from typing import Any
 
 from day import EXAMPLE
@@ -125,6 +126,26 @@ class DayOfComparing(OfAGame):
         self.assertIn("session 0, both levels solved: frame 2, after input 1 (left)\n    column 3, row 5: background; the other: background crate\n", answer.out)
         self.assertEqual(run("compare", "--sources", self.game, self.game, self.recordings).out, SAME)
 
+    def test_where_play_is_over_in_one_alone_is_told_though_all_frames_are_the_same(self) -> None:
+        lost = self.write("lost.txt", self.source.replace("All Target on Crate", "No Player"))
+        last = self.write_entries([self.entries[1]])
+        page = self.room / "page.html"
+        answer = run("compare", "--sources", self.game, lost, last, "--report", page)
+        told = f"session 0, {self.entries[1][0]}: play is over behind its last input in game.txt, and not in lost.txt\n1 session: 0 the same, 1 diverges\n"
+        self.assertEqual((answer.status, answer.out), (1, told))
+        self.assertIn("1 session: 0 the same, 1 diverges", page.read_text(encoding="utf-8"))
+        # so of engines
+        whole = self.write_entries([[self.entries[1][0], [self.source, *self.entries[1][1][1:]]]])
+        program = self.program_with("s/\"over\"/\"undo\"/")
+        self.assertEqual(run("compare", "--engines", PROGRAM, program, whole).status, 1)
+        self.assertEqual(run("compare", "--engines", PROGRAM, PROGRAM, whole).out, "1 session: 1 the same, 0 diverge\n")
+
+    def program_with(self, change: str) -> Path:
+        """A program whose lines are ours with a change."""
+        program = self.write("program", f'#!/bin/sh\n"{PROGRAM}" "$@" | sed \'{change}\'\nexit 1\n')
+        program.chmod(0o755)
+        return program
+
     def test_two_texts_over_which_nothing_is_played_are_not_the_same(self) -> None:
         broken = [self.write(name, self.source.replace(RULE, f"[ {name} ] -> [ ]")) for name in ("one", "other")]
         self.assert_refused(run("compare", "--sources", *broken, self.recordings), "no session was played: both refuse each, as they do session 0: line ")
@@ -133,9 +154,7 @@ class DayOfComparing(OfAGame):
         self.assertIn("no session was played: their source is the empty text", answer.errors)
 
     def test_two_programs_are_compared(self) -> None:
-        program = self.write("program", f'#!/bin/sh\n"{PROGRAM}" "$@" | sed \'2s/"move"/"tick"/\'\nexit 1\n')
-        program.chmod(0o755)
-        answer = run("compare", EXAMPLE, "--engines", PROGRAM, program)
+        answer = run("compare", EXAMPLE, "--engines", PROGRAM, self.program_with('2s/"move"/"tick"/'))
         self.assertEqual((answer.status, answer.out.count("session ")), (1, 1))
         self.assertIn("frame 1, after input 0 (", answer.out)
 

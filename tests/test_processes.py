@@ -111,6 +111,17 @@ class Time(Programs):
         self.assertIn(f"session 20, slow: unanswered: not answered in {ENOUGH} s\n", answer.out)
         self.assertIn("31 sessions: 30 passed, 0 differ, 0 stopped, 0 refused, 1 not answered; 0 solved, 0 solved in part, 30 not solved\n", answer.out)
 
+    def test_that_it_is_not_known_whether_a_session_is_solved_is_told(self) -> None:
+        """With one more input, which shows that, it has no answer."""
+        program = self.program(PLAYER.replace('name == "slow"', 'inputs[-1:] == ["undo"]'))
+        suite = self.write("suite.json", json.dumps([["a", ["", [1], LEVEL, 0], "solved"]]))
+        answer = run("test", suite, "--program", program, "--timeout", ENOUGH)
+        counts = "1 session: 1 passed, 0 differ, 0 stopped, 0 refused, 1 of which it isn't known whether they are solved"
+        told = f"session 0, a: passed: whether it is solved had no answer in its time\n{counts}; 0 solved, 0 solved in part, 0 not solved, 1 not answered\n"
+        self.assertEqual((answer.status, answer.out.partition("\n")[2]), (2, told))
+        explained = run("explain", suite, "--program", program, "--timeout", ENOUGH)
+        self.assertEqual((explained.status, explained.out.splitlines()[-1]), (2, counts))
+
     def test_sessions_that_are_not_answered_take_about_their_limits(self) -> None:
         """Where none is answered only the first batch takes its time for nothing; else finding each takes its time some times more."""
         for names, most in (("ssss", 5), ("s" * 200, 201), ("qs" * 40, 82), ("q" * 63 + "s", 8), ("q" * 40 + "s" + "q" * 100, 9), ("q" * 300, 0)):

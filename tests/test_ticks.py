@@ -59,12 +59,13 @@ class DayOfTicks(OnSessions):
         self.assertIn(REMEDY, run("play", self.game).errors)
 
     def test_the_ticks_are_played_and_each_answer_says_so(self) -> None:
-        answer = run("test", self.game, self.suite, "--ticks-as-recorded", "--markdown", self.room / "m.md", "--report", self.room / "p.html")
+        answer = run("test", self.game, self.suite, "--ticks-as-recorded", "--markdown", self.room / "m.md", "--report", self.room / "p.html", "--junit", self.room / "j.xml")
         self.assertEqual((answer.status, answer.out.splitlines()[0], answer.errors), (0, "passed, not solved: a tick", f"saxtegun: {TOLD}\n"))
         self.assertTrue(answer.out.endswith(f"; {TOLD}\n"))
         self.assertIn("played without realtime", (self.room / "m.md").read_text(encoding="utf-8").replace("&#95;", "_"))
         self.assertIn("Played without realtime_interval: ticks as recorded.", (self.room / "p.html").read_text(encoding="utf-8"))
         self.assertEqual(run("explain", self.suite, "--game", self.game, "--ticks-as-recorded").out, f"1 session: 1 passed, 0 differ, 0 stopped, 0 refused; {TOLD}\n")
+        self.assertIn('<property name="played without realtime_interval" value="ticks as recorded" />', (self.room / "j.xml").read_text(encoding="utf-8"))
         lines = run("lines", self.suite, "--game", self.game, "--ticks-as-recorded")
         self.assertEqual((lines.status, json.loads(lines.out.splitlines()[-1])["close"], lines.errors), (0, "passed", f"saxtegun: {TOLD}\n"))
         for words in (("accept", self.suite, "--game", self.game), ("coverage", self.game, self.suite), ("report", self.suite, "--game", self.game)):

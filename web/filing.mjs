@@ -34,8 +34,11 @@ export function accepted(state, numbers) {
 /** @param {State} state */
 export const isSavable = (state) => !state.ghost && isPlayed(state) && state.played?.cause === null && framesOf(state).length > 0 && state.queue.length === 0;
 
+// The name of what is at hand. That of the session that is open may be empty, and else it has one.
 /** @param {State} state */
-const nameOf = (state) => state.work.name || NAMELESS;
+function nameOf({ file, work: { name, opened } }) {
+  return name || (opened !== null && file?.entries[opened]?.name === "" ? "" : NAMELESS);
+}
 
 // The number of the session that has the name which is written, or -1. Of several with that name it is the one that is open.
 /** @param {State} state */
@@ -59,7 +62,7 @@ export function savedAs(state, number = null) {
 
 /** @param {State} state */
 function withSession(state, number) {
-  const { own, inputs, index } = state.work, entry = { name: nameOf(state), source: own ?? "", inputs, level: there(framesOf(state).at(-1)).level, index };
+  const { own, inputs, index } = state.work, name = number === null ? state.work.name || NAMELESS : nameOf(state), entry = { name, source: own ?? "", inputs, level: there(framesOf(state).at(-1)).level, index };
   const former = state.file ?? SessionFile.empty(RECORDINGS);
   if (number === null && former.entries.length >= MOST_SESSIONS) throw new Refusal(`${former.name} has 65,536 sessions, and with more it wouldn't be read again`);
   const file = number === null ? former.with(entry) : former.withReplaced(number, entry);

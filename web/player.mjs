@@ -2,7 +2,7 @@
 // The player of a session: its frames, drawn beside the recorded level or beside those of another run.
 import { Boards } from "./boards.mjs";
 import { shapeOf } from "./closes.mjs";
-import { at, cut, fill, json, make, sayable } from "./elements.mjs";
+import { at, cut, fill, json, make, readable, sayable } from "./elements.mjs";
 import { Run, textOf } from "./frames.mjs";
 import { InputStrip } from "./input-strip.mjs";
 import { differing, heightOf, isDrawn, isTooLarge } from "./levels.mjs";
@@ -70,7 +70,7 @@ export class Player {
     const [name, close] = this.index.sessions[number];
     this.session = json(`session-${number}`);
     this.number = number;
-    this.sides = this.session.sides.map(([caption, frames]) => ({ caption, run: new Run(frames, this.index.order, this.index.letters) }));
+    this.sides = this.session.sides.map(([caption, frames]) => ({ caption: readable(caption), run: new Run(frames, this.index.order, this.index.letters) }));
     at("session").hidden = false;
     at("name").textContent = cut(name, NAMED);
     at("close").replaceChildren(shapeOf(close), make("span", "", sayable(`${close}: ${this.session.told}`)));
@@ -91,7 +91,7 @@ export class Player {
   showSource() {
     const { source } = this.session, lines = typeof source === "number" ? json(`session-${source}`).source : source;
     at("source").hidden = lines.length === 0;
-    fill(at("source"), lines.map(([number, text, isHere]) => make("span", isHere ? "row here" : "row", `${String(number).padStart(5)}  ${text}`)));
+    fill(at("source"), lines.map(([number, text, isHere]) => make("span", isHere ? "row here" : "row", `${String(number).padStart(5)}  ${readable(text)}`)));
   }
 
   // ---- frames

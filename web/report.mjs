@@ -2,7 +2,7 @@
 // The page of a report: a list of sessions, and a player for the one that is open.
 import { addressOf, readAddress } from "./address.mjs";
 import { makeCopy } from "./copying.mjs";
-import { at, fill, json, make, plural, readable } from "./elements.mjs";
+import { at, cut, fill, json, make, plural, readable } from "./elements.mjs";
 import { Player } from "./player.mjs";
 import { SessionList, isFailure } from "./session-list.mjs";
 
@@ -45,7 +45,7 @@ function showAddress(hash) {
   const { session, frame, close, name, text } = readAddress(hash);
   const isThere = session !== null && session < index.sessions.length;
   list.setFilters(close, name);
-  notice(text === null || isThere ? "" : `There is no session ${text.slice(0, 20)} here. The first one of the list is shown.`);
+  notice(text === null || isThere ? "" : `There is no session ${cut(text, 20)} here. The first one of the list is shown.`);
   if (isThere) openSession(session, frame);
   else openSession(list.shown[0] ?? list.order[0]);
 }

@@ -17,6 +17,8 @@ from saxtegun.sessions import Entry
 
 # How many cells that differ are told.
 CELLS_TOLD = 8
+# So long a source is split into lines at once, again and again.
+MOST_SHORT = 10_000
 STOPS = {
     "loop-limit": "a group of rules or a loop still changed something in its 200th pass",
     "again-limit": "an input needed more than 500 ticks of `again`",
@@ -78,9 +80,13 @@ def source_told(entry: Optional[Entry], cause: str) -> str:
     return NO_TEXT if entry is not None and not entry.source and fault_in(cause) else cause_told(cause)
 
 
-@lru_cache(maxsize=2)
 def written_lines(source: str) -> List[str]:
-    """The lines of a source as they stand there. Many are told of one source."""
+    """The lines of a source as they stand there. Many are told of one source, and the long one of a game isn't forgotten for short ones between."""
+    return kept_lines(source) if len(source) > MOST_SHORT else source.split("\n")
+
+
+@lru_cache(maxsize=2)
+def kept_lines(source: str) -> List[str]:
     return source.split("\n")
 
 

@@ -2,10 +2,9 @@
 from __future__ import annotations
 
 import re
-from typing import Dict, Iterable, Optional, Sequence, Set, Tuple
+from typing import Dict, Iterable, Mapping, Optional, Sequence, Set, Tuple
 from xml.etree import ElementTree
 
-from saxtegun.commands import plural
 from saxtegun.explanations import told
 from saxtegun.failures import Failure
 from saxtegun.lines import UNANSWERED, Run
@@ -45,8 +44,8 @@ def case_of(run: Run, name: str, entry: Optional[Entry], order: str, refused: st
     return case, counted
 
 
-def junit_of(runs: Iterable[Run], name: str, sessions: Optional[Sessions], order: str, refused: str = "error", failures: Optional[Dict[int, str]] = None, levels: Sequence[Failure] = (), left_out: int = 0) -> str:
-    """The JUnit file of runs, and of levels that can't be won or of which it isn't known; so many sessions a filter left out."""
+def junit_of(runs: Iterable[Run], name: str, sessions: Optional[Sessions], order: str, refused: str = "error", failures: Optional[Dict[int, str]] = None, levels: Sequence[Failure] = (), properties: Mapping[str, str] = {}) -> str:
+    """The JUnit file of runs, and of levels that can't be won or of which it isn't known; `properties` say what else is to be known of the run."""
     suite, counts = ElementTree.Element("testsuite"), {"failure": 0, "error": 0, "skipped": 0}
     names: Set[str] = set()
     for run in runs:
@@ -62,10 +61,11 @@ def junit_of(runs: Iterable[Run], name: str, sessions: Optional[Sessions], order
         case = ElementTree.SubElement(suite, "testcase", {"classname": "levels", "name": writable(it.name)})
         ElementTree.SubElement(case, counted, {"message": writable(it.sentence), "type": it.close}).text = writable(it.sentence)
         counts[counted] += 1
-    if left_out:
-        properties = ElementTree.Element("properties")
-        ElementTree.SubElement(properties, "property", {"name": "left out by --filter", "value": plural(left_out, "session")})
-        suite.insert(0, properties)
+    if properties:
+        told_first = ElementTree.Element("properties")
+        for it, value in properties.items():
+            ElementTree.SubElement(told_first, "property", {"name": it, "value": value})
+        suite.insert(0, told_first)
     numbers = {"tests": len(suite.findall("testcase")), "failures": counts["failure"], "errors": counts["error"], "skipped": counts["skipped"]}
     suite.attrib.update({"name": writable(name), **{key: str(value) for key, value in numbers.items()}})
     suites = ElementTree.Element("testsuites")

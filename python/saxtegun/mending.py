@@ -11,7 +11,7 @@ from saxtegun.levelsets import count_of_levels, first_level, level_of_recorded, 
 from saxtegun.lines import PLAYED, UNANSWERED, Run
 from saxtegun.playing import Engine, runs_of
 from saxtegun.sessions import Entry, Input, Sessions
-from saxtegun.solutions import MOST_INPUTS, SOLVED, solved_of
+from saxtegun.solutions import MOST_INPUTS, NOT_ANSWERED, SOLVED, solved_of
 from saxtegun.solving import LATE, Answer, Bounds, Solved, Unasked, solution_of, told
 from saxtegun.texts import GameText
 
@@ -65,9 +65,10 @@ def guard_game(game: GameText, engine: Engine, seconds: float) -> None:
 def won(entry: Entry, level: int, of: Sessions, engine: Engine) -> Entry:
     """A session that wins the level of this number last, with the level that it reaches as its recorded one. Refused where the program that plays doesn't win."""
     run = runs_of([entry], of, engine)[0]
-    if run.close == UNANSWERED:
-        raise Refused(f"what wins level {level} of {cut(of.path)} was found, but is {run.cause} by the program that plays")
-    standing = standing_of(entry, run, solved_of([entry], [run], of, engine).get(0) == SOLVED)
+    end = solved_of([entry], [run], of, engine).get(0)
+    if run.close == UNANSWERED or end == NOT_ANSWERED:
+        raise Refused(f"what wins level {level} of {cut(of.path)} was found, but is {run.cause or NOT_ANSWERED} by the program that plays")
+    standing = standing_of(entry, run, end == SOLVED)
     if standing is None or run.close not in PLAYED or first_level(entry) + standing.won <= level:
         raise Refused(f"level {level} of {cut(of.path)} is not won by the presses that were found, as the program plays: it is another one than the engine that was asked")
     reached = run.frames[-1].level

@@ -6,7 +6,7 @@ from typing import Dict, Iterator, NamedTuple, Optional, Tuple, Union
 from saxtegun.commands import ORDERS, Refused, cut, plural
 from saxtegun.explanations import input_told
 from saxtegun.levels import Labels, read_cells, sets_of
-from saxtegun.levelsets import drawn_start, may_begin_with
+from saxtegun.levelsets import Cells, drawn_start, may_begin_with
 from saxtegun.lines import Run, runs_in
 from saxtegun.sessions import Entry, Sessions
 
@@ -93,6 +93,13 @@ def inputs_fault(entry: Entry, run: Run) -> Optional[str]:
     return None
 
 
+def are_same_cells(shown: Cells, drawn: Optional[Cells]) -> bool:
+    """Whether two levels have the same cells, of which each pair is looked at once: a stranger's have hundreds of names each."""
+    if drawn is None or len(shown) != len(drawn):
+        return False
+    return all(one == other for one, other in {(id(one), id(other)): (one, other) for one, other in zip(shown, drawn)}.values())
+
+
 def start_fault(entry: Entry, run: Run, tests: Tests) -> Optional[str]:
     """What the first frame shows against the order, or where that is wanted against the source, or None. A frame that can't be read back, or
     a level that is the same in both orders, shows nothing."""
@@ -103,10 +110,10 @@ def start_fault(entry: Entry, run: Run, tests: Tests) -> Optional[str]:
     if cells is None:
         return None
     shown = tuple(sets_of(cells, labels)) if may_begin_with(entry, len(cells)) else None
-    if shown is not None and shown == drawn_start(entry, tests.order):
+    if shown is not None and are_same_cells(shown, drawn_start(entry, tests.order)):
         return None
     other = ORDERS[1 - ORDERS.index(tests.order)]
-    if shown is not None and shown == drawn_start(entry, other):
+    if shown is not None and are_same_cells(shown, drawn_start(entry, other)):
         return f"session {run.number} was played in the order {other}, as its first frame shows, and not in the order {tests.order}"
     return f"session {run.number} doesn't begin with the level that its source draws: it was played over another source" if tests.is_drawn else None
 

@@ -1,15 +1,17 @@
 """Whether a session solves its game: `passed` says that its level is as recorded, not that it was won."""
 from __future__ import annotations
 
-from typing import Dict, List, Optional, Sequence
+from typing import Collection, Dict, List, Optional, Sequence
 
 from saxtegun.descriptions import expected
 from saxtegun.levelsets import first_level, wins_of
-from saxtegun.lines import Run
+from saxtegun.lines import UNANSWERED, Run
 from saxtegun.playing import Engine, runs_of, runs_played
 from saxtegun.sessions import Entry, Sessions
 
-SOLVED, NOT_SOLVED, NOT_PLAYED = "solved", "not solved", "not played"
+SOLVED, NOT_SOLVED, NOT_PLAYED, NOT_ANSWERED = "solved", "not solved", "not played", "not answered"
+# Why a session fails of which it isn't known whether it is solved, as it must be.
+UNKNOWN_END = "whether it is solved had no answer in its time"
 # The last win shows no frame of its own; with one more input that runs no rule, play that is over shows it.
 ONE_MORE = "undo"
 MOST_INPUTS = 65_536
@@ -17,6 +19,8 @@ MOST_INPUTS = 65_536
 
 def solved_told(entry: Entry, run: Optional[Run]) -> str:
     """How a session ended: `run` is what it shows with one more input."""
+    if run is not None and run.close == UNANSWERED:
+        return NOT_ANSWERED
     if run is None or not run.frames:
         return NOT_PLAYED
     if run.frames[-1].kind == "over":
@@ -31,12 +35,14 @@ def with_one_more(entries: Sequence[Entry]) -> List[Entry]:
 
 def no_longer(end: str) -> str:
     """Why a session fails that passed, and must be solved."""
-    return f"no longer solved: {end}"
+    return UNKNOWN_END if end == NOT_ANSWERED else f"no longer solved: {end}"
 
 
-def unsolved_told(count: int) -> str:
-    """How many sessions passed and must be solved, and aren't, behind the counts of all."""
-    return f", {count} no longer solved" if count else ""
+def unsolved_told(whys: Collection[str]) -> str:
+    """How many sessions passed and must be solved, and aren't, or of how many that isn't known, behind the counts of all."""
+    unknown = sum(it == UNKNOWN_END for it in whys)
+    counts = ((len(whys) - unknown, "no longer solved"), (unknown, "of which it isn't known whether they are solved"))
+    return "".join(f", {count} {told}" for count, told in counts if count)
 
 
 def unsolved_among(sessions: Sessions, engine: Engine) -> Dict[int, str]:

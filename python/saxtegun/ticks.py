@@ -2,7 +2,7 @@
 from __future__ import annotations
 
 from functools import lru_cache
-from typing import List
+from typing import Dict, List
 
 from saxtegun.commands import fold, say
 from saxtegun.descriptions import NOTHING, description_of
@@ -37,6 +37,12 @@ def without_ticking(entry: Entry) -> Entry:
 def ticks_told() -> str:
     """That games were played without their clock, behind the words of an answer, or nothing."""
     return f"; {WITHOUT_CLOCK}" if SAID else ""
+
+
+def ticks_property(is_told: bool = False) -> Dict[str, str]:
+    """The same as a property of a JUnit file; `is_told`: whoever calls says that what is there was played so."""
+    name, value = WITHOUT_CLOCK.split(": ")
+    return {name: value} if SAID or is_told else {}
 
 
 def forget() -> None:

@@ -395,6 +395,19 @@ it("of two sessions with one name the one that is open is replaced", async () =>
   assert.equal(namesakeOf(bench.state), 0);
 });
 
+it("a session without a name is replaced by itself, and not what has the name of a recording without one", async () => {
+  const bench = new Bench(), told = () => entriesIn(bench.state).map(([name, [, it]]) => [name, it]);
+  await bench.act(withOtherFile, fileOf([["a recording", ["", [2, 3], "", 0]], ["", ["", [1], "", 1]]]));
+  await bench.act(sessionOpened, 1);
+  await bench.act(lookedAt, Infinity);
+  await bench.act(pressed, 2);
+  assert.equal(namesakeOf(bench.state), 1);
+  await bench.act(savedAs, 1);
+  assert.deepEqual(told(), [["a recording", [2, 3]], ["", [1, 2]]]);
+  await bench.act(savedAs);
+  assert.deepEqual(told()[2], ["a recording", [1, 2]]);
+});
+
 it("what waits to be saved is not what came to hand meanwhile", async () => {
   const others = ["keep", "keep too"].map((name) => [name, [GAME, [3], "background:0,", 0]]);
   for (const change of [(state) => withOtherFile(state, fileOf(others)), (state) => withOtherFile(state, null), (state) => named(state, "another"), begunAnew, (state) => withGame(state, WON_BY_A_MOVE)]) {

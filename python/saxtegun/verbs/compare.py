@@ -14,6 +14,8 @@ input, which cells, and both levels.
 
 An engine that crashes, that writes a line of its own or that has no answer in
 10 s a session (or what --timeout says) is named with the session and the input.
+What is the same is played again with one more input, which shows whether play
+is over in both: the last win has no frame of its own, and lines don't tell it.
 
 With --report F it also writes a page that shows both runs side by side, from
 the frame at which they diverge. Frames and inputs are counted from 0.
@@ -26,22 +28,24 @@ from __future__ import annotations
 import os
 import sys
 from argparse import ArgumentParser, Namespace
+from functools import partial
 from itertools import zip_longest
 from pathlib import Path
-from typing import Iterator, List, NamedTuple, Optional, Sequence, Tuple
+from typing import Callable, Iterator, List, NamedTuple, Optional, Sequence, Tuple
 
 from saxtegun.commands import Refused, add_playing, cut, plural, printable, say
 from saxtegun.divergence import Divergence, below_of, divergence_of, sentence_of
 from saxtegun.engines import FAILED, OURS, SECONDS, answers, engine_at, failure_told, tellers_of, with_frames
 from saxtegun.explanations import cause_told
 from saxtegun.files import guard_files, guard_output, guard_places, write_whole
-from saxtegun.lines import UNANSWERED, Run
+from saxtegun.lines import PLAYED, UNANSWERED, Run
 from saxtegun.mismatches import NAMES_ALONE, OF_ANY_ENGINE, read_runs
 from saxtegun.origins import add_date, digest_of, origin_of
 from saxtegun.pages import Report, comparison
 from saxtegun.playing import Engine, engine_of, runs_played
 from saxtegun.programs import named_program
 from saxtegun.sessions import Entry, Sessions, read_sessions
+from saxtegun.solutions import MOST_INPUTS, with_one_more
 from saxtegun.stage_descriptions import Text
 from saxtegun.stage_divergence import Side, stage_divergence_of
 from saxtegun.texts import read_named, say_others
@@ -88,11 +92,19 @@ def say_ours(paths: Sequence[str]) -> None:
 
 
 class Sides(NamedTuple):
-    """The runs to compare, in pairs; the sessions that they are of, where these are known; and the engines that play them, where two are named."""
+    """The runs to compare, in pairs; the sessions that they are of, where these are known; the engines that play them, where two are named; and what plays
+    entries of either side, where they are played now: they may be asked for with one more input."""
 
     sessions: Optional[Sessions]
     pairs: Iterator[Tuple[Run, Run]]
     engines: List[Engine]
+    entries: Sequence[Sequence[Entry]] = ()
+    play: Sequence[Callable[[Sequence[Entry]], Iterator[Run]]] = ()
+
+    def ended(self, numbers: Sequence[int]) -> Iterator[Tuple[Run, Run]]:
+        """What both show of sessions with one more input, behind which play that is over shows a frame: the last win shows none of its own."""
+        one, other = (play(with_one_more([entries[it] for it in numbers])) for entries, play in zip(self.entries, self.play))
+        return zip(one, other)
 
 
 def sides_of(given: Namespace) -> Sides:
@@ -114,12 +126,14 @@ def sides_of(given: Namespace) -> Sides:
     if given.engines:
         engines = [engine_at(it, engine._replace(seconds=given.timeout or SECONDS)) for it in given.engines]
         say_ours(given.engines)
-        one, other = (answers(sessions.entries, it) for it in engines)
-        return Sides(sessions, pairs_of(one, other, given.engines), engines)
+        play = [partial(answers, engine=it) for it in engines]
+        one, other = (it(sessions.entries) for it in play)
+        return Sides(sessions, pairs_of(one, other, given.engines), engines, [sessions.entries] * 2, play)
     say_others("compare", sessions, read_named(given.sources[1]))
     entries = [over(sessions, it) for it in given.sources]
-    one, other = (runs_played(it, sessions, engine) for it in entries)
-    return Sides(sessions._replace(entries=entries[1]), pairs_of(one, other, given.sources), [])
+    ours = partial(runs_played, of=sessions, engine=engine)
+    one, other = map(ours, entries)
+    return Sides(sessions._replace(entries=entries[1]), pairs_of(one, other, given.sources), [], entries, [ours] * 2)
 
 
 def names_of(given: Namespace) -> List[str]:
@@ -136,6 +150,8 @@ class Comparing:
         self.order, self.sides, self.names = given.order, sides, names_of(given)
         self.stages = tellers_of(given)
         self.count, self.parted, self.failed, self.refused, self.late = 0, 0, 0, 0, 0
+        self.same: List[Run] = []
+        self.unknown = 0
         self.why = ""
         self.report: Optional[Report] = None
         if given.report and sides.sessions is None:
@@ -157,8 +173,38 @@ class Comparing:
                 self.tell_late(one, other)
             elif divergence is not None:
                 self.tell(divergence, one, other, stages=self.stages_told(divergence, one, other))
+            elif one.close in PLAYED:
+                self.same.append(one._replace(frames=[]))
             if self.failed == MOST_FAILED:
                 break
+        if self.sides.play:
+            self.compare_ends()
+
+    def compare_ends(self) -> None:
+        """Tells where play is over behind the last input in one alone."""
+        sessions = [it for it in self.same if len(self.sides.entries[0][it.number].inputs) < MOST_INPUTS]
+        failed, self.unknown = 0, len(self.same)
+        for run, both in zip(sessions, self.sides.ended([it.number for it in sessions]) if sessions else ()):
+            if all(it.close in PLAYED and it.frames for it in both):
+                self.unknown -= 1
+                self.tell_ends(run, *both)
+            else:
+                failed += 1
+            if failed == MOST_FAILED:
+                break
+
+    def tell_ends(self, run: Run, *both: Run) -> None:
+        """Tells where play is over in one alone, of what both show with one more input."""
+        one, other = (it._replace(number=run.number) for it in both)
+        is_over = one.frames[-1].kind == "over"
+        divergence = divergence_of(one, other)
+        if divergence is None or is_over == (other.frames[-1].kind == "over"):
+            return
+        over, on = self.names if is_over else reversed(self.names)
+        print(printable(f"session {run.number}, {cut(run.name)}: play is over behind its last input in {over}, and not in {on}"))
+        self.parted += 1
+        if self.report:
+            self.report.add_pair(divergence, one, other, self.names)
 
     def entry(self, run: Run) -> Optional[Entry]:
         return self.sides.sessions.entries[run.number] if self.sides.sessions else None
@@ -210,6 +256,7 @@ class Comparing:
         told = f"{plural(self.count, 'session')}: {same} the same, {self.parted} {'diverges' if self.parted == 1 else 'diverge'}"
         told += f", {self.late} not answered" if self.late else ""
         told += f"; {self.refused} {'was' if self.refused == 1 else 'were'} refused by both, and not played" if self.refused else ""
+        told += f"; of {self.unknown} of the same it isn't known whether play is over in both" if self.unknown else ""
         sessions = self.sides.sessions
         left = len(sessions.entries) - self.count if sessions else 0
         return f"{told}; {left} more not played, since an engine failed {MOST_FAILED} times" if left and self.failed == MOST_FAILED else told

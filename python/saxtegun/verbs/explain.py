@@ -27,7 +27,7 @@ from saxtegun.files import guard_output
 from saxtegun.lines import UNANSWERED, Run
 from saxtegun.playing import engine_of, lines_or_played
 from saxtegun.sessions import read_sessions
-from saxtegun.solutions import unsolved_among, unsolved_told
+from saxtegun.solutions import UNKNOWN_END, unsolved_among, unsolved_told
 from saxtegun.texts import elsewhere_told, file_of, not_over, over, read_game, say_others
 from saxtegun.ticks import ticks_told
 
@@ -83,6 +83,6 @@ def main(given: Namespace) -> int:
                 else:
                     told_of[key] = Told(run, *told(run, entry, given.order, file_of(entry, game)), [])
     lines = [line for it in told_of.values() for line in it.lines()]
-    counts = summary(closes) + unsolved_told(sum(it in unsolved for it in failed)) + elsewhere_told(sum(it in elsewhere for it in failed))
+    counts = summary(closes) + unsolved_told([unsolved[it] for it in failed if it in unsolved]) + elsewhere_told(sum(it in elsewhere for it in failed))
     sys.stdout.write("\n".join([*lines, counts + ticks_told()]) + "\n")
-    return 2 if UNANSWERED in closes else 0
+    return 2 if UNANSWERED in closes or UNKNOWN_END in unsolved.values() else 0

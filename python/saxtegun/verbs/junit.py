@@ -24,6 +24,7 @@ from saxtegun.playing import engine_of
 from saxtegun.sessions import read_sessions
 from saxtegun.solutions import unsolved_among
 from saxtegun.texts import not_over, over, read_game, say_others
+from saxtegun.ticks import ticks_property
 
 USAGE = "junit [SESSIONS] LINES [--game GAME.txt] [--order rows|columns] [--refused error|skipped] >junit.xml"
 
@@ -50,5 +51,5 @@ def main(given: Namespace) -> int:
     if first is None:
         raise Refused(f"{given.files[-1]} closes no session, so nothing was played")
     failures = {**not_over(others, game), **unsolved_among(sessions, engine_of(given))} if sessions else {}
-    sys.stdout.write(junit_of(chain([first], runs), Path(given.files[0]).name, sessions, given.order, given.refused, failures))
+    sys.stdout.write(junit_of(chain([first], runs), Path(given.files[0]).name, sessions, given.order, given.refused, failures, properties=ticks_property(given.ticks_as_recorded)))
     return 0

@@ -25,7 +25,7 @@ from saxtegun.origins import add_date, origin_of, program_told
 from saxtegun.pages import Report
 from saxtegun.playing import engine_of, lines_or_played
 from saxtegun.sessions import read_sessions
-from saxtegun.solutions import unsolved_among
+from saxtegun.solutions import UNKNOWN_END, unsolved_among
 from saxtegun.texts import not_over, over, read_game, say_others
 
 USAGE = "report SESSIONS [LINES] [--game GAME.txt] [--order rows|columns] >report.html"
@@ -56,4 +56,4 @@ def main(given: Namespace) -> int:
             report.add(run, failures.get(run.number))
             late = late or run.close == UNANSWERED
     sys.stdout.write(report.page())
-    return 2 if late else 0
+    return 2 if late or UNKNOWN_END in failures.values() else 0

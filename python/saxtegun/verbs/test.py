@@ -47,12 +47,14 @@ from saxtegun.pages import Report
 from saxtegun.playing import engine_of, runs_of
 from saxtegun.regressions import divergences
 from saxtegun.sessions import Entry, Sessions, fits, read_sessions, unfitting
-from saxtegun.solutions import NOT_PLAYED, NOT_SOLVED, SOLVED, no_longer, solved_of, unsolved_told
+from saxtegun.solutions import NOT_ANSWERED, NOT_PLAYED, NOT_SOLVED, SOLVED, UNKNOWN_END, no_longer, solved_of, unsolved_told
 from saxtegun.solvability import UNKNOWN, UNSOLVABLE, levels_not_won
 from saxtegun.solving import add_bounds, bounds_of
 from saxtegun.texts import GameText, elsewhere_told, file_of, of_another_text, over, read_game, remark, split_files
-from saxtegun.ticks import forget, ticks_told
+from saxtegun.ticks import forget, ticks_property, ticks_told
 
+# How a session ends of which it isn't known whether it solves its game.
+UNKNOWN_ENDS = (NOT_PLAYED, NOT_ANSWERED)
 USAGE = "test [GAME.txt] SESSIONS.json.. [options]"
 
 
@@ -75,8 +77,8 @@ def add_words(words: ArgumentParser) -> None:
 
 class Suite(NamedTuple):
     """What was played: the sessions of all files, numbered through, what they showed, how they ended, and the file of each. `elsewhere` is why sessions fail
-    that passed over a text of their own, and `remarks` tells which have one, and which files have no session; `game` is the text at hand, over which those of `unanswered` weren't answered.
-    A filter left so many out."""
+    that passed over a text of their own, and `remarks` tells which have one, and which files have no session; `game` is the text at hand. Those of `unanswered`
+    weren't answered over that, or as to whether they are solved, and a filter left so many out."""
 
     sessions: Sessions
     runs: List[Run]
@@ -208,11 +210,11 @@ def tell(suite: Suite, failures: List[Failure], unsolved: Dict[int, str], given:
             show(f"    {line}")
     if len(failures) > most:
         show(f"and {plural(len(failures) - most, 'more failure')}")
-    ends = Counter("solved" if it == SOLVED else it if it in (NOT_SOLVED, NOT_PLAYED) else "solved in part" for it in suite.solved.values())
-    counts = summary(it.close for it in suite.runs) + unsolved_told(len(unsolved))
+    ends = Counter("solved" if it == SOLVED else it if it in (NOT_SOLVED, *UNKNOWN_ENDS) else "solved in part" for it in suite.solved.values())
+    counts = summary(it.close for it in suite.runs) + unsolved_told(unsolved.values())
     counts += elsewhere_told(len(suite.elsewhere))
     told_always = ("solved", "solved in part", NOT_SOLVED)
-    counts += f"; {', '.join(f'{ends[it]} {it}' for it in (*told_always, *([NOT_PLAYED] if ends[NOT_PLAYED] else [])))}"
+    counts += f"; {', '.join(f'{ends[it]} {it}' for it in (*told_always, *(it for it in UNKNOWN_ENDS if ends[it])))}"
     for close, told_so in ((UNSOLVABLE, "can't be won"), (UNKNOWN, "not known")):
         count = sum(it.close == close for it in failures)
         counts += f"; {plural(count, 'level')} {told_so}" if count else ""
@@ -227,9 +229,15 @@ def tell(suite: Suite, failures: List[Failure], unsolved: Dict[int, str], given:
     return counts
 
 
+def properties_of(suite: Suite) -> Dict[str, str]:
+    """What a JUnit file says of a suite beside its sessions."""
+    left_out = {"left out by --filter": plural(suite.left_out, "session")} if suite.left_out else {}
+    return {**left_out, **ticks_property()}
+
+
 def write_files(suite: Suite, failures: List[Failure], though_passed: Dict[int, str], counts: str, given: Namespace, hung: Finder, levels: List[Failure]) -> None:
     if given.junit:
-        write_whole(given.junit, junit_of(suite.runs, suite.sessions.path, suite.sessions, given.order, "error", though_passed, levels, suite.left_out))
+        write_whole(given.junit, junit_of(suite.runs, suite.sessions.path, suite.sessions, given.order, "error", though_passed, levels, properties_of(suite)))
     if given.report:
         report = Report(suite.sessions, given.order, origin_of(suite.sessions, given, program_told(engine_of(given).words()), suite.game, suite.left_out), hung)
         for run in suite.runs:
@@ -246,6 +254,7 @@ def test(given: Namespace) -> int:
     expect(it.source for it in suite.sessions.entries if given.report or suite.runs[it.number].close != "passed")
     unsolved = unsolved_in(suite, given.solved)
     hung = Finder(suite.sessions, engine_of(given))
+    suite.unanswered.extend(it for it, why in unsolved.items() if why == UNKNOWN_END)
     though_passed = {**unsolved, **suite.elsewhere}
     failures = once(failures_of(suite, though_passed, given, hung))
     levels = levels_not_won(suite.game, bounds_of(given)) if given.solvable and suite.game else []
