@@ -63,8 +63,8 @@ def junit_of(runs: Iterable[Run], name: str, sessions: Optional[Sessions], order
         counts[counted] += 1
     if properties:
         told_first = ElementTree.Element("properties")
-        for it, value in properties.items():
-            ElementTree.SubElement(told_first, "property", {"name": it, "value": value})
+        for named, value in properties.items():
+            ElementTree.SubElement(told_first, "property", {"name": named, "value": value})
         suite.insert(0, told_first)
     numbers = {"tests": len(suite.findall("testcase")), "failures": counts["failure"], "errors": counts["error"], "skipped": counts["skipped"]}
     suite.attrib.update({"name": writable(name), **{key: str(value) for key, value in numbers.items()}})
