@@ -185,7 +185,7 @@ class Compare(OnEngines):
 
     def test_where_an_engine_hangs_late_is_looked_for_no_longer_than_may_be_explained(self) -> None:
         """Each look takes all the time of a session, so what is left of the whole is what the last of them has."""
-        self.sessions(*([[3, 1, "undo", "undo", "undo", *([3, 1] * 500)]] * 3))
+        self.sessions(*([[3, 1, "undo", "undo", "undo", *([3, 1] * 100)]] * 3))
         shown, budget = io.StringIO(), Budget(7.5)
         words = ["saxtegun", "compare", "--engines", str(self.engine("none")), str(self.engine("hang", True)), str(self.room / "sessions.json"), "--timeout", "3"]
         begin = monotonic()

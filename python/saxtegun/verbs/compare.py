@@ -16,6 +16,7 @@ An engine that crashes, that writes a line of its own or that has no answer in
 10 s a session (or what --timeout says) is named with the session and the input.
 What is the same is played again with one more input, which shows whether play
 is over in both: the last win has no frame of its own, and lines don't tell it.
+Where an engine fails at that, no more is said than that it isn't known.
 
 With --report F it also writes a page that shows both runs side by side, from
 the frame at which they diverge. Frames and inputs are counted from 0.

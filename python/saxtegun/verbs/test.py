@@ -131,12 +131,15 @@ def elsewhere_in(file: Picked, runs: List[Run], game: GameText, given: Namespace
     shown = runs_of(entries, file.sessions, engine_of(given)) if entries else []
     ends = solved_of(entries, shown, file.sessions, engine_of(given)) if any(must_be_solved(it, given.solved) for it in entries) else {}
     found: Dict[int, str] = {}
+    unanswered = [place for place, run in zip(places, shown) if run.close == UNANSWERED]
     for number, (place, entry, run) in enumerate(zip(places, entries, shown)):
+        end = ends.get(number, NOT_PLAYED)
         if run.close != "passed":
             found[place] = f"over its own text, but not over {game.path}: {run.close}: {told(run, entry, given.order, game.path)[0]}"
-        elif must_be_solved(entry, given.solved) and ends.get(number) != SOLVED:
-            found[place] = f"over its own text, but over {game.path} no longer solved: {ends.get(number, NOT_PLAYED)}"
-    return found, [place for place, run in zip(places, shown) if run.close == UNANSWERED]
+        elif must_be_solved(entry, given.solved) and end != SOLVED:
+            found[place] = f"over its own text, but over {game.path} {no_longer(end)}"
+            unanswered += [place] if end == NOT_ANSWERED else []
+    return found, unanswered
 
 
 def played(given: Namespace) -> Suite:
