@@ -90,8 +90,17 @@ function wordsAt(told, number) {
   return found === undefined ? [] : asWritten(told, found).slice(0, before("message", found.words).length);
 }
 
+const UNKNOWN = new WeakMap(); // what is told of the names of a line, of each text: each draw asks for it
+
 // The words of a line that are neither a name nor a word of the language, and for each the nearest name that is there.
 function unknownTold(told, number) {
+  const known = UNKNOWN.get(told) ?? new Map();
+  UNKNOWN.set(told, known);
+  if (!known.has(number)) known.set(number, unknownLooked(told, number));
+  return known.get(number);
+}
+
+function unknownLooked(told, number) {
   const names = namesIn(told), there = among(names), isKnown = (word) => there.has(word) || RULE_WORDS.has(word) || COMMAND.test(word);
   return quoted(wordsAt(told, number).filter((word) => !isKnown(fold(word))), (word) => {
     const near = nearest(fold(word), names);
