@@ -8,7 +8,7 @@ from itertools import zip_longest
 from time import monotonic
 from typing import Dict, Iterator, List, NamedTuple, Optional, Sequence, Set, Tuple
 
-from saxtegun.budget import EXPLAINING, SECONDS
+from saxtegun.budget import EXPLAINING, SECONDS, UsedUp
 from saxtegun.commands import plural
 from saxtegun.descriptions import description_of
 from saxtegun.divergence import Divergence, below_of, divergence_of, is_same_level, sentence_of
@@ -24,7 +24,7 @@ from saxtegun.stages import NAMES, Stage, Stop, Told, stages_of
 MOST_MATCHED = 300
 # Of those that then belong to none so many are compared with one another, by so many of their letters.
 MOST_COMPARED = 30
-MOST_LETTERS = 200
+MOST_LETTERS = 60
 # So many lines of rules are told below a sentence, of each text.
 LINES_TOLD = 3
 TOO_LONG = "not all stages were looked at, since that took too long"
@@ -77,7 +77,7 @@ def moved_and_edited(pairs: Pairs, one: Sequence[str], other: Sequence[str]) -> 
     """Of the lines that belong to none each with the likest, unless there are many."""
     left, others = left_by(pairs, one, other)
     free = {it: other[it][:MOST_LETTERS] for it in others}
-    for it in left if max(len(left), len(others)) <= MOST_COMPARED else []:
+    for it in EXPLAINING.each(left if max(len(left), len(others)) <= MOST_COMPARED else []):
         near = get_close_matches(one[it][:MOST_LETTERS], free.values(), 1)
         if near:
             there = next(number for number, line in free.items() if line == near[0])
@@ -300,8 +300,11 @@ def first_parted(sides: Sides, inputs: range, engine: Engine, end: float) -> Opt
         left = end - monotonic()
         if left <= 0:
             raise Unanswered(TOO_LONG)
-        with EXPLAINING.spent():
-            parted = parted_at(sides, at, engine._replace(seconds=min(left, engine.seconds or left)), end)
+        try:
+            with EXPLAINING.spent():
+                parted = parted_at(sides, at, engine._replace(seconds=min(left, engine.seconds or left)), end)
+        except UsedUp:
+            raise Unanswered(TOO_LONG) from None
         if parted is not None:
             return at, parted
     return None
