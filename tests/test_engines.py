@@ -249,10 +249,10 @@ class Shrink(OnEngines):
         """What was found until then is the case, and it is said that there may be a smaller one."""
         self.sessions([3], [*[3, "undo"] * 20, "undo"])
         begin = monotonic()
-        answer = run("shrink", self.engine("none"), self.engine("hang"), self.room / "sessions.json", "*", self.room / "case", "--timeout", "2", "--within", "0.5")
-        self.assertLess(monotonic() - begin, 30)
+        answer = run("shrink", self.engine("none"), self.engine("hang"), self.room / "sessions.json", "*", self.room / "case", "--timeout", "5", "--within", "0.5")
+        self.assertLess(monotonic() - begin, 60)
         self.assertEqual((answer.status, answer.errors), (0, "shrink: stopped behind 0.5 s; with a larger --within it may get smaller\n"))
-        self.assertIn("not answered in 2 s\n", answer.out)
+        self.assertIn("not answered in 5 s\n", answer.out)
         [[_, [_, left, _, _]]] = json.loads((self.room / "case/input.json").read_text(encoding="utf-8"))
         self.assertIn("undo", left)
 
