@@ -329,7 +329,7 @@ class InACi(unittest.TestCase):
             for name in ("game.txt", "recordings.json"):
                 shutil.copy(TOP / "examples/day" / name, runner.work)
             (runner.room / "kept").mkdir()
-            for name in ("lines", "report.html", "junit.xml", "times", "parts"):
+            for name in ("lines", "times", "parts"):
                 (runner.room / "kept/file").write_text("kept")
                 (runner.work / name).symlink_to(runner.room / "kept" / ("file" if name != "parts" else ""))
             with self.subTest(commands):
@@ -337,7 +337,7 @@ class InACi(unittest.TestCase):
                 self.assertEqual([(it.name, it.read_text()) for it in (runner.room / "kept").iterdir()], [("file", "kept")])
                 self.assertTrue((runner.work / "lines").stat().st_size)
 
-    def test_the_commands_for_a_suite_over_one_game_give_its_lines_and_report(self) -> None:
+    def test_the_commands_for_a_suite_over_one_game_give_its_lines_and_status(self) -> None:
         runner = self.runner()
         self.act(runner, sessions="", sha256=self.sum)
         for name in ("game.txt", "recordings.json"):
@@ -345,7 +345,8 @@ class InACi(unittest.TestCase):
         commands = next(it for it in commands_of_page() if "--game" in it)
         self.assertEqual(runner.run({"run": commands}), (1, "", ""))
         self.assertEqual((runner.work / "lines").read_text(encoding="utf-8"), (TOP / "examples/day.lines").read_text(encoding="utf-8"))
-        self.assertIn("a recording that has gone stale", (runner.work / "report.html").read_text(encoding="utf-8"))
+        [last] = [it for it in (runner.work / "parts").glob("*.xml") if "a recording that has gone stale" in it.read_text(encoding="utf-8")]
+        self.assertIn('type="differs"', last.read_text(encoding="utf-8"))
         # and where all pass the status is that
         recordings = runner.work / "recordings.json"
         recordings.write_text(json.dumps(json.loads(recordings.read_text(encoding="utf-8"))[:4]), encoding="utf-8")
@@ -356,13 +357,15 @@ class InACi(unittest.TestCase):
         recordings.write_text(json.dumps(entries), encoding="utf-8")
         status, out, errors = runner.run({"run": commands})
         self.assertEqual((status, out), (1, ""), errors)
-        self.assertTrue((runner.work / "junit.xml").exists(), errors)
-        self.assertIn("over its own text, and was not played over game.txt", (runner.work / "junit.xml").read_text(encoding="utf-8"))
+        self.assertIn("over its own text, and was not played over game.txt", (runner.work / "parts/00000001.json.xml").read_text(encoding="utf-8"))
         # lines of that run stand there no more where the next ends early
         self.assertTrue((runner.work / "parts/00000000.lines").exists())
         (runner.work / "game.txt").write_text("")
         self.assertNotEqual(runner.run({"run": commands})[0], 0)
         self.assertEqual([it for it in (runner.work / "parts").glob("*.lines") if it.stat().st_size], [])
+        # nor is it green where it can't be told whether all are over the game, also where no shell ends at a status
+        (runner.work / "game.txt").unlink()
+        self.assertEqual(runner.run({"run": f"set +e +o pipefail\n{commands}"})[0], 2)
 
     def gitlab_job(self) -> Any:
         return next(it["replay"] for it in files_of_page() if "script" in it.get("replay", {}))

@@ -241,9 +241,9 @@ class Report:
             close, session["told"] = FAILED, f"passed: {failure}"
         self.put(run.name, close, len(run.frames), session)
 
-    def add_pair(self, divergence: Divergence, one: Run, other: Run, names: Sequence[str]) -> None:
-        """Adds a session of which two runs part, with the names of the two."""
-        entry = self.sessions.entries[one.number]
+    def add_pair(self, divergence: Divergence, one: Run, other: Run, names: Sequence[str], played: Optional[Entry] = None) -> None:
+        """Adds a session of which two runs part, with the names of the two; `played` is the entry that they are of, where that has more inputs."""
+        entry = played or self.sessions.entries[one.number]
         game = self.game(entry.source) if one.frames and other.frames else None
         self.put(f"session {one.number}: {one.name}", "diverges", max(len(one.frames), len(other.frames)), pair_of(entry, divergence, one, other, game, names))
 

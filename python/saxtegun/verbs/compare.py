@@ -205,7 +205,8 @@ class Comparing:
         print(printable(f"session {run.number}, {cut(run.name)}: play is over behind its last input in {over}, and not in {on}"))
         self.parted += 1
         if self.report:
-            self.report.add_pair(divergence, one, other, self.names)
+            [entry] = with_one_more([self.sides.entries[1][run.number]])
+            self.report.add_pair(divergence, one, other, self.names, entry)
 
     def entry(self, run: Run) -> Optional[Entry]:
         return self.sides.sessions.entries[run.number] if self.sides.sessions else None
