@@ -96,6 +96,14 @@ class DayOfTests(OfAGame):
         self.assertIn("still in level 1, and the recorded level looks like level 2", answer.out)
         self.assertNotIn("column ", answer.out)
 
+    def test_of_many_files_some_are_named(self) -> None:
+        """A browser would lay out for minutes what a folder of a stranger's brings."""
+        files = [self.write(f"{number}.json", "[]") for number in range(30)]
+        page = self.room / "page.html"
+        self.assertEqual(run("test", self.game, self.recordings, *files, "--report", page).status, 1)
+        named = ", ".join(["recordings.json", *(f"{number}.json" for number in range(9))])
+        self.assertIn(f'"file":"{named} and 21 more files"', page.read_text(encoding="utf-8"))
+
     def test_a_filter_picks_sessions_and_must_pick_some(self) -> None:
         answer = run("test", self.game, self.recordings, "--filter", "the second*", "--filter", "there*")
         self.assertEqual((answer.status, answer.out.splitlines()[:2]), (0, [ENDS[1], ENDS[3]]))

@@ -68,7 +68,8 @@ export class Player {
   open(number, frame) {
     this.pause();
     const [name, close] = this.index.sessions[number];
-    this.session = json(`session-${number}`);
+    const session = json(`session-${number}`);
+    this.session = { ...session, beside: cut(session.beside ?? "", NAMED) };
     this.number = number;
     this.sides = this.session.sides.map(([caption, frames]) => ({ caption: readable(caption), run: new Run(frames, this.index.order, this.index.letters) }));
     at("session").hidden = false;

@@ -2,7 +2,7 @@
 // The page of a report: a list of sessions, and a player for the one that is open.
 import { addressOf, readAddress } from "./address.mjs";
 import { makeCopy } from "./copying.mjs";
-import { at, cut, fill, json, make, plural, readable } from "./elements.mjs";
+import { at, cut, fill, json, make, plural, readable, sayable } from "./elements.mjs";
 import { Player } from "./player.mjs";
 import { SessionList, isFailure } from "./session-list.mjs";
 
@@ -127,8 +127,8 @@ function showFoot() {
   fill(at("foot"), [...index.origin, ...index.notes].map((note) => make("p", "", readable(note))));
 }
 
-document.title = readable(`${index.file}: ${index.title}`);
-at("title").textContent = readable(index.file);
+document.title = sayable(`${index.file}: ${index.title}`);
+at("title").textContent = sayable(index.file);
 makeCopy(at("copy-link"), () => { writeAddress(); return location.href; });
 makeCopy(at("copy-level"), () => player.levelText);
 makeCopy(at("copy-inputs"), () => JSON.stringify(player.session.inputs));

@@ -55,6 +55,8 @@ from saxtegun.ticks import forget, ticks_property, ticks_told
 
 # How a session ends of which it isn't known whether it solves its game.
 UNKNOWN_ENDS = (NOT_PLAYED, NOT_ANSWERED)
+# So many files are named where all are.
+FILES_TOLD = 10
 USAGE = "test [GAME.txt] SESSIONS.json.. [options]"
 
 
@@ -142,12 +144,18 @@ def elsewhere_in(file: Picked, runs: List[Run], game: GameText, given: Namespace
     return found, unanswered
 
 
+def files_told(paths: List[str]) -> str:
+    """What all files together are called: a stranger may bring thousands."""
+    names, more = [Path(it).name for it in paths[:FILES_TOLD]], len(paths) - FILES_TOLD
+    return ", ".join(names) + (f" and {plural(more, 'more file')}" if more > 0 else "")
+
+
 def played(given: Namespace) -> Suite:
     game = read_game(split_files(given.files)[0])
     engine = engine_of(given)
     files = read_files(given, game)
     left_out = sum(len(it.sessions.entries) - len(it.entries) for it in files)
-    suite = Suite(Sessions(", ".join(Path(it).name for it in split_files(given.files)[1]), "", []), [], {}, [], {}, [], game, [], left_out)
+    suite = Suite(Sessions(files_told(split_files(given.files)[1]), "", []), [], {}, [], {}, [], game, [], left_out)
     for file in files:
         if not file.sessions.entries:
             suite.remarks.append(f"{file.sessions.path} has no session, so nothing of it was played")
