@@ -143,8 +143,10 @@ class OfTheBook(OnOneRule):
                 "Definition `same`, crates/pz_one/specs/Lib.antt:6",
                 "    -- the number\n    -- itself\n    abbrev pub same : ℕ → ℕ\n    same n = n",
                 "Function `same`, crates/pz_one/src/same.rt:3",
+                "    /// The number itself. Rule `number.same`.\n    #[inline]\n    pub fn same(number: u32) -> u32",
                 "Case: A number isn't another. conformance/cases/a-number-isn-t-another",
-                "Wrong body: Answers 0. attack/pz_one/answers_null.edit\n",
+                "Wrong body: Answers 0. attack/pz_one/answers_null.edit",
+                "    file: src/same.rt\n    old: same\n    new: null\n",
             ],
         )
 
@@ -156,11 +158,17 @@ class OfTheBook(OnOneRule):
             ["| number.same | `crates/pz_one/specs/Lib.antt` `same` | `crates/pz_one/src/same.rt` `same` | `conformance/cases/a-number-isn-t-another` | none: nobody wrote one |"],
         )
 
-    def test_words_choose_by_what_they_begin_and_by_the_id_first(self) -> None:
+    def test_words_choose_what_fits_them_best_by_what_they_begin_and_how_few_have_them(self) -> None:
         self.write("docs/sessions.md", "# Files\n\nThe same numbers, not another. <sub>file.numbers</sub>\n\nAny number stays, and isn't a `large_number`. <sub>file.same</sub>\n")
-        for words, wanted in ((("same",), ["number.same", "file.same", "file.numbers"]), (("FILE", "number"), ["file.numbers", "file.same"]), (("large", "number"), ["file.numbers", "file.same"]), (("large", "stays"), ["file.same"]), (("`",), ["file.same"]), (("umbers",), []), (("itself",), ["number.same"]), (("another", "number"), ["file.numbers"]), (("isn", "stays"), ["file.same"]), (("isn", "itself"), ["number.same"]), (("large", "file", "nobody"), ["file.same", "file.numbers"])):
+        for words, wanted in ((("same",), ["number.same", "file.same", "file.numbers"]), (("FILE", "number"), ["file.numbers", "file.same"]), (("large", "number"), ["file.same"]), (("large", "stays"), ["file.same"]), (("`",), ["file.same"]), (("umbers",), []), (("itself",), ["number.same"]), (("another", "numbers"), ["file.numbers", "number.same"]), (("isn", "stays"), ["file.same", "number.same"]), (("isn", "itself"), ["number.same"]), (("large", "file", "nobody"), ["file.same"])):
             with self.subTest(words):
                 self.assertEqual([it[4:].partition(",")[0] for it in run(self.book, *words).out.splitlines() if it.startswith("### ")], wanted)
+
+    def test_of_many_rules_each_is_a_line(self) -> None:
+        more = "\n\n".join(f"Letter {it} stays, {'and so on ' * 20}. <sub>letter.{it}</sub>" for it in "abcd")
+        self.write("docs/sessions.md", f"# Files\n\n{more}\n")
+        lines = [f"letter.{it}: Letter {it} stays, {'and so on ' * 20}"[: len("letter.a: ") + 140] + ".." for it in "abcd"]
+        self.assertEqual(run(self.book, "letters").out.splitlines(), [*lines, "", "`dev/rule-book letter.a` shows the first in full."])
 
     def test_words_that_no_rule_has(self) -> None:
         answer = run(self.book, "umber", "nobody")
