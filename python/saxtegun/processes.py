@@ -116,7 +116,8 @@ def held() -> Iterator[None]:
         for it, handler in before.items():
             signal.signal(it, handler)
         for it in came:
-            os.kill(os.getpid(), it)
+            # by this thread, and so at once: a moment later it could leave a lock locked that another thread waits for
+            signal.raise_signal(it)
 
 
 @contextmanager
