@@ -84,8 +84,9 @@ class Beside(Thread, Generic[Value]):
             self.why = why
 
     def result(self) -> Value:
-        """What came of it, once it is done."""
-        self.join()
+        """What came of it, once it is done. A signal that comes just before this waits is heard only once it is awake again."""
+        while self.is_alive():
+            self.join(PAUSE)
         if self.why is not None:
             raise self.why
         return self.values[0]
