@@ -52,8 +52,13 @@ serve((entry, frame) => {
   const ahead = levels().slice(entry.index);
   let level = ahead.shift();
   let past = [];
+  let isOver = false;
   frame(0, "start", shown(level));
   entry.inputs.forEach((input, taken) => {
+    if (isOver) {
+      frame(taken + 1, "over", shown(level));
+      return;
+    }
     if (input === "undo") {
       level = past.pop() || level;
       frame(taken + 1, "undo", shown(level));
@@ -63,6 +68,7 @@ serve((entry, frame) => {
     level = pushed(before, STEPS[input]);
     if (!isSame(before, level)) past.push(before);
     frame(taken + 1, "move", shown(level));
+    isOver = ahead.length === 0 && isSolved(level);
     if (ahead.length > 0 && isSolved(level)) {
       level = ahead.shift();
       past = [];
