@@ -16,7 +16,7 @@ use Rattle.pz_plan.specs.declared.checks.Found.{Found}
 use Rattle.pz_plan.specs.declared.checks.Found.TheVariants as found
 use Rattle.pz_plan.specs.Spelling.{is_no, is_gap, gap_of, denotation_if_any}
 
--- a row with more than one gap
+-- checks.gaps: a row with more than one gap
 unfoldable pub has_more_gaps : List Cell → Bool
 has_more_gaps row = nat_lt 1 (count_by is_gap row)
 
@@ -28,7 +28,7 @@ is_long row = nat_lt MOST_ROW_CELLS (length row)
 unfoldable pub is_large : List (List Cell) → Bool
 is_large rows = nat_lt MOST_ROWS (length rows) || list_any is_long rows
 
--- a name that nothing has
+-- checks.unknown: a name that nothing has
 unfoldable pub is_unknown : List Denotation → Phrase → Bool
 is_unknown table phrase = is_none (denotation_if_any table phrase.name)
 
@@ -36,7 +36,7 @@ abbrev pub is_aggregate : Kind → Bool
 is_aggregate kind.Aggregate = true
 is_aggregate _ = false
 
--- `no` before an aggregate
+-- checks.no-aggregate: `no` before an aggregate
 unfoldable pub is_mixed : List Denotation → Phrase → Bool
 is_mixed table phrase = is_no phrase.lead && option_map_or (λ denotation. is_aggregate denotation.kind) (denotation_if_any table phrase.name) false
 

@@ -30,7 +30,7 @@ is_property _ = false
 abbrev pub is_chosen : Option (Lead Class) → Denotation → Bool
 is_chosen word denotation = is_property denotation.kind && not (is_no word) && not (length denotation.members == 1)
 
--- expand.names: what a name stands for, each with the word before the name
+-- expand.names, expand.no-property: what a name stands for, each with the word before the name
 unfoldable pub mentions_of : Option (Lead Class) → Denotation → List Mention
 mentions_of word denotation =
     if is_chosen word denotation then record { lead = word; subject = subject.Property denotation.number } ∷ []

@@ -13,6 +13,7 @@ use pz_game::limits::{MOST_ROW_CELLS, MOST_ROWS};
 use pz_grammar::rule::{Cell, Phrase, Rule};
 use pz_grammar::token::Lead;
 
+/// Rule `checks.gaps`.
 fn has_more_gaps(row: &[Cell]) -> bool
     ensures { result ≡ has_more_gaps row.now }
 {
@@ -52,12 +53,14 @@ enum Found {
     Moving,
 }
 
+/// Rule `checks.unknown`.
 fn is_unknown(table: &[Denotation], phrase: &Phrase) -> bool
     ensures { result ≡ is_unknown table.now phrase.now }
 {
     denoted(table, phrase.name).is_none()
 }
 
+/// Rule `checks.no-aggregate`.
 fn is_mixed(table: &[Denotation], phrase: &Phrase) -> bool
     ensures { result ≡ is_mixed table.now phrase.now }
 {

@@ -117,7 +117,7 @@ fn pass_after<T: Runnable>(
 }
 
 /// Repeats passes up to the first that changes nothing. Items after the last one that changed something needn't run again until something
-/// changes, nor does that one if it is calm behind its change.
+/// changes, nor does that one if it is calm behind its change. Rule `match.loop-limit`.
 pub(crate) fn to_rest<T: Runnable>(
     alloc: Global,
     level: &mut Level,
