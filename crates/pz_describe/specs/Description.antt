@@ -1,5 +1,6 @@
 -- The description of a source: its first fault or none, its sections line by line, and the program of its rules. A source that is refused
--- has its sections too: without a program where its rules alone are refused, and else without what its lines mean.
+-- has its sections too: without a program where its rules alone are refused, and else without what its lines mean. Its outline is what is
+-- told of it where no rule is expanded.
 use Rattle.std.specs.Prelude.{ℕ, if◌then◌else◌, is_some, List, [], ◌∷◌, ◌++◌, Result, Ok, Err, codes}
 use Rattle.std.specs.List.{flat_map}
 use Rattle.std.specs.Str.{chars}
@@ -18,7 +19,7 @@ use Rattle.pz_text.specs.Section.{lines_in}
 use Rattle.pz_text.specs.declared.line.Line.{Line}
 use Rattle.pz_text.specs.declared.line.Section.TheVariants as section
 use Rattle.pz_describe.specs.declared.reading.Reading.{Reading}
-use Rattle.pz_describe.specs.declared.reading.Reading.TheVariants.{Refused, Unruled, Whole}
+use Rattle.pz_describe.specs.declared.reading.Reading.TheVariants.{Refused, Unexpanded, Unruled, Whole}
 use Rattle.pz_describe.specs.Values.{line_member, array, name_value, object}
 use Rattle.pz_describe.specs.Sections.{layer_tokens, legend_tokens, levels_array, line_tokens, objects_array, prelude_tokens, rule_tokens, win_tokens}
 use Rattle.pz_describe.specs.Program.{program_tokens}
@@ -39,13 +40,23 @@ reading_in (Err fault) = Refused fault
 abbrev pub reading_of : List ℕ → Reading
 reading_of source = reading_in (source_of source)
 
+-- what is read of a source whose rules are left as they are: its game, or its first fault before any that is found as rules are expanded
+abbrev pub unexpanded_in : Result GameParts SourceFault → Reading
+unexpanded_in (Ok game) = Unexpanded game
+unexpanded_in (Err fault) = Refused fault
+
+abbrev pub unexpanded_reading_of : List ℕ → Reading
+unexpanded_reading_of source = unexpanded_in (source_of source)
+
 abbrev pub fault_in : Reading → List Token
 fault_in (Refused fault) = fault_tokens fault
+fault_in (Unexpanded game) = null ∷ []
 fault_in (Unruled game fault) = fault_tokens fault
 fault_in (Whole game program) = null ∷ []
 
 abbrev pub rules_in : Reading → List Token
 rules_in (Refused fault) = null ∷ []
+rules_in (Unexpanded game) = null ∷ []
 rules_in (Unruled game fault) = null ∷ []
 rules_in (Whole game program) = program_tokens game.rules program
 
@@ -79,3 +90,10 @@ tokens_of source = source_tokens (lines_of source) (reading_of source)
 -- the text of the description: JSON without spaces, each object's keys in the order of their bytes
 abbrev pub description_of : List ℕ → List ℕ
 description_of source = print (tokens_of source)
+
+-- the text of the outline: the description without the program, and without a fault that is found as rules are expanded
+unfoldable pub outline_tokens_of : List ℕ → List Token
+outline_tokens_of source = source_tokens (lines_of source) (unexpanded_reading_of source)
+
+abbrev pub outline_of : List ℕ → List ℕ
+outline_of source = print (outline_tokens_of source)

@@ -24,7 +24,7 @@ use Rattle.pz_text.specs.declared.line.Line.{Line}
 use Rattle.pz_text.specs.declared.line.Section.{Section}
 use Rattle.pz_text.specs.declared.line.Section.TheVariants as section
 use Rattle.pz_describe.specs.declared.reading.Reading.{Reading}
-use Rattle.pz_describe.specs.declared.reading.Reading.TheVariants.{Refused, Unruled, Whole}
+use Rattle.pz_describe.specs.declared.reading.Reading.TheVariants.{Refused, Unexpanded, Unruled, Whole}
 use Rattle.pz_describe.specs.Values.{line_member, array, name_value, names_array, numbers_array, numeral, object, text, texts_array}
 
 -- a section by the word of its heading
@@ -61,6 +61,7 @@ lines_from number (line ∷ lines) = if nat_eq line.number number then line ∷ 
 -- the game of a source, if it is one
 abbrev pub game_in : Reading → Option GameParts
 game_in (Refused fault) = None
+game_in (Unexpanded game) = Some game
 game_in (Unruled game fault) = Some game
 game_in (Whole game program) = Some game
 

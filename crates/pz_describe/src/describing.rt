@@ -1,8 +1,9 @@
-//! The description of a source.
+//! The description of a source, and its outline.
 
 ghost use Rattle.std.specs.Prelude.{◌++◌, ◌∷◌, ◌≡◌, IfOk, OnOk, codes};
+ghost use Rattle.json.specs.Print.{print};
 ghost use Rattle.json.specs.Token.{key};
-ghost use Rattle.pz_describe.specs.Description.{description_of, fault_in, fault_tokens, first_members, last_members, lines_of, rules_in, source_tokens};
+ghost use Rattle.pz_describe.specs.Description.{description_of, fault_in, fault_tokens, first_members, last_members, lines_of, outline_of, rules_in, source_tokens};
 
 use crate::legend::put_legend;
 use crate::levels::put_levels;
@@ -11,7 +12,7 @@ use crate::objects::put_objects;
 use crate::page::Page;
 use crate::prelude::put_prelude;
 use crate::program::put_program;
-use crate::reading::{Reading, read};
+use crate::reading::{Reading, read, read_unexpanded};
 use crate::sections::{put_layers, put_rules, put_wins};
 use pz_base::fault::SourceFault;
 use pz_lines::naming::code_name;
@@ -39,7 +40,7 @@ fn put_fault_in(page: &mut Page, reading: &Reading) -> Result<(), AllocError>
     page.key("fault")?;
     match reading {
         Reading::Refused(fault) | Reading::Unruled(_, fault) => put_fault(page, *fault),
-        Reading::Whole(_, _) => page.null(),
+        Reading::Unexpanded(_) | Reading::Whole(_, _) => page.null(),
     }
 }
 
@@ -50,7 +51,7 @@ fn put_rules_in(page: &mut Page, reading: &Reading) -> Result<(), AllocError>
     page.key("program")?;
     match reading {
         Reading::Whole(game, program) => put_program(page, game.rules(), program),
-        Reading::Refused(_) | Reading::Unruled(_, _) => page.null(),
+        Reading::Refused(_) | Reading::Unexpanded(_) | Reading::Unruled(_, _) => page.null(),
     }
 }
 
@@ -112,6 +113,16 @@ fn lines_of(alloc: Global, source: &str) -> Result<Vec<Line>, AllocError>
     cut(alloc, &characters)
 }
 
+/// The text that tells a source of which this was read.
+fn tell(alloc: Global, source: &str, reading: &Reading) -> Result<Vec<u8>, AllocError>
+    ensures { IfOk result (λ text. text.items ≡ print (source_tokens (lines_of source.now) reading.now)) }
+{
+    let lines = lines_of(alloc, source)?;
+    let mut page = Page::new(alloc);
+    put_source(alloc, &mut page, &lines, reading)?;
+    Ok(page.into_text())
+}
+
 /// What the engine has read of a source, as JSON text without spaces: its first fault, or null; each section line by line, with what it
 /// means where the source is a game; and the program of its rules, or null. Of a source that is refused the sections are told too; of one
 /// that is too long no line is told. Err: memory was refused.
@@ -119,9 +130,16 @@ fn lines_of(alloc: Global, source: &str) -> Result<Vec<Line>, AllocError>
 pub fn describe(alloc: Global, source: &str) -> Result<Vec<u8>, AllocError>
     ensures { IfOk result (λ text. text.items ≡ description_of source.now) }
 {
-    let lines = lines_of(alloc, source)?;
     let reading = read(alloc, source)?;
-    let mut page = Page::new(alloc);
-    put_source(alloc, &mut page, &lines, &reading)?;
-    Ok(page.into_text())
+    tell(alloc, source, &reading)
+}
+
+/// The outline of a source: its description without the program of its rules, and without a fault that is found as rules are expanded. None is, so
+/// it takes time by the length of the source alone. Err: memory was refused.
+#[tactic(auto, unfolding(crate::specs::Description::outline_tokens_of))]
+pub fn outline(alloc: Global, source: &str) -> Result<Vec<u8>, AllocError>
+    ensures { IfOk result (λ text. text.items ≡ outline_of source.now) }
+{
+    let reading = read_unexpanded(alloc, source)?;
+    tell(alloc, source, &reading)
 }

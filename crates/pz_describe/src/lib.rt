@@ -19,5 +19,5 @@ mod sections;
 mod tests;
 
 pub use cells::describe_level;
-pub use describing::describe;
+pub use describing::{describe, outline};
 pub use recordings::describe_recordings;

@@ -1,6 +1,6 @@
-//! What is told of a source, of a level text, and of a file of sessions.
+//! What is told of a source, in whole and in outline, of a level text, and of a file of sessions.
 
-use crate::{describe, describe_level, describe_recordings};
+use crate::{describe, describe_level, describe_recordings, outline};
 use pz_entries::file::read_sessions;
 use std::test::Fail;
 
@@ -36,6 +36,27 @@ fn tells_a_game(rt: HostRuntime) -> Result<(), Fail> {
 #[test]
 fn tells_the_fault_of_an_empty_source(rt: HostRuntime) -> Result<(), Fail> {
     let text = describe(rt.alloc(), "")?;
+    assert!(rt; text.as_slice() == REFUSED.as_bytes());
+    Ok(())
+}
+
+/// The program in what is told of the walk, which its outline doesn't have.
+const PROGRAM: &str = "\"program\":{\"early\":[{\"groups\":[[24]],\"loop\":false}],\"late\":[]},";
+
+const NO_PROGRAM: &str = "\"program\":null,";
+
+#[test]
+fn outlines_a_game(rt: HostRuntime) -> Result<(), Fail> {
+    let told = TOLD.replace(rt.alloc(), PROGRAM, NO_PROGRAM)?;
+    assert!(rt; told.len() < TOLD.len());
+    let text = outline(rt.alloc(), WALK)?;
+    assert!(rt; text.as_slice() == told.as_bytes());
+    Ok(())
+}
+
+#[test]
+fn outlines_a_source_that_is_refused(rt: HostRuntime) -> Result<(), Fail> {
+    let text = outline(rt.alloc(), "")?;
     assert!(rt; text.as_slice() == REFUSED.as_bytes());
     Ok(())
 }

@@ -1,5 +1,5 @@
-//! The program of descriptions: tells what the engine has read of the sources, the level texts or the sessions that lie in files, of each file
-//! in one line of JSON.
+//! The program of descriptions: tells what the engine has read of the sources, in whole or in outline, the level texts or the sessions that lie in
+//! files, of each file in one line of JSON.
 #![tactic(auto)]
 
 ghost use Rattle.std.specs.Prelude.{◌≡◌, None, OnOk};
@@ -7,7 +7,7 @@ ghost use Rattle.std.specs.Prelude.{◌≡◌, None, OnOk};
 use pz_console::counted::Counted;
 use pz_console::failure::{Failure, fail_with};
 use pz_console::input::{InputFault, read_input};
-use pz_describe::{describe, describe_level, describe_recordings};
+use pz_describe::{describe, describe_level, describe_recordings, outline};
 use pz_entries::fault::FileFault;
 use pz_entries::file::read_sessions;
 use pz_lines::output::Output;
@@ -23,6 +23,7 @@ use std::{env, fs};
 #[derive(Clone, Copy)]
 enum Kind {
     Source,
+    Outline,
     Level,
     Sessions,
 }
@@ -55,6 +56,7 @@ fn bytes_of<R: Files>(rt: &R, alloc: Global, name: &str) -> Result<Vec<u8>, Fail
 fn description_of(alloc: Global, kind: Kind, text: &str) -> Result<Vec<u8>, Failure> {
     match kind {
         Kind::Source => Ok(describe(alloc, text)?),
+        Kind::Outline => Ok(outline(alloc, text)?),
         Kind::Level => Ok(describe_level(alloc, text)?),
         Kind::Sessions => match read_sessions(alloc, text) {
             Ok(entries) => Ok(describe_recordings(alloc, &entries)?),
@@ -111,6 +113,7 @@ fn tell_each<R: Files, W: Write>(
 /// What the words behind the program's name ask for, and the files that they name, of which there must be one.
 fn asked_by(words: &[String]) -> Result<(Kind, &[String]), Failure> {
     let (kind, names) = match words {
+        [word, names @ ..] if word.as_str() == "--outlines" => (Kind::Outline, names),
         [word, names @ ..] if word.as_str() == "--levels" => (Kind::Level, names),
         [word, names @ ..] if word.as_str() == "--sessions" => (Kind::Sessions, names),
         names => (Kind::Source, names),

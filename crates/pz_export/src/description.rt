@@ -2,7 +2,7 @@
 
 ghost use Rattle.std.specs.Prelude.{◌≡◌, ◌≢◌, Err, IfErr, IfOk, length};
 ghost use Rattle.std.specs.Str.{IsUtf8};
-ghost use Rattle.pz_describe.specs.Description.{description_of};
+ghost use Rattle.pz_describe.specs.Description.{description_of, outline_of};
 ghost use Rattle.pz_describe.specs.Recordings.{level_description_of};
 ghost use Rattle.pz_engine.specs.Sessions.{sessions_in};
 ghost use Rattle.pz_entries.specs.declared.fault.FileFault.TheVariants as fault;
@@ -11,7 +11,7 @@ ghost use Rattle.pz_export.specs.Lines.{IsRefused};
 
 use crate::lines::tell;
 use crate::outcome::{Outcome, REFUSED};
-use pz_describe::{describe, describe_level, describe_recordings};
+use pz_describe::{describe, describe_level, describe_recordings, outline};
 use pz_engine::engine::Played;
 use pz_engine::sessions::decode;
 use pz_entries::fault::FileFault;
@@ -37,6 +37,17 @@ fn described(alloc: Global, source: &[u8]) -> Result<Played, FileFault>
         return Err(FileFault::NotJson);
     };
     Ok(answer(describe(alloc, text)?))
+}
+
+/// The outline of a source; `NotJson` of bytes that are no text.
+fn outlined(alloc: Global, source: &[u8]) -> Result<Played, FileFault>
+    ensures described { IfOk result (IsDescription (outline_of source.now)) }
+    ensures refused { IfErr result (λ cause. cause ≢ fault.Memory → (cause ≡ fault.NotJson) × ¬ (IsUtf8 source.now)) }
+{
+    let Ok(text) = from_utf8(source) else {
+        return Err(FileFault::NotJson);
+    };
+    Ok(answer(outline(alloc, text)?))
 }
 
 /// The description of a level text; `NotJson` of bytes that are no text.
@@ -75,6 +86,23 @@ pub extern "C" fn saxtegun_description(
     ensures refused { outcome.new.status ≡ REFUSED → IsUndescribed source.now room.old room.new outcome.new result }
 {
     tell(described(alloc, source), room, outcome)
+}
+
+/// The outline of a source: its description without the program of its rules, and without a fault that is found as rules are expanded. The answer is
+/// the number of bytes of the text. If the room has so many, it begins with them. Not told are bytes that aren't UTF-8.
+#[unsafe(no_mangle)]
+pub extern "C" fn saxtegun_outline(
+    alloc: Global,
+    source: &[u8],
+    room: &mut [u8],
+    outcome: &mut Outcome,
+) -> usize
+    ensures size { length room.new ≡ length room.old }
+    ensures answered { outcome.new.status ≢ REFUSED →
+        IsDescribed (outline_of source.now) room.old room.new outcome.new result }
+    ensures refused { outcome.new.status ≡ REFUSED → IsUndescribed source.now room.old room.new outcome.new result }
+{
+    tell(outlined(alloc, source), room, outcome)
 }
 
 /// What the engine has read of a level text, as JSON text: the number of each cell's set of names, and the sets; null of what is no level text. The

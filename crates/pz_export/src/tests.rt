@@ -1,7 +1,7 @@
 //! What a host sees.
 
 use crate::description::{
-    saxtegun_description, saxtegun_file_description, saxtegun_level_description,
+    saxtegun_description, saxtegun_file_description, saxtegun_level_description, saxtegun_outline,
 };
 use crate::held::Held;
 use crate::lines::{saxtegun_firings, saxtegun_frames, saxtegun_lines, saxtegun_stages};
@@ -231,6 +231,21 @@ fn describes_no_bytes_that_are_no_text(rt: HostRuntime) -> Result<(), Fail> {
     assert!(rt; count == 0);
     assert!(rt; outcome.status == 2 && outcome.fault == 2 && outcome.entry == 0);
     assert!(rt; room.iter().all(|byte| *byte == 7));
+    Ok(())
+}
+
+#[test]
+fn outlines_a_source(rt: HostRuntime) -> Result<(), Fail> {
+    let mut room = vec![in rt.alloc(); 7; 1000]?;
+    let mut outcome = played(false);
+    let count = saxtegun_outline(rt.alloc(), b"", room.as_mut_slice(), &mut outcome);
+    assert!(rt; count == DESCRIPTION.len());
+    assert!(rt; room.as_slice().starts_with(DESCRIPTION.as_bytes()));
+    assert!(rt; room.iter().skip(count).all(|byte| *byte == 7));
+    assert!(rt; outcome.status == 0 && outcome.fault == 0 && outcome.entry == 0);
+    let count = saxtegun_outline(rt.alloc(), b"\xff", room.as_mut_slice(), &mut outcome);
+    assert!(rt; count == 0);
+    assert!(rt; outcome.status == 2 && outcome.fault == 2 && outcome.entry == 0);
     Ok(())
 }
 
