@@ -1,6 +1,7 @@
 #!/usr/bin/env node
 // @ts-check
-// engine/describe.mjs [--levels | --sessions] FILE..: what the engine has read of each source, as one line of JSON; of each level text, or of each file of sessions.
+// engine/describe.mjs [--outlines | --levels | --sessions] FILE..: what the engine has read of each source, in whole or in outline, as one line of JSON; of each level
+// text, or of each file of sessions.
 // The exit status is 0, or 2 with a line of failure; a source that is refused is described too, and what is no level text is null. SAXTEGUN_MODULE may name another
 // module than out/saxtegun.wasm.
 import { closeSync } from "node:fs";
@@ -28,6 +29,7 @@ function bytesIn(file) {
 
 // What is told of bytes, by the word that asks for it; without one, a source is.
 const KINDS = {
+  "--outlines": (engine, bytes) => engine.outlineOf(bytes),
   "--levels": (engine, bytes) => engine.levelDescriptionOf(bytes),
   "--sessions": (engine, bytes) => engine.fileDescriptionOf(bytes),
 };

@@ -34,7 +34,7 @@ const MOST_WORKERS = 64;
 const PARTS_OF_A_WORKER = 8;
 const WORKER = "saxtegun-worker";
 // exports that older modules don't have
-const STAGES = "saxtegun_stages", FIRINGS = "saxtegun_firings", DESCRIPTION = "saxtegun_description",
+const STAGES = "saxtegun_stages", FIRINGS = "saxtegun_firings", DESCRIPTION = "saxtegun_description", OUTLINE = "saxtegun_outline",
   LEVEL_DESCRIPTION = "saxtegun_level_description", FILE_DESCRIPTION = "saxtegun_file_description", OPEN = "saxtegun_open", SOLUTIONS = "saxtegun_solutions";
 const MOST_NUMBER = 0xffff_ffff; // that the module is told; no file has so many sessions or inputs, and no memory so many levels
 const MOST_LEVELS = 1_000_000, MOST_KEPT_BYTES = 2 ** 27; // that a search keeps where no bound is named
@@ -395,6 +395,16 @@ class Engine {
   /** @type {import("./saxtegun").Engine["description"]} */
   description(source) {
     return valueOf("description", this.descriptionOf(source));
+  }
+
+  /** @type {import("./saxtegun").Engine["outlineOf"]} */
+  outlineOf(source) {
+    return this.#describe(this.#has(OUTLINE) ? OUTLINE : DESCRIPTION, source);
+  }
+
+  /** @type {import("./saxtegun").Engine["outline"]} */
+  outline(source) {
+    return valueOf("description", this.outlineOf(source));
   }
 
   /** @type {import("./saxtegun").Engine["levelDescriptionOf"]} */

@@ -50,6 +50,7 @@ function isReturned(host, next, pick) {
     () => host.exports.saxtegun_frames(place(), length(), order(), length(), place(), length(), place()),
     () => host.exports.saxtegun_stages?.(place(), length(), order(), place(), place(), place(), length(), place()),
     () => host.exports.saxtegun_description?.(place(), length(), place(), length(), place()),
+    () => host.exports.saxtegun_outline?.(place(), length(), place(), length(), place()),
     () => host.exports.saxtegun_level_description?.(place(), length(), place(), length(), place()),
     () => host.exports.saxtegun_file_description?.(place(), length(), place(), length(), place()),
     () => host.exports.give_back_room(place()),

@@ -32,7 +32,7 @@ const DESCRIPTION = {
   rules: [],
   wins: [],
 };
-const TEXT = JSON.stringify(DESCRIPTION);
+const TEXT = JSON.stringify(DESCRIPTION), OUTLINE = JSON.stringify({ ...DESCRIPTION, program: null });
 const NOTHING = '{"fault":{"code":"Section","line":0},"layers":[],"legend":[],"levels":[],"lines":[[1,"prelude",false,""]],"objects":[],"prelude":[],"program":null,"rules":[],"wins":[]}';
 // A level text and a file, each with what is told of it.
 const LEVEL = "b:0,B a:1,\n0,1,\n", CELLS = { cells: [0, 1, 0, 1], sets: ["b", "a b"] };
@@ -120,10 +120,34 @@ it("a source that is refused is described with its fault", () => {
   assert.deepEqual(description.objects.map(({ names, layer }) => [names[0], layer]), [["Background", undefined], ["Player", undefined]]);
 });
 
+it("an outline is the description without its program, and without a fault that is found as rules are expanded", () => {
+  assert.deepEqual(engine.outline(GAME), { description: { ...DESCRIPTION, program: null }, fault: null });
+  assert.equal(new TextDecoder().decode(engine.outlineOf("").lines), NOTHING);
+  const ruled = GAME.replace("LEVELS", "RULES\n[ Nobody ] -> [ ]\nLEVELS"), { description, fault } = engine.description(ruled);
+  assert.deepEqual([fault, description.fault], [null, { code: "Unknown", line: 11 }]);
+  assert.deepEqual(engine.outline(ruled), { description: { ...description, fault: null }, fault: null });
+});
+
+// 50 rules, each with properties of 250 objects in twelve cells: to expand them takes half a minute.
+function textOfManyPairs() {
+  const names = Array.from({ length: 250 }, (_, at) => `o${at}`), cells = "|no rr".repeat(5);
+  return [
+    "OBJECTS", ...[...names, "Background", "Player"].map((name) => `${name}\nred\n`), "LEGEND", `qq = ${names.join(" or ")}`, `rr = ${names.join(" or ")}`, ". = Background", "p = Player",
+    "COLLISIONLAYERS", "Background", "Player", ...names, "RULES", ...Array.from({ length: 50 }, () => `up[qq${cells}]->[qq no rr${cells}]`), "LEVELS", "p.",
+  ].join("\n");
+}
+
+it("an outline takes no time for rules that take long to expand", () => {
+  const source = textOfManyPairs(), begin = performance.now(), { description } = engine.outline(source);
+  assert.ok(performance.now() - begin < 2000, "it takes hundredths of a second");
+  assert.deepEqual([description.fault, description.rules.length, description.legend[0].members?.length], [null, 50, 250]);
+});
+
 it("what is no text is not described", () => {
   for (const source of [Uint8Array.of(0xff), Uint8Array.of(0x70, 0xc3), "\ud800"]) {
     assert.deepEqual(engine.descriptionOf(source), refused("not-json"));
     assert.deepEqual(engine.description(source), { description: null, fault: "not-json" });
+    assert.deepEqual(engine.outline(source), { description: null, fault: "not-json" });
     assert.deepEqual(engine.levelDescription(source), { description: null, fault: "not-json" });
     assert.deepEqual(engine.fileDescription(source), { description: null, fault: "not-json" });
   }
@@ -146,7 +170,7 @@ test("whatever is refused of the heap, a description is whole or tells the want 
   const module = await WebAssembly.compile(readFileSync(REFUSING));
   /** @type {[`saxtegun_${string}`, string, string][]} */
   const all = [
-    ["saxtegun_description", GAME, TEXT], ["saxtegun_description", "", NOTHING],
+    ["saxtegun_description", GAME, TEXT], ["saxtegun_description", "", NOTHING], ["saxtegun_outline", GAME, OUTLINE], ["saxtegun_outline", "", NOTHING],
     ["saxtegun_level_description", LEVEL, JSON.stringify(CELLS)], ["saxtegun_file_description", SESSIONS, JSON.stringify(FILE)],
   ];
   for (const [asked, source, text] of all) {
