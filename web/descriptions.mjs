@@ -1,13 +1,13 @@
 // @ts-check
-// What the engine has read of the text of a game, as engine/saxtegun.d.ts has it: nothing in the page cuts one into words by itself. It is asked in the thread
-// that shows the page, by an instance of the module that does nothing else: a state of the page follows from the one before by a function, which would wait for
-// a worker at each step. Nothing is played for it, so it takes time by the length of the text alone: hundredths of a second for a game, a second or so for
-// the longest text that is read, 1 MiB; and what is being typed is asked about behind a pause (running.mjs).
+// What the engine has read of the text of a game, in outline, as engine/saxtegun.d.ts has it: nothing in the page cuts one into words by itself. It is asked in
+// the thread that shows the page, by an instance of the module that does nothing else: a state of the page follows from the one before by a function, which would
+// wait for a worker at each step. No rule is expanded for it, so it takes time by the length of the text alone: hundredths of a second for a game, a second or so
+// for the longest text that is read, 1 MiB; and what is being typed is asked about behind a pause (running.mjs).
 import { fold } from "./texts.mjs";
 import { there } from "./there.mjs";
 
 /** @typedef {import("../engine/saxtegun").Description & { why?: string }} Told */
-/** @typedef {Pick<import("../engine/saxtegun").Engine, "description">} Reader */
+/** @typedef {Pick<import("../engine/saxtegun").Engine, "outline">} Reader */
 
 /** @type {Told} */
 const NOTHING = { fault: null, layers: [], legend: [], levels: [], lines: [], objects: [], prelude: [], program: null, rules: [], wins: [] };
@@ -38,7 +38,7 @@ export function readBy(engine) {
 // What the engine tells; `why` is there where it tells nothing. Half a letter, which is no text, is another one there.
 /** @type {(source: string) => Told} */
 function readText(source) {
-  const { description, fault } = there(reader).description(new TextEncoder().encode(source));
+  const { description, fault } = there(reader).outline(new TextEncoder().encode(source));
   if (fault === "too-many") return TOO_LONG;
   return fault === null ? there(description) : { ...NOTHING, why: WHY_NOT[fault] ?? "the engine stopped at a fault of its own as it read the text: objects are drawn by letters" };
 }

@@ -32,7 +32,7 @@ const fileOf = (entries) => new SessionFile("f.json", new TextEncoder().encode(J
 // Does something while it is counted how often a text of a session is read.
 async function counted(act) {
   const count = { read: 0 }, isOwn = (bytes) => new TextDecoder().decode(bytes).includes("title Own");
-  readBy({ description: (bytes) => { count.read += Number(isOwn(bytes)); return module.description(bytes); } });
+  readBy({ outline: (bytes) => { count.read += Number(isOwn(bytes)); return module.outline(bytes); } });
   await act(count).finally(() => readBy(module));
 }
 

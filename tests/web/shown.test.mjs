@@ -192,7 +192,7 @@ async function readByAnother(engine, act) {
 }
 
 it("an older engine, which tells nothing of a text, plays it all the same, and that is said", async () => {
-  await readByAnother({ description: () => ({ description: null, fault: "no-descriptions" }) }, async () => {
+  await readByAnother({ outline: () => ({ description: null, fault: "no-descriptions" }) }, async () => {
     const game = new Game(FALLING), bench = new Bench();
     assert.deepEqual([game.title, game.look().objects, levelsOf(FALLING), messagesOf(FALLING), nothingTold("anything"), hasClock(`${CLOCKED}\n`)], ["a game", [], [], [], null, false]);
     assert.match(notesTold(game), /^the engine of this page is an older one, .* drawn by letters/);
@@ -206,15 +206,15 @@ it("an older engine, which tells nothing of a text, plays it all the same, and t
 
 it("that an engine has no memory for a text, or stops at it, is said, and a text that is too long is one of no game", async () => {
   for (const [fault, told] of [["memory", "there is not enough memory to read the text"], ["broken", "the engine stopped at a fault of its own as it read the text"]]) {
-    await readByAnother({ description: () => ({ description: null, fault }) }, () => assert.deepEqual(new Game("title x").notes, [`${told}: objects are drawn by letters`]));
+    await readByAnother({ outline: () => ({ description: null, fault }) }, () => assert.deepEqual(new Game("title x").notes, [`${told}: objects are drawn by letters`]));
   }
-  await readByAnother({ description: () => ({ description: null, fault: "too-many" }) }, () => assert.deepEqual(descriptionOf("").fault, { code: "TooLong", line: 0 }));
+  await readByAnother({ outline: () => ({ description: null, fault: "too-many" }) }, () => assert.deepEqual(descriptionOf("").fault, { code: "TooLong", line: 0 }));
   assert.match(nothingTold(`OBJECTS\n${"x".repeat(1_048_576)}`), /^it has no recording, and is longer than a game's text may be: /);
   assert.equal(nothingTold("OBJECTS\n"), null);
 });
 
 it("each text is read once as long as it is kept, and half a letter is another one", async () => {
-  const asked = [], engine = { description: (bytes) => { asked.push(new TextDecoder().decode(bytes)); return module.description(bytes); } };
+  const asked = [], engine = { outline: (bytes) => { asked.push(new TextDecoder().decode(bytes)); return module.outline(bytes); } };
   await readByAnother(engine, () => {
     for (let turn = 0; turn < 3; turn += 1) for (let number = 0; number < 64; number += 1) assert.equal(new Game(`title ${number}`).title, `${number}`);
     assert.equal(asked.length, 64);
@@ -227,7 +227,7 @@ it("each text is read once as long as it is kept, and half a letter is another o
 });
 
 it("what is being typed is read behind a pause, also for the line that is pointed at", async () => {
-  const asked = [], engine = { description: (bytes) => { asked.push(new TextDecoder().decode(bytes)); return module.description(bytes); } };
+  const asked = [], engine = { outline: (bytes) => { asked.push(new TextDecoder().decode(bytes)); return module.outline(bytes); } };
   const bench = new Bench(), line = TICKING.split("\n").indexOf("[ action Player ] -> [ right Player ] again") + 1;
   await bench.act(opened, true);
   await readByAnother(engine, async () => {
