@@ -17,7 +17,7 @@ from tool import TOP, InARoom  # which puts the package on the path
 from saxtegun import budget, descriptions, playing, programs, reindexing
 from saxtegun.command_line import main
 from saxtegun.commands import Refused
-from saxtegun.descriptions import NOTHING, Definition, Description, Drawn, Fault, Line, Paragraph, Setting, Undescribed, Words, asked, bytes_of, description_of, expect, how_to_ask
+from saxtegun.descriptions import NOTHING, OUTLINES, Definition, Description, Drawn, Fault, Line, Paragraph, Setting, Undescribed, Words, asked, bytes_of, description_of, expect, how_to_ask
 from saxtegun.explanations import told
 from saxtegun.games import Game, game_of, titles_of
 from saxtegun.lines import Run
@@ -65,7 +65,7 @@ message Go (on)
 @.
 """
 TOLD = Description(
-    fault=Fault("Shape", 26),
+    fault=None,
     lines=NOTHING.lines,
     prelude=[Setting(1, "title", "A (game)"), Setting(2, "run_rules_on_level_start", "")],
     objects=[
@@ -88,7 +88,7 @@ ENTRY = sessions_in("x", '[["a", ["title x\\nOBJECTS\\n", [], ""]]]').entries[0]
 
 def ways() -> Any:
     """As the command asks, and in Node."""
-    return how_to_ask(), [programs.node_that_plays(), str(programs.DESCRIBE_IN_NODE)]
+    return how_to_ask(), [programs.node_that_plays(), str(programs.DESCRIBE_IN_NODE), OUTLINES]
 
 
 def description_line(source: str) -> str:
@@ -197,7 +197,7 @@ class Asked(InARoom):
         sessions, lines = self.room / "sessions.json", self.room / "lines"
         sessions.write_text(json.dumps([[f"s{it}", [f"title {it}\nOBJECTS\nPlayer\nred\nRULES\n[ Crate{it} ] -> [ ]\n", [], ""]] for it in range(200)]))
         lines.write_text("".join(f'{{"cause":"Unknown:6","close":"refused","frames":0,"name":"s{it}","session":{it}}}\n' for it in range(200)))
-        programs.CHOSEN_FOR_SOURCES[:] = [how_to_ask()]
+        programs.CHOSEN_FOR_SOURCES[:] = [programs.describer_words()]
         with mock.patch.object(sys, "argv", ["saxtegun", "explain", str(sessions), str(lines)]), redirect_stdout(io.StringIO()) as told:
             with mock.patch.object(subprocess, "Popen", side_effect=subprocess.Popen) as begun:
                 self.assertEqual(main(), 0)
@@ -216,7 +216,7 @@ class Asked(InARoom):
     def test_what_was_told_before_it_was_too_much_is_known(self) -> None:
         """Small games may tell so much together, of which each alone tells far less."""
         line, sources = description_line("title x"), [f"title {it}" for it in range(10)]
-        self.stand_in(f"[print({line!r}) for it in sys.argv[1:]]")
+        self.stand_in(f"[print({line!r}) for it in sys.argv[2:]]")
         expect(sources)
         with mock.patch.object(descriptions, "MOST_TOLD", 4 * len(line) - 1), mock.patch.object(descriptions, "watched", side_effect=descriptions.watched) as called:
             self.assertEqual([description_of(it).prelude[0].value for it in sources], ["x"] * 10)
@@ -432,6 +432,8 @@ TOLD_OF_SESSIONS = (
     '{"index":7,"inputs":[],"level":{"cells":[],"sets":[]},"name":"two","source":1},'
     '{"index":0,"inputs":[],"level":{"cells":[0,0],"sets":["b"]},"name":"\\"three\\n","source":0}],"sources":["S","T"]}'
 )
+# A game around a rule, which is its eleventh line.
+GAME, END = ["OBJECTS", "Background .", "black", "Player p", "red", "LEGEND", "COLLISIONLAYERS", "Background", "Player", "RULES"], ["LEVELS", "p."]
 REFUSED_FILES = {"": "not-json", "{}": "not-json", "[3]": "bad-entry 0", json.dumps([SESSIONS[0], ["", ["", [], "x"]]]): "bad-level 1"}
 
 
@@ -443,12 +445,12 @@ class DayOfLevelsAndFiles(InARoom):
     def words(self) -> List[str]:
         return programs.describer_words()
 
-    def tell(self, kind: str, *texts: Union[str, bytes]) -> Tuple[int, str, str]:
+    def tell(self, kind: Optional[str], *texts: Union[str, bytes]) -> Tuple[int, str, str]:
         paths = [self.room / str(number) for number in range(len(texts))]
         for path, text in zip(paths, texts):
             path.write_bytes(text if isinstance(text, bytes) else text.encode())
         words = self.words()
-        ran = subprocess.run([*words, kind, *map(str, paths)], stdout=subprocess.PIPE, stderr=subprocess.PIPE, env=self.names or programs.environment_of(words), check=False)
+        ran = subprocess.run([*words, *([] if kind is None else [kind]), *map(str, paths)], stdout=subprocess.PIPE, stderr=subprocess.PIPE, env=self.names or programs.environment_of(words), check=False)
         return ran.returncode, ran.stdout.decode(), ran.stderr.decode()
 
     def test_level_texts(self) -> None:
@@ -467,8 +469,19 @@ class DayOfLevelsAndFiles(InARoom):
         for text, why in REFUSED_FILES.items():
             self.assertEqual(self.tell("--sessions", text), (2, "", f"{why}\n"))
 
+    def test_outlines(self) -> None:
+        """A source of which the rules alone are refused is told as one whose rules are right, but that neither has a program."""
+        right, wrong, nothing = "\n".join([*GAME, "[ > p ] -> [ ]", *END]), "\n".join([*GAME, "[ x ] -> [ ]", *END]), ""
+        status, told, why = self.tell(OUTLINES, right, wrong, nothing)
+        (of_right, of_wrong, of_nothing), whole = map(json.loads, told.splitlines()), json.loads(self.tell(None, right)[1])
+        self.assertEqual((status, why, whole["program"]["early"][0]["groups"]), (0, "", [[11, 11, 11, 11]]))
+        self.assertEqual(of_right, {**whole, "program": None})
+        self.assertEqual((of_wrong["fault"], of_wrong["program"], of_wrong["rules"]), (None, None, [{"line": 11, "words": "[ x ] -> [ ]".split()}]))
+        self.assertEqual(of_wrong["objects"], whole["objects"])
+        self.assertEqual(of_nothing["fault"], {"code": "Section", "line": 0})
+
     def test_what_is_no_text_or_no_command_line(self) -> None:
-        for kind in ("--levels", "--sessions"):
+        for kind in (OUTLINES, "--levels", "--sessions"):
             self.assertEqual(self.tell(kind, b"\xff"), (2, "", "not-json\n"))
             self.assertEqual(self.tell(kind), (2, "", "bad command line\n"))
 

@@ -1,5 +1,5 @@
 """What the engine has read of a source: its lines without comments, its sections by their words, or its first fault. A source that is refused is told as far
-as it goes. Nothing in this package cuts a source into words by itself."""
+as it goes. No rule is expanded for it, which may take long. Nothing in this package cuts a source into words by itself."""
 from __future__ import annotations
 
 import json
@@ -28,6 +28,7 @@ MOST_KEPT = 2**21
 MOST_OF_A_LETTER = 32
 # So many sources, and letters of them, are asked for at once.
 MOST_AT_ONCE, MOST_LETTERS_AT_ONCE = 1000, 2**21
+OUTLINES = "--outlines"  # behind the program that tells sources
 CANT_ASK = "the engine can't be asked what it reads of a source: "
 NONE_TOLD = "what it wrote is no description"
 JSON = json.JSONDecoder()
@@ -41,7 +42,7 @@ class Undescribed(Refused):
 
 
 class Fault(NamedTuple):
-    """The first fault of a source, and its line, or 0."""
+    """The first fault of a source, unless it is found as rules are expanded, and its line, or 0."""
 
     code: str
     line: int
@@ -346,7 +347,7 @@ def asked(sources: Sequence[str], words: Sequence[str]) -> List[str]:
 
 def how_to_ask() -> List[str]:
     try:
-        return describer_words()
+        return [*describer_words(), OUTLINES]
     except Refused as why:
         raise Undescribed(why) from None
 
