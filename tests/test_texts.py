@@ -152,6 +152,9 @@ class DayOfTexts(OfTwoTexts):
         accepted = run("accept", self.mixed, "--game", self.game, "--only", name)
         self.assertEqual((accepted.status, accepted.out), (1, self.mixed.read_text(encoding="utf-8")))
         self.assertIn(f"accept: session 1, {name}: passed, not accepted: it was played over its own text, and not over {self.game}\n", accepted.errors)
+        moved = run("accept", self.mixed, "--game", self.game, "--only", name, "--reindex")
+        self.assertEqual((moved.status, moved.out), (1, accepted.out))
+        self.assertIn(f"accept: session 1, {name}: its index 0 stays: it was played over its own text, and not over {self.game}\naccept: 0 of 2 indices changed\n", moved.errors)
         mended = run("mend", self.game, self.mixed, "--only", name)
         self.assertEqual((mended.status, mended.out), (1, f"session 1, {name}: not mended: it has another text than {self.game}\n0 of 2 recordings mended\n"))
         # two texts are compared, whatever the session's own is

@@ -30,9 +30,9 @@ from __future__ import annotations
 import sys
 from argparse import ArgumentParser, Namespace
 from contextlib import contextmanager
-from typing import Dict, Iterator, List, Mapping, Optional, Sequence, Tuple, Union
+from typing import Collection, Dict, Iterable, Iterator, List, Mapping, Optional, Sequence, Tuple, Union
 
-from saxtegun.commands import Ended, Refused, add_game, add_playing, add_ticks, plural, printable, say, seconds_in
+from saxtegun.commands import Ended, Refused, add_game, add_playing, add_ticks, cut, plural, printable, say, seconds_in
 from saxtegun.descriptions import expect
 from saxtegun.explanations import UNREADABLE, Ending, heading, source_told, told
 from saxtegun.files import guard_output, guard_places, write_again
@@ -108,7 +108,7 @@ def write(sessions: Sessions, changes: Mapping[int, Tuple[str, Union[str, int]]]
         write_again(given.sessions, sessions.text, new)
 
 
-def say_all(before: str, lines: Sequence[str]) -> None:
+def say_all(before: str, lines: Iterable[str]) -> None:
     for line in lines:
         say(f"accept: {before}{printable(line)}")
 
@@ -128,17 +128,20 @@ def reviewed(sessions: Sessions, changes: Mapping[int, Tuple[str, Union[str, int
         raise
 
 
-def reindex(sessions: Sessions, wanted: Sequence[Entry], given: Namespace) -> int:
-    """Sets the indices with which recordings pass again."""
+def reindex(sessions: Sessions, wanted: Sequence[Entry], others: Collection[int], given: Namespace) -> int:
+    """Sets the indices with which recordings pass again. Others are those that aren't played over the game."""
     found = reindexed(wanted, sessions, engine_of(given), given.within)
+    tried = {it.entry.number for it in found}
+    elsewhere = [it for it in wanted if given.only and it.number in others and it.number not in tried]
     changes = {it.entry.number: ("index", it.new) for it in found if it.new is not None}
     write(sessions, changes, given)
     for it in found:
         say(f"accept: {printable(it.told())}")
+    say_all("", (f"session {it.number}, {cut(it.name)}: its index {it.index} stays: it was played over its own text, and not over {given.game}" for it in elsewhere))
     say(f"accept: {len(changes)} of {plural(len(sessions.entries), 'index', 'indices')} changed")
     if not all(it.has_answer for it in found):
         return 2
-    return 1 if len(changes) < len(found) and given.only else 0
+    return 1 if given.only and (len(changes) < len(found) or elsewhere) else 0
 
 
 def main(given: Namespace) -> int:
@@ -159,7 +162,7 @@ def main(given: Namespace) -> int:
     others = {it.number for it in say_others("accept", sessions, game)}
     expect(it.source for it in sessions.entries)
     if given.reindex:
-        return reindex(sessions, chosen(sessions, given.only), given)
+        return reindex(sessions, chosen(sessions, given.only), others, given)
     wanted = {it.number for it in chosen(sessions, given.only)}
     review = Review(given.order) if given.review else None
     changes: Dict[int, Tuple[str, str]] = {}
