@@ -24,6 +24,8 @@ BEGIN = re.compile(
 )
 # The rest of a text that was escaped and has lost its quotes.
 REST = re.compile(rf"[^\"\\\n]*(?:\\.[^\"\\\n]*){ROUNDS}")
+# So many letters anything has that is taken, or is skipped by name.
+LEAST_LETTERS = 9
 # An entry holds a body, which holds its inputs; behind one that is cut off another may begin.
 MOST_DEPTH = 8
 # A number of a letter in HTML that Python can't read, since it has thousands of digits, and one that is no letter's either.
@@ -131,7 +133,7 @@ class Search:
         """Reads what was escaped once and has lost its quotes; where the search goes on."""
         end = behind(REST, self.text, at)
         # the last bracket may begin a list without escapes
-        return end if self.has_read(at, at, end) else max(self.text.rfind("[", at + 1, end), at + 1)
+        return end if end - at >= LEAST_LETTERS and self.has_read(at, at, end) else max(self.text.rfind("[", at + 1, end), at + 1)
 
     def read_quoted(self, at: int) -> int:
         """Reads what was quoted once; where the search goes on. What stands behind an escaped quote was read with the quote before it, and so isn't read again."""
@@ -139,7 +141,7 @@ class Search:
         if at < self.in_vain.get(quote, 0):
             return at + 1
         end = behind(BODIES[quote], self.text, at + 1)
-        if self.text[end : end + 1] == quote and self.has_read(at, at + 1, end):
+        if self.text[end : end + 1] == quote and end - at >= LEAST_LETTERS and self.has_read(at, at + 1, end):
             return end + 1
         self.in_vain[quote] = end
         return at + 1
