@@ -1,0 +1,112 @@
+"""The cases of a rule decide it: for each error here, planted in the small engine by the rule book, a case of that rule fails."""
+from __future__ import annotations
+
+import ast
+import unittest
+from typing import Dict, List, Tuple
+
+import planting
+
+PLACED = 'cell[layer] = (name, kept if word is None else None if word == "stationary" else word)'
+UNNAMED = "cell.get(layer, (name,))[0] not in present | {name}"
+STAYED = "before and set(before) <= set(self.players())"
+MEMBERS = "items += [Item(it.word, member) for member in members]"
+LOOSE = "any(row[0] == GAP or row[-1] == GAP for row in rows)"
+MOVED = "self.move()"
+EARLY, LATE = "self.run_all(game.early)", "self.run_all(game.late)"
+BREAK = "\n        "
+
+
+def some_of(members: str, side: str) -> str:
+    """Some members alone of a property under `no`, on one side."""
+    return MEMBERS.replace("in members]", f'in (members[{members}] if it.word == "no" and any(cell is it for row in self.rule.{side} for it in row) else members)]')
+
+
+# Of a rule and one of its cases: what an engine does, a text that stands once in the small engine, and what makes it do so.
+ERRORS: Dict[Tuple[str, str], List[Tuple[str, str, str]]] = {
+    ("match.placed", "a-placed-object-displaces-what-the-left-doesn-t-name"): [
+        ("it stays beside what is placed", PLACED, PLACED.replace("[layer]", f"[-layer if {UNNAMED} else layer]")),
+        ("nothing is placed where it stands", PLACED, PLACED.replace("= (", f"= cell[layer] if {UNNAMED} else (")),
+    ],
+    ("match.loop-limit", "two-rules-that-undo-each-other-stop-at-the-loop-limit"): [
+        ("play goes on behind the limit", 'raise Stop("loop-limit")', "return True"),
+    ],
+    ("step.order", "early-groups-run-before-the-movement-and-late-ones-behind-it"): [
+        ("late groups run before the movement", f"{MOVED}{BREAK}{LATE}", f"{LATE}{BREAK}{MOVED}"),
+        ("early groups run behind it", f"{EARLY}{BREAK}{MOVED}", f"{MOVED}{BREAK}{EARLY}"),
+    ],
+    ("step.player-moves", "a-press-that-moves-no-player-isn-t-kept-for-undo"): [
+        ("nothing is cancelled", STAYED, "False"),
+        ("a level that is the same is kept", "if not self.has_loaded and self.level != before:", "if not self.has_loaded:"),
+    ],
+    ("step.player-moves", "a-player-that-changes-in-place-hasn-t-moved"): [
+        ("nothing is cancelled", STAYED, "False"),
+    ],
+    ("step.player-moves", "a-player-hasn-t-moved-if-another-stands-where-it-was"): [
+        ("it has if another cell holds one too", STAYED, STAYED.replace("<=", "==")),
+    ],
+    ("step.player-moves", "one-of-two-players-that-moved-is-enough"): [
+        ("a cell that still holds one is enough to cancel", STAYED, STAYED.replace("<=", "&")),
+    ],
+    ("step.player-moves", "a-tick-isn-t-subject-to-the-player-s-movement"): [
+        ("it is", 'press is not None and "require_player_movement"', '"require_player_movement"'),
+    ],
+    ("step.player-moves", "without-any-player-a-step-isn-t-cancelled"): [
+        ("it is", STAYED, STAYED.replace("before and ", "")),
+    ],
+    ("expand.no-property", "a-property-under-no-is-none-of-its-members"): [
+        ("the first member alone is meant", MEMBERS, some_of(":1", "left")),
+        ("the last member alone is meant", MEMBERS, some_of("-1:", "left")),
+    ],
+    ("expand.no-property", "what-a-rewriting-leaves-places-and-takes-away"): [
+        ("the first member alone goes", MEMBERS, some_of(":1", "right")),
+    ],
+    ("wins.step", "without-win-lines-a-step-doesn-t-win"): [
+        ("it does", "return bool(self.wins)", "return True"),
+    ],
+    ("play.undo", "undo-leaves-a-checkpoint-and-a-restart-can-be-undone"): [
+        ("undo makes its level the target", 'self.show("undo")', 'self.show("undo"); self.target = copy_of(self.level)'),
+    ],
+    ("play.again-limit", "a-tick-input-counts-among-its-five-hundred-ticks"): [
+        ("it doesn't", "self.chain(True)", "self.ticks = -1; self.chain(True)"),
+    ],
+    ("play.again-limit", "five-hundred-again-ticks-and-no-more"): [
+        ("499 are run", "self.ticks == MOST_TICKS", "self.ticks == MOST_TICKS - 1"),
+        ("501 are run", "self.ticks == MOST_TICKS", "self.ticks == MOST_TICKS + 1"),
+    ],
+    ("checks.gaps", "two-gaps-in-a-row"): [
+        ("they are let through", "row.count(GAP) > 1", "row.count(GAP) > 2"),
+    ],
+    ("checks.gaps", "two-gaps-on-the-right-alone"): [
+        ("the left alone is looked at", "any(row.count(GAP) > 1 for row in rows)", "any(row.count(GAP) > 1 for row in rule.left)"),
+    ],
+    ("checks.shape", "which-choice-a-right-takes-and-where-none-is-meant"): [
+        ("a gap may come first", LOOSE, LOOSE.replace("row[0] == GAP or ", "")),
+        ("a gap may come last", LOOSE, LOOSE.replace(" or row[-1] == GAP", "")),
+    ],
+}
+
+
+class Decided(unittest.TestCase):
+    def test_a_case_of_the_rule_fails_for_each_error(self) -> None:
+        """By another answer, and not by none."""
+        text = planting.ENGINE.read_text(encoding="utf-8")
+        for (rule, name), errors in ERRORS.items():
+            folder = planting.CASES / name
+            case = planting.case_in(folder)
+            assert case is not None
+            self.assertIn(rule, (folder / "rules").read_text(encoding="utf-8").splitlines())
+            self.assertEqual(self.answer(text, case), case.wanted)
+            for does, old, new in errors:
+                with self.subTest(name, does=does):
+                    self.assertEqual(text.count(old), 1)
+                    answer = self.answer(text.replace(old, new), case)
+                    self.assertIsInstance(answer, tuple)
+                    self.assertNotEqual(answer, case.wanted)
+
+    def answer(self, text: str, case: planting.Case) -> planting.Written:
+        return planting.played(planting.module_of(ast.parse(text)), case.entries, case.order)
+
+
+if __name__ == "__main__":
+    unittest.main()
