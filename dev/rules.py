@@ -12,6 +12,8 @@ SENTENCE = re.compile(rf" ?<sub>({ID})</sub>")
 DEFINITION = re.compile(rf"-- ({IDS})(?:: |$)")
 FUNCTION = re.compile(rf"\s*///(?: .*)? Rules? ((?:`{ID}`(?:, )?)+)\.$")
 BODY = re.compile(rf" \[({IDS})\]$")
+# in a page, where it leads to the sentences
+LED_TO = re.compile(rf"`({ID})`")
 PAGES = ("docs/language.md", "docs/sessions.md")
 PLACES = ("sentence", "definition", "function", "case", "body")
 WITHOUT = "dev/without.txt"
@@ -99,6 +101,13 @@ def bodies(top: Path) -> Iterator[Tuple[str, Place]]:
                 yield it, Place(str(file.relative_to(top)), 1, file.stem, first[: found.start()])
 
 
+def led_to(top: Path) -> Iterator[Tuple[str, str]]:
+    """Each rule to which a page leads by its id, and where."""
+    for page in filter(lambda it: (top / it).exists(), PAGES):
+        for number, line in enumerate((top / page).read_text(encoding="utf-8").splitlines(), 1):
+            yield from ((name, f"{page}:{number}") for name in LED_TO.findall(line))
+
+
 def read_rules(top: Path) -> Rules:
     """The rules in the order of the pages, each with its places; one that has no sentence comes last."""
     rules: Rules = {}
@@ -136,6 +145,7 @@ def faults_of(top: Path) -> Iterator[str]:
             continue
         yield from (f"{it.file}:{it.line}: the rule {name} stands there a second time" for it in sentence[1:])
         yield from (f"{sentence[0].file}:{sentence[0].line}: the rule {name} has no {kind}" for kind in PLACES if not places[kind] and not why_not(without, name, kind))
+    yield from (f"{where}: no sentence of {' or '.join(PAGES)} has the rule {name}" for name, where in led_to(top) if name not in rules or not rules[name]["sentence"])
     for said, kind, why in without:
         about = [places for name, places in rules.items() if is_of(name, said)]
         if kind not in PLACES or not why or not about:

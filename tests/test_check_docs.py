@@ -87,6 +87,12 @@ class OfRules(OnOneRule):
                 self.assertEqual(self.told(), [f"{file}:{line}: no sentence of docs/language.md or docs/sessions.md has the rule number.other"])
                 self.write(AT[kind], text)
 
+    def test_a_page_leads_to_no_rule_that_is_not_there(self) -> None:
+        for name, told in (("number.same", []), ("number.other", ["docs/language.md:8: no sentence of docs/language.md or docs/sessions.md has the rule number.other"])):
+            with self.subTest(name):
+                self.write("docs/language.md", RULE["docs/language.md"] + f"\nNo more than that (`{name}`), as in `a.txt b`.\n")
+                self.assertEqual(self.told(), told)
+
     def test_an_id_that_stands_twice_in_the_pages_is_told(self) -> None:
         for page, line in (("docs/language.md", 8), ("docs/sessions.md", 3)):
             with self.subTest(page):
