@@ -35,6 +35,12 @@ ERRORS: Dict[Tuple[str, str], List[Tuple[str, str, str]]] = {
         ("late groups run before the movement", f"{MOVED}{BREAK}{LATE}", f"{LATE}{BREAK}{MOVED}"),
         ("early groups run behind it", f"{EARLY}{BREAK}{MOVED}", f"{MOVED}{BREAK}{EARLY}"),
     ],
+    ("step.order", "loops-of-early-and-of-late-groups"): [
+        ("late loops run before the movement", f"{MOVED}{BREAK}{LATE}", f"{LATE}{BREAK}{MOVED}"),
+    ],
+    ("step.order", "a-loop-with-an-early-and-a-late-group"): [
+        ("late groups run before early ones", f"{EARLY}{BREAK}{MOVED}{BREAK}{LATE}", f"{LATE}{BREAK}{EARLY}{BREAK}{MOVED}"),
+    ],
     ("step.player-moves", "a-press-that-moves-no-player-isn-t-kept-for-undo"): [
         ("nothing is cancelled", STAYED, "False"),
         ("a level that is the same is kept", "if not self.has_loaded and self.level != before:", "if not self.has_loaded:"),
