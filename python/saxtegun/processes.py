@@ -83,10 +83,14 @@ class Beside(Thread, Generic[Value]):
         except BaseException as why:
             self.why = why
 
-    def result(self) -> Value:
-        """What came of it, once it is done. A signal that comes just before this waits is heard only once it is awake again."""
+    def wait(self) -> None:
+        """Waits until it is done. A signal that comes just before this waits is heard only once it is awake again."""
         while self.is_alive():
             self.join(PAUSE)
+
+    def result(self) -> Value:
+        """What came of it, once it is done."""
+        self.wait()
         if self.why is not None:
             raise self.why
         return self.values[0]

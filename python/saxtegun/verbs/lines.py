@@ -161,7 +161,7 @@ def play(words: List[str], stdin: Optional[int], seconds: Optional[float]) -> Tu
             ended.set()
     except Refused:
         # what was written before is handed on
-        beside.join()
+        beside.wait()
         raise
     return ran, beside.result()
 
