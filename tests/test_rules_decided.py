@@ -8,9 +8,11 @@ from typing import Dict, List, Tuple
 import planting
 
 PLACED = 'cell[layer] = (name, kept if word is None else None if word == "stationary" else word)'
+PLACES = 'placed = {layers[name]: (word, name) for word, name in right if word != "no"}'
 UNNAMED = "cell.get(layer, (name,))[0] not in present | {name}"
 STAYED = "before and set(before) <= set(self.players())"
 MEMBERS = "items += [Item(it.word, member) for member in members]"
+POSSIBLE = "if not all(self.is_possible(cell) for row in left for cell in row if cell != GAP):"
 LOOSE = "any(row[0] == GAP or row[-1] == GAP for row in rows)"
 MOVED = "self.move()"
 EARLY, LATE = "self.run_all(game.early)", "self.run_all(game.late)"
@@ -27,6 +29,18 @@ ERRORS: Dict[Tuple[str, str], List[Tuple[str, str, str]]] = {
     ("match.placed", "a-placed-object-displaces-what-the-left-doesn-t-name"): [
         ("it stays beside what is placed", PLACED, PLACED.replace("[layer]", f"[-layer if {UNNAMED} else layer]")),
         ("nothing is placed where it stands", PLACED, PLACED.replace("= (", f"= cell[layer] if {UNNAMED} else (")),
+    ],
+    ("match.placed", "a-placed-object-without-a-word-is-still-where-the-left-has-a-movement-"): [
+        ("it heads as what stood there", "kept = None if layer in worded else before", "kept = before"),
+    ],
+    ("match.removed", "a-direction-that-a-removed-object-leaves-to-no-other-layer"): [
+        ("nothing is removed but under `no`", "name in present or name in barred", "name in barred"),
+    ],
+    ("match.removed", "placed-and-under-no-on-the-right"): [
+        ("it goes", PLACES, PLACES.replace('!= "no"', '!= "no" and name not in barred')),
+    ],
+    ("match.rest", "two-groups-that-undo-each-other-without-a-loop"): [
+        ("all groups are run to rest as one", "                self.rest(part)", "                to_rest(lambda: any([self.rest(it) for it in parts if not isinstance(it, Loop)]))"),
     ],
     ("match.loop-limit", "two-rules-that-undo-each-other-stop-at-the-loop-limit"): [
         ("play goes on behind the limit", 'raise Stop("loop-limit")', "return True"),
@@ -67,8 +81,41 @@ ERRORS: Dict[Tuple[str, str], List[Tuple[str, str, str]]] = {
     ("expand.no-property", "what-a-rewriting-leaves-places-and-takes-away"): [
         ("the first member alone goes", MEMBERS, some_of(":1", "right")),
     ],
+    ("expand.dropped", "a-right-is-not-asked-where-a-cell-of-its-left-can-t-be"): [
+        ("none is dropped", POSSIBLE, "if False:"),
+    ],
+    ("checks.right-clash", "a-right-is-not-asked-where-a-cell-of-its-left-can-t-be"): [
+        ("the right is asked first", POSSIBLE, f"self.check_clash(right){BREAK}        {POSSIBLE}"),
+    ],
+    ("rules.prefixes", "late-twice"): [
+        ("it may stand there once", 'any(it != "late"', 'prefixes.count("late") > 1 or any(it != "late"'),
+    ],
+    ("legend.lines", "two-names-on-the-left"): [
+        ("the first is defined", "len(left) != 1 or", "not left or"),
+    ],
     ("wins.step", "without-win-lines-a-step-doesn-t-win"): [
         ("it does", "return bool(self.wins)", "return True"),
+    ],
+    ("wins.step", "a-tick-input-wins"): [
+        ("a step doesn't win by the command", 'if "win" in given or self', "if self"),
+    ],
+    ("play.idle", "a-tick-input-wins"): [
+        ("it is idle, as it changes nothing", '{"restart", "win"}', '{"restart"}'),
+    ],
+    ("play.commands", "a-restart-in-an-again-chain-ends-it"): [
+        ("ticks follow", "            return self.restart()", "            return self.restart() or True"),
+    ],
+    ("play.checkpoint", "a-tick-that-sets-a-checkpoint"): [
+        ("a press alone does", 'if "checkpoint" in given:', 'if "checkpoint" in given and kind == "move":'),
+    ],
+    ("play.start-ticks", "the-rules-run-at-the-start"): [
+        ("they don't", "self.chain(self.starts())", "self.chain(False)"),
+    ],
+    ("play.past", "a-restart-command-can-be-undone"): [
+        ("a restart is not kept", 'self.show("restart")', 'self.show("restart"); self.has_loaded = True'),
+    ],
+    ("play.restart-command", "a-restart-command-can-be-undone"): [
+        ("the step is shown too", "            return self.restart()", f"            self.show(kind, level){BREAK}    return self.restart()"),
     ],
     ("play.undo", "undo-leaves-a-checkpoint-and-a-restart-can-be-undone"): [
         ("undo makes its level the target", 'self.show("undo")', 'self.show("undo"); self.target = copy_of(self.level)'),
@@ -89,6 +136,12 @@ ERRORS: Dict[Tuple[str, str], List[Tuple[str, str, str]]] = {
     ("checks.shape", "which-choice-a-right-takes-and-where-none-is-meant"): [
         ("a gap may come first", LOOSE, LOOSE.replace("row[0] == GAP or ", "")),
         ("a gap may come last", LOOSE, LOOSE.replace(" or row[-1] == GAP", "")),
+    ],
+    ("checks.shape", "a-gap-at-the-end-of-a-row"): [
+        ("it is let through", LOOSE, LOOSE.replace(" or row[-1] == GAP", "")),
+    ],
+    ("checks.profile", "an-outside-word-as-a-name-in-a-cell"): [
+        ("it is a name like others", '{"random", "randomdir", "rigid"}', '{"randomdir", "rigid"}'),
     ],
 }
 
