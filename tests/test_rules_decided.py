@@ -30,7 +30,7 @@ ERRORS: Dict[Tuple[str, str], List[Tuple[str, str, str]]] = {
         ("it stays beside what is placed", PLACED, PLACED.replace("[layer]", f"[-layer if {UNNAMED} else layer]")),
         ("nothing is placed where it stands", PLACED, PLACED.replace("= (", f"= cell[layer] if {UNNAMED} else (")),
     ],
-    ("match.placed", "a-placed-object-without-a-word-is-still-where-the-left-has-a-movement-"): [
+    ("match.placed", "a-placed-object-is-still-where-the-left-has-a-movement-word"): [
         ("it heads as what stood there", "kept = None if layer in worded else before", "kept = before"),
     ],
     ("match.removed", "a-direction-that-a-removed-object-leaves-to-no-other-layer"): [
