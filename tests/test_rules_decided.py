@@ -120,6 +120,12 @@ ERRORS: Dict[Tuple[str, str], List[Tuple[str, str, str]]] = {
     ("play.undo", "undo-leaves-a-checkpoint-and-a-restart-can-be-undone"): [
         ("undo makes its level the target", 'self.show("undo")', 'self.show("undo"); self.target = copy_of(self.level)'),
     ],
+    ("play.undo", "a-checkpoint-stays-when-the-step-that-set-it-is-undone"): [
+        ("undo makes its level the target", 'self.show("undo")', 'self.show("undo"); self.target = copy_of(self.level)'),
+    ],
+    ("play.checkpoint", "a-checkpoint-stays-when-the-step-that-set-it-is-undone"): [
+        ("it sets none", "self.target = copy_of(level)", "pass"),
+    ],
     ("play.again-limit", "a-tick-input-counts-among-its-five-hundred-ticks"): [
         ("it doesn't", "self.chain(True)", "self.ticks = -1; self.chain(True)"),
     ],
