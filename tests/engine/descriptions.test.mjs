@@ -133,7 +133,7 @@ function textOfManyPairs() {
   const names = Array.from({ length: 250 }, (_, at) => `o${at}`), cells = "|no rr".repeat(5);
   return [
     "OBJECTS", ...[...names, "Background", "Player"].map((name) => `${name}\nred\n`), "LEGEND", `qq = ${names.join(" or ")}`, `rr = ${names.join(" or ")}`, ". = Background", "p = Player",
-    "COLLISIONLAYERS", "Background", "Player", ...names, "RULES", ...Array.from({ length: 50 }, () => `up[qq${cells}]->[qq no rr${cells}]`), "LEVELS", "p.",
+    "COLLISIONLAYERS", "Background", "Player", names.join(", "), "RULES", ...Array.from({ length: 50 }, () => `up[qq${cells}]->[qq no rr${cells}]`), "LEVELS", "p.",
   ].join("\n");
 }
 
