@@ -18,7 +18,7 @@ ADAPTER = TOP / "adapters/javascript"
 ENGINE = ADAPTER / "example.js"
 ANOTHER = TOP / "tests/another_engine"
 # Cases of a player who walks and pushes one crate.
-KNOWN = ("walk-two-steps-right-against-a-wall", "push-a-crate-against-a-wall-then-step-back", "undo-with-nothing-past-then-undo-of-a-move", "a-push-rule-has-one-instance-for-each-direction")
+KNOWN = ("walk-two-steps-right-against-a-wall", "push-a-crate-against-a-wall-then-step-back", "undo-with-nothing-past-then-undo-of-two-moves", "a-push-rule-has-one-instance-for-each-direction")
 # What hangs on how deep JSON nests and on how its numbers and texts are read, which JavaScript does otherwise.
 OTHERWISE = {
     "brackets-nested-one-deeper", "brackets-nested-too-deep", "file-with-a-fraction", "file-with-a-lone-surrogate", "file-with-a-seed-that-no-float-holds",

@@ -21,7 +21,7 @@ from test_processes import hear_signals
 from tool import CASES, TOP, InARoom
 
 RUN, HOSTILE = TOP / "conformance/run", TOP / "conformance/hostile"
-UNDO = "undo-with-nothing-past-then-undo-of-a-move"
+UNDO = "undo-with-nothing-past-then-undo-of-two-moves"
 
 
 def loaded(path: Path) -> ModuleType:
@@ -90,7 +90,7 @@ class Runner(InARoom):
     def test_a_program_that_hangs_is_stopped_and_the_others_are_played(self) -> None:
         program = self.answers(UNDO, str)
         program.write_text(f"{program.read_text()}\ngrep -q undo || sleep 100\n")
-        status, out, _ = self.ran("--limit", "1", "--jobs", "8", "--only", "undo-*", "--only", "walk-two*", "--only", "movement-*", program)
+        status, out, _ = self.ran("--limit", "1", "--jobs", "8", "--only", "undo-*", "--only", "walk-two*", "--only", "movement-goes-*", program)
         self.assertEqual((status, out.count("not answered in 1 s")), (1, 2))
         self.assertIn("1 passed, 3 failed\n", out)
 
@@ -200,7 +200,7 @@ class Runner(InARoom):
             sleep(0.05)
 
     def test_a_junit_file_has_each_case(self) -> None:
-        self.ran("--junit", self.room / "x.xml", "--only", UNDO, "--only", "movement-*", self.answers(UNDO, str))
+        self.ran("--junit", self.room / "x.xml", "--only", UNDO, "--only", "movement-goes-*", self.answers(UNDO, str))
         suite = ElementTree.parse(self.room / "x.xml").getroot()
         self.assertEqual([(it.get("classname"), it.get("name"), len(it)) for it in suite], [("movement", "movement-goes-column-by-column", 1), ("playing", UNDO, 0)])
 

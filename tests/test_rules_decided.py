@@ -17,11 +17,25 @@ LOOSE = "any(row[0] == GAP or row[-1] == GAP for row in rows)"
 MOVED = "self.move()"
 EARLY, LATE = "self.run_all(game.early)", "self.run_all(game.late)"
 BREAK = "\n        "
+DEPTH = 'depth += {"(": 1, ")": -1}.get(letter, 0)'
+UNCOMMENTED = "without_comments(section, depth, trimmed)"
+GIVEN = 'elif given == "undo":'
+KEPT = "if not self.has_loaded and self.level != before:"
+ROUND = "to_rest(lambda: any([self.rest(group) for group in groups]))"
+FROM_THE_FIRST = f"while groups:{BREAK}            did = [self.rest(it) for it in groups]{BREAK}            groups = groups[did.index(True):] if any(did) else []"
+JOINED = '"orthogonal": CLASSES["orthogonal"], "horizontal": HORIZONTAL, "vertical": VERTICAL}'
+TO = "to_x, to_y = x + STEPS[heading][0], y + STEPS[heading][1]"
+FREE = "layer not in self.level[to_x][to_y]"
 
 
 def some_of(members: str, side: str) -> str:
     """Some members alone of a property under `no`, on one side."""
     return MEMBERS.replace("in members]", f'in (members[{members}] if it.word == "no" and any(cell is it for row in self.rule.{side} for it in row) else members)]')
+
+
+def without(given: str, keyword: str) -> Tuple[str, str, str]:
+    """An input that a keyword of the prelude switches off."""
+    return f"`{keyword}` switches it off", GIVEN, f'elif given == {given} and "{keyword}" in self.game.options:{BREAK}    pass{BREAK}{GIVEN}'
 
 
 # Of a rule and one of its cases: what an engine does, a text that stands once in the small engine, and what makes it do so.
@@ -148,6 +162,53 @@ ERRORS: Dict[Tuple[str, str], List[Tuple[str, str, str]]] = {
     ],
     ("checks.profile", "an-outside-word-as-a-name-in-a-cell"): [
         ("it is a name like others", '{"random", "randomdir", "rigid"}', '{"randomdir", "rigid"}'),
+    ],
+    ("play.undo", "undo-with-nothing-past-then-undo-of-two-moves"): [
+        ("the past keeps the level", "self.past.pop() if", "self.past[-1] if"),
+        ("the past is emptied", 'self.show("undo")', 'self.show("undo"); self.past = []'),
+    ],
+    ("play.past", "undo-leaves-a-checkpoint-and-a-restart-can-be-undone"): [
+        ("a restart input isn't kept", KEPT, KEPT.replace(":", ' and given != "restart":')),
+    ],
+    ("play.past", "what-restart-and-undo-go-back-to-behind-loads-checkpoints-and-ticks"): [
+        ("a restart input isn't kept", KEPT, KEPT.replace(":", ' and given != "restart":')),
+        ("a tick input is", "self.chain(True)", "self.chain(True); self.past += [before] if self.level != before else []"),
+    ],
+    ("sections.options", "noaction-noundo-and-norestart-change-nothing"): [
+        without("4", "noaction"),
+        without('"undo"', "noundo"),
+        without('"restart"', "norestart"),
+        ("it makes the rules run at the start", '"run_rules_on_level_start" in self.game.options', "True"),
+        ("it wants a player to move", 'press is not None and "require_player_movement" in game.options', "press is not None"),
+    ],
+    ("rules.directions", "directions-of-horizontal-are-left-and-right-alone"): [
+        ("`horizontal` is left alone", JOINED, JOINED.replace("HORIZONTAL", "HORIZONTAL[:1]")),
+        ("`horizontal` is right alone", JOINED, JOINED.replace("HORIZONTAL", "HORIZONTAL[1:]")),
+        ("`horizontal` is all four", JOINED, JOINED.replace("HORIZONTAL", 'CLASSES["orthogonal"]')),
+        ("`vertical` is up alone", JOINED, JOINED.replace("VERTICAL", "VERTICAL[:1]")),
+        ("`vertical` is down alone", JOINED, JOINED.replace("VERTICAL", "VERTICAL[1:]")),
+        ("`orthogonal` is horizontal", JOINED, JOINED.replace('CLASSES["orthogonal"]', "HORIZONTAL")),
+    ],
+    ("match.loops", "a-loop-goes-round-again-if-any-of-its-groups-changed-something"): [
+        ("it does if the last did", ROUND, ROUND.replace("any(", "(").replace("])", "][-1])")),
+        ("it begins again with the first that did", ROUND, FROM_THE_FIRST),
+        ("it begins again as soon as one did", ROUND, ROUND.replace("[", "").replace("]", "")),
+    ],
+    ("text.comments", "a-comment-nests-to-any-depth"): [
+        ("it nests once", DEPTH, f"{DEPTH}; depth = min(depth, 2)"),
+        ("it nests three times", DEPTH, f"{DEPTH}; depth = min(depth, 4)"),
+    ],
+    ("text.comments", "an-unclosed-comment-hides-even-a-heading"): [
+        ("it ends with its line", UNCOMMENTED, UNCOMMENTED.replace("depth", "0")),
+        ("it ends at a heading", UNCOMMENTED, UNCOMMENTED.replace("depth", "0 if fold(trimmed) in SECTIONS else depth")),
+        ("it is a fault", "return lines, headings", 'if depth: raise Fault("Section", 0)\n    return lines, headings'),
+    ],
+    ("move.passes", "movement-that-is-blocked-is-gone-in-the-tick-that-follows"): [
+        ("what is blocked goes on heading", "cell[layer] = (name, None)", "pass"),
+    ],
+    ("move.object", "movement-stays-on-the-map-and-goes-over-targets"): [
+        ("it comes in on the other side", TO, f"{TO}; to_x, to_y = to_x % self.width, to_y % self.height"),
+        ("any object but the background stops it", FREE, "len(self.level[to_x][to_y]) == 1"),
     ],
 }
 
