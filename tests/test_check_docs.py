@@ -168,9 +168,21 @@ class OfTheBook(OnOneRule):
         self.write("docs/sessions.md", "# Files\n\nThe same numbers, not another. <sub>file.numbers</sub>\n\nAny number stays, and isn't a `large_number`. <sub>file.same</sub>\n")
         for words, wanted in ((("same",), ["number.same", "file.same", "file.numbers"]), (("FILE", "number"), ["file.numbers", "file.same"]), (("large", "number"), ["file.same"]), (("large", "stays"), ["file.same"]), (("`",), ["file.same"]), (("umbers",), []), (("itself",), ["number.same"]), (("another", "numbers"), ["file.numbers", "number.same"]), (("isn", "stays"), ["file.same", "number.same"]), (("isn", "itself"), ["number.same"]), (("large", "file", "nobody"), ["file.same"])):
             with self.subTest(words):
-                self.assertEqual([it[4:].partition(",")[0] for it in run(self.book, *words).out.splitlines() if it.startswith("### ")], wanted)
+                self.assertEqual(re.findall(r"^(?:### )?([a-z]+\.[a-z-]+)[:,] ", run(self.book, *words).out, re.M), wanted)
 
-    def test_of_many_rules_each_is_a_line(self) -> None:
+    def test_words_of_readers_find_those_of_the_pages(self) -> None:
+        self.write("docs/sessions.md", "# Play\n\nA win ends it. <sub>play.end</sub>\n\nIn a pass each is free. <sub>play.passes</sub>\n")
+        for word, wanted in (("Won", "play.end"), ("repeats", "play.passes"), ("blocked", "play.passes")):
+            with self.subTest(word):
+                self.assertIn(f"### {wanted}, ", run(self.book, word).out)
+
+    def test_an_id_chooses_its_rule_alone(self) -> None:
+        self.write("docs/sessions.md", "# Files\n\nThe same number. <sub>number.same-again</sub>\n")
+        for words, ids in ((("number.same",), ["number.same"]), (("number.same-again", "number.same"), ["number.same-again", "number.same"])):
+            with self.subTest(words):
+                self.assertEqual(re.findall(r"^### (\S+),", run(self.book, *words).out, re.M), ids)
+
+    def test_where_none_is_the_best_each_is_a_line(self) -> None:
         more = "\n\n".join(f"Letter {it} stays, {'and so on ' * 20}. <sub>letter.{it}</sub>" for it in "abcd")
         self.write("docs/sessions.md", f"# Files\n\n{more}\n")
         lines = [f"letter.{it}: Letter {it} stays, {'and so on ' * 20}"[: len("letter.a: ") + 140] + ".." for it in "abcd"]
