@@ -9,6 +9,8 @@ from typing import Any
 
 from tool import TOP, InARoom
 
+# A case whose output is told to differ in its last frame.
+DIFFERS = "a-restart-command-can-be-undone"
 STAND_IN = f"""#!{sys.executable}
 import os, sys
 print(os.path.basename(os.getcwd()), *sys.argv[1:-1])
@@ -16,6 +18,8 @@ print(*sorted(os.listdir(sys.argv[-1])), sep="\\n", flush=True)
 print("case=one run=ended status=0 runners=1 races=unchecked output=expected proved=no", file=sys.stderr)
 print("case=two run=ended status=0 runners=1 races=unchecked output=differs proved=no", file=sys.stderr)
 print("case=three run=fault status=1", file=sys.stderr)
+print(r'the output differs from `{DIFFERS}.stdout`: at byte 427, expected ":0,background player:1,0,\\\\n\\",\\"session\\":0}}\\n{{\\"close\\":\\"pas" (200 of the 6915 bytes from there), found " player:0,background:1,1,\\\\n\\",\\"session\\":0}}\\n{{\\"close\\":\\"dif" (200 of the 6920 bytes from there)', file=sys.stderr)
+print("case={DIFFERS} run=ended status=1 runners=1 races=unchecked output=differs proved=no", file=sys.stderr)
 sys.exit(5)
 """
 PUSHES = [it.name for it in (TOP / "conformance/cases").glob("push-*")]
@@ -36,10 +40,18 @@ class Try(InARoom):
     def test_cases_by_name(self) -> None:
         status, call, names, said = self.tried("push-*")
         self.assertEqual((status, call, names), (5, "pz_replayer try --seconds 120 --cases", sorted(PUSHES)))
-        self.assertRegex(said, rf"^dev/try: {len(PUSHES)} of [0-9]+ cases, unproved\ndev/try: conformance/cases/two ends otherwise\ndev/try: conformance/cases/three ends otherwise\n$")
+        self.assertRegex(said, rf"^dev/try: {len(PUSHES)} of [0-9]+ cases, unproved\ndev/try: conformance/cases/two ends otherwise\ndev/try: conformance/cases/three ends otherwise\ndev/try: conformance/cases/{DIFFERS} ends otherwise\n")
+
+    def test_of_a_case_that_differs_the_first_line_that_does_is_told(self) -> None:
+        said = self.tried(DIFFERS)[3]
+        wanted = (TOP / "conformance/cases" / DIFFERS / "stdout").read_text(encoding="utf-8").splitlines()[4]
+        came = r'{"at":4,"frame":4,"kind":"undo","level":"background player:0,background:1,1,\n","session":0}'
+        self.assertTrue(said.endswith(f"dev/try: conformance/cases/{DIFFERS} ends otherwise\n    wanted: {wanted}\n    came: {came}\n"), said)
 
     def test_a_rule_has_the_cases_that_name_it(self) -> None:
-        self.assertEqual(self.tried("play.over")[2], ["all-inputs-show-over-after-the-end"])
+        _, _, names, said = self.tried("play.over", "push-*")
+        self.assertEqual(names, sorted(["all-inputs-show-over-after-the-end", *PUSHES]))
+        self.assertEqual(said.splitlines()[-1], "dev/try: these are the cases of play.over alone: `dev/try pz_session` plays all that its crate decides")
 
     def test_a_crate_has_the_cases_of_its_tower(self) -> None:
         names = self.tried("pz_turn")[2]
