@@ -26,6 +26,7 @@ from saxtegun.playing import Engine
 from saxtegun.recording_search import find
 from saxtegun.recordings import as_sessions, own_name
 from saxtegun.sessions import Entry, sessions_in
+from saxtegun.texts import GameText, remark
 from saxtegun.verbs import coverage
 
 SOURCE = """(a comment) Title A (game)
@@ -297,6 +298,14 @@ class Asked(InARoom):
     def call(self, verb: str, *words: object) -> int:
         with mock.patch.object(sys, "argv", ["saxtegun", verb, *map(str, words)]), redirect_stdout(io.StringIO()):
             return main()
+
+    def test_titles_that_take_too_long_to_read_are_not_waited_for(self) -> None:
+        path, game = self.sessions_of(2), self.room / "game.txt"
+        game.write_text("title 0\n")
+        with mock.patch.object(budget.EXPLAINING, "left", 0):
+            self.assertRaisesRegex(Refused, "take over 60 s to read: name the sessions of .* with --only, or say --all$", self.call, "source", game, path)
+            told = remark("s.json", sessions_in("s.json", path.read_text()).entries, GameText(str(game), "title 0\n"))
+        self.assertIn("; whether they are of another game isn't known: not looked at further", told)
 
     def test_what_was_expected_before_is_expected_again(self) -> None:
         expect(["a", "b"])

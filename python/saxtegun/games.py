@@ -163,10 +163,10 @@ class Game:
 
 
 def titles_of(sources: Iterable[str]) -> Set[str]:
-    """The titles of the games of sources."""
+    """The titles of the games of sources. This counts as explaining: UsedUp where there is no time left for it."""
     them = dict.fromkeys(sources)
-    with expected(them):
-        return {title_of(it) for it in them}
+    with EXPLAINING.spent(), expected(them):
+        return {title_of(it) for it in EXPLAINING.each(them)}
 
 
 @lru_cache(maxsize=64)

@@ -5,6 +5,7 @@ from functools import lru_cache
 from shlex import quote
 from typing import Dict, Iterable, List, NamedTuple, Optional, Sequence, Tuple
 
+from saxtegun.budget import NOT_LOOKED_AT, UsedUp
 from saxtegun.commands import Refused, cut, plural, say
 from saxtegun.descriptions import Undescribed
 from saxtegun.files import MARK, read_text
@@ -86,8 +87,8 @@ def remedy(path: str, others: Sequence[Entry], game: GameText) -> str:
     """What makes sessions follow the text at hand that have one of their own. None is proposed that would take another game's text away."""
     try:
         titles, (title,) = titles_of(it.source for it in others), titles_of([game.source])
-    except Undescribed as why:
-        return f"whether {'it is' if len(others) == 1 else 'they are'} of another game isn't known: {why}"
+    except (Undescribed, UsedUp) as why:
+        return f"whether {'it is' if len(others) == 1 else 'they are'} of another game isn't known: {NOT_LOOKED_AT if isinstance(why, UsedUp) else why}"
     call = f"`saxtegun source {quote(game.path)} {quote(path)} --follow --in-place"
     if titles == {title} != {UNTITLED}:
         return f"{call}` makes {'it' if len(others) == 1 else 'them'} follow {game.path}"

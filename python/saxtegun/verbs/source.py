@@ -16,6 +16,7 @@ import sys
 from argparse import ArgumentParser, Namespace
 from typing import Sequence
 
+from saxtegun.budget import SECONDS, UsedUp
 from saxtegun.commands import Refused, plural, say
 from saxtegun.files import guard_output, guard_places, write_again
 from saxtegun.games import UNTITLED, title_of, titles_of
@@ -38,7 +39,10 @@ def add_words(words: ArgumentParser) -> None:
 
 def check_titles(entries: Sequence[Entry], text: str, given: Namespace) -> None:
     """Refuses where a text would be taken away that may be another game's: titles alone tell which game it is of."""
-    titles = titles_of(it.source for it in entries if it.source)
+    try:
+        titles = titles_of(it.source for it in entries if it.source)
+    except UsedUp:
+        raise Refused(f"the titles of all texts that would go take over {SECONDS:.0f} s to read: name the sessions of {given.game} with --only, or say --all") from None
     if UNTITLED in titles:
         raise Refused(f"a text that would go has no title, so nothing tells that it is of {given.game}: name the sessions of that with --only, or say --all")
     games = titles | {title_of(text)}
