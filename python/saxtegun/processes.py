@@ -26,8 +26,9 @@ MOST_OF_LINE = 1000
 PAUSE = 0.05
 # So many lines that it says wait to be handed on.
 MOST_HELD = 1000
-# So long a program that is to end may tidy up.
+# So long a program that is to end may tidy up, and so often it is looked whether something is still read of what it said.
 PATIENCE = 0.5
+MOST_LOOKS = 20
 UNANSWERED_BEGIN = "not answered in"
 # What ends this process, or its terminal, and is heard behind what must not be left halfway.
 HELD = tuple(getattr(signal, it) for it in ("SIGINT", "SIGTERM", "SIGHUP") if hasattr(signal, it))
@@ -199,6 +200,14 @@ class Said(Thread):
                 self.skipped += 1
         self.last = line
 
+    def wait(self) -> None:
+        """Waits while something is read: soon all that an ended program has left, however slow this machine is. What has left its group may say more for ever."""
+        for _ in range(MOST_LOOKS):
+            count = self.count
+            self.join(PATIENCE)
+            if self.count == count:
+                return
+
     def hand_on(self) -> None:
         """Says what has come since: the first lines of it, and how many more, so that whoever says it still looks at the time."""
         for _ in range(len(self.before)):
@@ -258,7 +267,7 @@ def watched(words: Sequence[str], output: Any, stdin: Any = None, seconds: Optio
             if said.is_alive():
                 # what it has started, and left behind, still holds its stream
                 end(ran)
-                said.join(PAUSE)
+                said.wait()
         finally:
             said.hand_on()
     last = said.last
