@@ -19,7 +19,7 @@ is_late_word _ = false
 unfoldable pub is_late_rule : Rule → Bool
 is_late_rule rule = list_any is_late_word rule.prefixes
 
--- the directions that a prefix stands for
+-- rules.directions: the directions that a prefix stands for
 abbrev pub prefix_directions : Token → List Dir
 prefix_directions (token.Lead (lead.Toward Up)) = Up ∷ []
 prefix_directions (token.Lead (lead.Toward Down)) = Down ∷ []

@@ -29,7 +29,7 @@ pub fn is_late_rule(rule: &Rule) -> bool
         .any(|token| is_late_word(token))
 }
 
-/// The directions that a prefix stands for.
+/// The directions that a prefix stands for. Rule `rules.directions`.
 fn prefix_directions(token: Token) -> &'static [Dir]
     ensures { result.now ≡ prefix_directions token }
 {

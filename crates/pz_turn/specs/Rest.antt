@@ -43,7 +43,7 @@ up_to pass level (Some n) = passes pass (suc n) level
 unfoldable pub rest_of : {L : Type 0} → ℕ → Runs L → Runs L
 rest_of limit pass level = up_to pass level (find (is_last pass level) (range_with_len 0 limit))
 
--- match.loops: a group of a loop, run to rest
+-- a group of a loop, run to rest
 abbrev pub group_runs : {L I : Type 0} → ℕ → (I → Runs L) → List I → Runs L
 group_runs limit applied group = rest_of limit (pass_of applied group)
 

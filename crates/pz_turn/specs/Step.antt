@@ -23,7 +23,7 @@ use Rattle.pz_turn.specs.Applying.{application_of}
 use Rattle.pz_turn.specs.Outcome.{Outcome, followed_by}
 use Rattle.pz_turn.specs.Rest.{Runs, pass_of, rest_of, group_runs}
 
--- a group or a loop of groups, run to rest
+-- match.loops: a group or a loop of groups, run to rest
 unfoldable pub block_runs : Block → Runs Grid
 block_runs (One group) = rest_of PASSES (pass_of application_of group)
 block_runs (Loop groups) = rest_of PASSES (pass_of (group_runs PASSES application_of) groups)

@@ -40,7 +40,7 @@ pub record AreAsked (game : GameParts) (line : WinLine) (objects others : List �
   pub both : (cell : List (Option Piece)) → fits_both game line cell ≡ holds_both objects others cell
   pub if_first : (cell : List (Option Piece)) → fits_if game line cell ≡ holds_if objects others cell
 
--- a line holds of these cells
+-- wins.hold: a line holds of these cells
 abbrev pub holds_of : Quantifier → GameParts → WinLine → List (List (Option Piece)) → Bool
 holds_of quantifier.All game line cells = list_all (fits_if game line) cells
 holds_of quantifier.Some game line cells = list_any (fits_both game line) cells
