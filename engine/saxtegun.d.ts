@@ -223,8 +223,8 @@ export interface Engine {
   description(source: string | ArrayBuffer | ArrayBufferView): { description: Description | null; fault: string | null };
   /** The same as bytes of JSON. The status of an answer is 0 or 2. */
   descriptionOf(source: string | ArrayBuffer | ArrayBufferView): Answer;
-  /** The outline of a source: its description without the program of its rules, and without a fault that is found as rules are expanded. It takes time by the length
-   * of the source alone, where a few rules of many properties may take the whole description half a minute; which is the answer of an older module. */
+  /** The outline of a source: its description without the program of its rules, and without a fault that is found as rules are expanded. No rule adds
+   * to its time but by its own length, where a few rules of many properties may take the whole description half a minute; which is the answer of an older module. */
   outline(source: string | ArrayBuffer | ArrayBufferView): { description: Description | null; fault: string | null };
   outlineOf(source: string | ArrayBuffer | ArrayBufferView): Answer;
   /** The cells that the engine has read of a level text; null, without a fault, of what is no level text. */

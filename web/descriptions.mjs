@@ -1,8 +1,8 @@
 // @ts-check
 // What the engine has read of the text of a game, in outline, as engine/saxtegun.d.ts has it: nothing in the page cuts one into words by itself. It is asked in
 // the thread that shows the page, by an instance of the module that does nothing else: a state of the page follows from the one before by a function, which would
-// wait for a worker at each step. No rule is expanded for it, so it takes time by the length of the text alone: hundredths of a second for a game, a second or so
-// for the longest text that is read, 1 MiB; and what is being typed is asked about behind a pause (running.mjs).
+// wait for a worker at each step. No rule is expanded for it, so none makes it slow: hundredths of a second for a game, a second or so for the longest
+// text that is read, 1 MiB, and more where a legend gives a property of hundreds hundreds of names; and what is being typed is asked about behind a pause (running.mjs).
 import { fold } from "./texts.mjs";
 import { there } from "./there.mjs";
 

@@ -135,7 +135,7 @@ pub fn describe(alloc: Global, source: &str) -> Result<Vec<u8>, AllocError>
 }
 
 /// The outline of a source: its description without the program of its rules, and without a fault that is found as rules are expanded. None is, so
-/// it takes time by the length of the source alone. Err: memory was refused.
+/// no rule adds to its time but by its own length. Err: memory was refused.
 #[tactic(auto, unfolding(crate::specs::Description::outline_tokens_of))]
 pub fn outline(alloc: Global, source: &str) -> Result<Vec<u8>, AllocError>
     ensures { IfOk result (λ text. text.items ≡ outline_of source.now) }
