@@ -13,6 +13,7 @@ from typing import Tuple
 from day import EXAMPLE, OnSessions
 from tool import PROGRAM, TOP, plays, run
 from saxtegun.lines import READER, frame_of, written_frame
+from saxtegun.verbs.lines import Closed, Tally
 
 RUN = TOP / "conformance/run"
 
@@ -66,6 +67,43 @@ class Lines(OnSessions):
         answer = run("lines", EXAMPLE, "--program", self.program('echo "proving a; 1 left" >&2\necho "memory" >&2\nexit 2'))
         self.assertEqual(answer.errors.splitlines()[0], "proving a; 1 left")
         self.assertIn("there is not enough memory", answer.errors)
+
+
+    def test_a_session_that_is_closed_as_played_and_shows_no_frame_was_not_played(self) -> None:
+        """Also where the close says that there were some."""
+        sessions = self.write("s.json", '[["a",["x",[],"a:0,"]],["b",["",[],"a:0,"]]]')
+        frame, close = '{"at":0,"frame":0,"kind":"start","level":"a:0,","session":0}', '{"close":"passed","frames":1,"name":"%s","session":%d}'
+        game = self.write("game.txt", "title A\n")
+        for lines in ([close % ("a", 0), close % ("b", 1)], [frame, close % ("a", 0), close % ("b", 1)]):
+            program = self.program("".join(f"echo '{it}'\n" for it in lines))
+            for words in ((), ("--game", game)):
+                answer = run("lines", sessions, "--program", program, *words)
+                self.assertEqual((answer.status, answer.out.splitlines()), (2, lines))
+                self.assertIn("that the program closes as played ha", answer.errors)
+
+
+class Tallies(unittest.TestCase):
+    LINES = (
+        b'{"at":0,"frame":0,"kind":"start","level":"","session":0}\n{"close":"passed","frames":1,"name":"{\\"close\\":","session":0}\n{"cause":"no-level","close":"refused","frames":0,"name":"","session":1}\n'
+        b'{"close":"differs","frames":3,"name":"c","session":2}\n{"at":0,"frame":0,"kind":"start","level":"","session":3}\n{"at":1,"frame":1,"kind":"move","level":"","session":3}\n'
+        b'{"close":"passed","frames":2,"name":"d","session":3}\n{"close":"passed","frames":0,"name":"e","session":4}\n'
+    )
+
+    def test_lines_are_counted_wherever_they_are_cut(self) -> None:
+        for size in (1, 2, 3, 7, 39, 40, 41, 100, len(self.LINES)):
+            tally = Tally()
+            for at in range(0, len(self.LINES), size):
+                tally.take(self.LINES[at : at + size])
+            self.assertEqual(tally.closed(), Closed(last=5, closes=5, ordered=5, passed=3, unshown=2), size)
+
+    def test_closes_of_one_session_alone_are_not_those_of_all(self) -> None:
+        tally, close = Tally(), b'{"close":"passed","frames":1,"name":"x","session":%d}\n'
+        tally.take(close % 1 + close % 1)
+        self.assertEqual(tally.closed(), Closed(last=2, closes=2, ordered=0, passed=2, unshown=2))
+        self.assertFalse(tally.closed().is_whole(2))
+        tally = Tally()
+        tally.take(close % 0 + close % 1)
+        self.assertTrue(tally.closed().is_whole(2))
 
 
 class Frames(unittest.TestCase):

@@ -35,28 +35,30 @@ from saxtegun.texts import over, read_game, say_others, say_untested
 
 USAGE = "lines [SESSIONS] [--game GAME.txt] [--order rows|columns] [--workers N] >lines"
 BLOCK = 1 << 16
+NOT_IN_ORDER = ", and not each of them once and in their order"
 # So many bytes a pipe holds at most.
 MOST_IN_A_PIPE = 1 << 20
 # The end of a line, which says of which session it is.
 END = re.compile(rb'"session":([0-9]{1,9})}\n\Z')
 MOST_OF_AN_END = 40
-# How the line of a close begins, and that of one that passed, each behind the line before.
-CLOSE, PASSED = b'\n{"c', b'\n{"close":"passed","frames":'
-# And how one begins of a session that was played to its end, though it shows no frame.
-SHOWS_NOTHING = tuple(b'\n{"close":"%s","frames":0,' % it.encode() for it in PLAYED)
+# How the line of a frame begins, and that of a close, with its word where the session was played to its end; and how each ends. None of these has more bytes.
+MARK = re.compile(rb'\n\{"(?:(at":)|(c(?:lose":"(%s)","frames":)?))|"session":([0-9]{1,9})\}(?=\n)' % "|".join(PLAYED).encode())
+MOST_OF_A_MARK = 40
 
 
 class Closed(NamedTuple):
-    """What lines close: up to which session, how many, how many of these passed, and how many of them that were played show nothing."""
+    """What lines close: which session stands last, how many closes there are, how many of these are of the sessions in their order, how many passed, and how
+    many of those that were played show nothing."""
 
     last: int
     closes: int
+    ordered: int
     passed: int
     unshown: int
 
     def is_whole(self, count: int) -> bool:
-        """Whether these are the closes of so many sessions."""
-        return self.last == self.closes == count
+        """Whether these are the closes of so many sessions, each once and in order."""
+        return self.last == self.closes == self.ordered == count
 
 
 def add_words(words: ArgumentParser) -> None:
@@ -104,8 +106,8 @@ def count_of(path: str, data: bytes) -> int:
 def check_closed(path: str, count: int, closed: Closed) -> None:
     """Refuses lines that don't close each session, and end with the last: a program that writes nothing has not played."""
     if not closed.is_whole(count):
-        raise Refused(f"{told_of(path)} was not played whole: the program closed {plural(closed.closes, 'session')} of {count}"
-                      + (f", and the last line is no close of session {count - 1}" if closed.last != count else ""))
+        why = f", and the last line is no close of session {count - 1}" if closed.last != count else NOT_IN_ORDER if closed.closes == count else ""
+        raise Refused(f"{told_of(path)} was not played whole: the program closed {plural(closed.closes, 'session')} of {count}{why}")
     if closed.unshown:
         raise Refused(f"{told_of(path)} was not played: {plural(closed.unshown, 'session')} that the program closes as played {'has' if closed.unshown == 1 else 'have'} no frame")
 
@@ -115,9 +117,48 @@ def write_all(output: int, data: bytes) -> None:
         data = data[os.write(output, data) :]
 
 
-def more_of(begin: bytes, end: bytes, block: bytes) -> int:
-    """How often a line begins so, of what came, where this is the end of what came before."""
-    return (end[max(0, len(end) + 1 - len(begin)) :] + block).count(begin)
+class Tally:
+    """What lines close that come block by block."""
+
+    def __init__(self) -> None:
+        self.closes, self.ordered, self.passed, self.unshown = 0, 0, 0, 0
+        self.is_shown, self.is_close = False, False
+        self.left, self.end = b"\n", b""
+
+    def take(self, block: bytes) -> None:
+        """Counts what came, but for marks at its end of which more is to come."""
+        text = self.left + block
+        behind = self.count(text, len(text) - MOST_OF_A_MARK)
+        self.left, self.end = text[behind:], (self.end + block)[-MOST_OF_AN_END:]
+
+    def count(self, text: bytes, most: int) -> int:
+        """Counts the marks that begin before a place; where what wasn't looked at begins."""
+        behind = max(most, 0)
+        for mark in MARK.finditer(text):
+            if mark.start() >= most:
+                break
+            self.add(*mark.groups())
+            behind = max(behind, mark.end())
+        return behind
+
+    def add(self, frame: Optional[bytes], close: Optional[bytes], word: Optional[bytes], session: Optional[bytes]) -> None:
+        """Counts a mark: the begin of a frame, or of a close, or the end of either."""
+        if session is not None:
+            self.ordered += self.is_close and int(session) == self.ordered
+            self.is_close = False
+        elif frame is not None:
+            self.is_shown, self.is_close = True, False
+        else:
+            self.closes += 1
+            self.passed += word == b"passed"
+            self.unshown += word is not None and not self.is_shown
+            self.is_shown, self.is_close = False, True
+
+    def closed(self) -> Closed:
+        """What all of it closes: no more comes."""
+        self.count(self.left, len(self.left))
+        found = END.search(self.end)
+        return Closed(int(found[1]) + 1 if found else 0, self.closes, self.ordered, self.passed, self.unshown)
 
 
 def blocks_in(source: int, ended: Event) -> Iterator[bytes]:
@@ -136,15 +177,12 @@ def blocks_in(source: int, ended: Event) -> Iterator[bytes]:
 
 def hand_on(source: int, output: int, ended: Event) -> Closed:
     """Hands on what comes; what it closes. It goes past our own streams: whoever reads may keep this waiting for ever, and then it must not keep them."""
-    end, count, passed, unshown = b"\n", 0, 0, 0
+    tally = Tally()
     with open(source, "rb", buffering=0) as lines:
         for block in blocks_in(lines.fileno(), ended):
             write_all(output, block)
-            count, passed = count + more_of(CLOSE, end, block), passed + more_of(PASSED, end, block)
-            unshown += sum(more_of(it, end, block) for it in SHOWS_NOTHING)
-            end = (end + block)[-MOST_OF_AN_END:]
-    found = END.search(end)
-    return Closed(int(found[1]) + 1 if found else 0, count, passed, unshown)
+            tally.take(block)
+    return tally.closed()
 
 
 def play(words: List[str], stdin: Optional[int], seconds: Optional[float]) -> Tuple[Ran, Closed]:
@@ -184,16 +222,13 @@ def play_over(given: Namespace) -> int:
     say_others("lines", sessions, game)
     say_untested("lines", sessions.entries)
     expect(it.source for it in sessions.entries)
-    count, passed, unshown, last = 0, 0, 0, ""
-    close, success, *shows_nothing = (it[1:].decode() for it in (CLOSE, PASSED, *SHOWS_NOTHING))
-    for last in lines_within(sessions.entries, sessions, engine_of(given)):
-        count, passed = count + last.startswith(close), passed + last.startswith(success)
-        unshown += last.startswith(tuple(shows_nothing))
-        sys.stdout.write(last)
-    found = END.search(last.encode())
-    closed = Closed(int(found[1]) + 1 if found else 0, count, passed, unshown)
+    tally = Tally()
+    for line in lines_within(sessions.entries, sessions, engine_of(given)):
+        tally.take(line.encode())
+        sys.stdout.write(line)
+    closed = tally.closed()
     check_closed(given.sessions, len(sessions.entries), closed)
-    return 0 if passed == count else 1
+    return 0 if closed.passed == closed.closes else 1
 
 
 def main(given: Namespace) -> int:
