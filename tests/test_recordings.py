@@ -46,7 +46,7 @@ class WithSource(OnSessions):
 
     def test_the_text_of_another_game_stays(self) -> None:
         """Its title is another, or it has none, so that nobody knows."""
-        for text, why in (("title A wholly different game\n", "are of 2 games, by their titles"), ("OBJECTS\n", "a text that would go has no title")):
+        for text, why in (("title A wholly different game\n", "are of 2 games, by their titles"), ("OBJECTS\n", "a text that would go has no title"), ("title\nOBJECTS\n", "has no title"), ("title \u200b\n", "has no title")):
             sessions = self.write("games.json", json.dumps([["follows", ["", [], ""]], ["other", [text, [], ""]]]))
             before = sessions.read_bytes()
             for words in (("--follow",), ()):
@@ -54,6 +54,14 @@ class WithSource(OnSessions):
                 self.assertEqual(sessions.read_bytes(), before)
             self.assertEqual(run("source", self.game, sessions, "--in-place", "--follow", "--only", "other").status, 0)
             self.assertNotEqual(sessions.read_bytes(), before)
+
+    def test_titles_that_differ_far_behind_their_beginnings_are_of_two_games(self) -> None:
+        long = "x" * 1000
+        for one, other in ((f"{long} one", f"{long} two"), ("a" + " " * 9 + "b", "a\\u{20*9}b")):
+            game = self.write("long.txt", f"title {one}\n")
+            sessions = self.write("games.json", json.dumps([["other", [f"title {other}\n", [], ""]]]))
+            self.assert_refused(run("source", game, sessions, "--in-place", "--follow"), "are of 2 games, by their titles")
+            self.assertEqual(json.loads(sessions.read_text(encoding="utf-8"))[0][1][0], f"title {other}\n")
 
     def test_what_has_the_title_of_the_game_gets_its_text(self) -> None:
         sessions = self.write("games.json", json.dumps([["follows", ["", [], ""]], ["older", ['TITLE  "B" \u00e4\nOBJECTS\n', [], ""]]]))

@@ -47,9 +47,15 @@ class Object(NamedTuple):
 UNTITLED = "a game"
 
 
+def is_seen(text: str) -> bool:
+    """Whether a text has a letter that is seen."""
+    return any(it.isprintable() and not it.isspace() for it in text)
+
+
 def title_in(told: Description) -> str:
-    """The title that a source has last."""
-    return next((cut(it.value) for it in reversed(told.prelude) if it.keyword == "title"), UNTITLED)
+    """The title that a source has last, whole: titles that differ behind their beginnings are of two games."""
+    last = next((it.value for it in reversed(told.prelude) if it.keyword == "title"), "")
+    return last if is_seen(last) else UNTITLED
 
 
 def written_lines(lines: Iterable[Line]) -> List[str]:
@@ -75,7 +81,7 @@ class Game:
     def show(self, told: Description, notes: Iterable[str]) -> None:
         """Takes over what is told of a source."""
         self.notes = [*notes]
-        self.title = title_in(told)
+        self.title = cut(title_in(told))
         self.ground = PALETTE["black"]
         # by an input the word that switches it off: the site takes no such key, so no recording has it
         self.switches = {SWITCHES[it.keyword]: it.keyword for it in told.prelude if it.keyword in SWITCHES}
@@ -163,16 +169,16 @@ class Game:
 
 
 def titles_of(sources: Iterable[str]) -> Set[str]:
-    """The titles of the games of sources. This counts as explaining: UsedUp where there is no time left for it."""
+    """The titles of the games of sources, whole. This counts as explaining: UsedUp where there is no time left for it."""
     them = dict.fromkeys(sources)
     with EXPLAINING.spent(), expected(them):
-        return {title_of(it) for it in EXPLAINING.each(them)}
+        return {title_in(description_of(it)) for it in EXPLAINING.each(them)}
 
 
 @lru_cache(maxsize=64)
 def title_of(source: str) -> str:
-    """The title of a game."""
-    return title_in(description_of(source))
+    """The title of a game, as it is told."""
+    return cut(title_in(description_of(source)))
 
 
 def unknown_game(why: str) -> Game:
