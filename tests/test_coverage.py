@@ -111,7 +111,7 @@ class Time(Programs):
         """All would take a minute. What is told is of those that were."""
         sessions = self.write("s.json", json.dumps([["a", ["RULES\n" + "[ a ] -> [ b ]\n" * 60, [], "a:0,"]]]))
         for within, out, why in (
-            ("6", r"(.*, line \d+: no session notices it: \[ a \] -> \[ b \]\n)+\d+ lines? left out in turn: \d+ that no session notices\n", r"there is no whole answer: [45]\d lines"),
+            ("6", r"(.*, line \d+: no session notices it: \[ a \] -> \[ b \]\n)+\d+ lines? left out in turn: \d+ that no session notices; 1 of 1 session does not pass with all lines there\n", r"there is no whole answer: [45]\d lines"),
             ("0.01", "", "no line was left out: 60 lines"),
         ):
             begin = time.monotonic()
@@ -122,6 +122,10 @@ class Time(Programs):
             self.assertRegex(answer.errors, f"^saxtegun coverage: {why} were not tried in {within} s; --within gives more time\n$")
 
 
+# One of the recordings of the day has gone stale.
+FAILING = "; 1 of 5 sessions does not pass with all lines there"
+
+
 @plays
 class DayOfCoverage(OfAGame):
     def number(self, text: str) -> int:
@@ -129,7 +133,7 @@ class DayOfCoverage(OfAGame):
 
     def test_what_all_need_is_not_reported(self) -> None:
         answer = run("coverage", self.game, self.recordings)
-        self.assertEqual((answer.status, answer.out, answer.errors), (0, "2 lines left out in turn: 0 that no session notices\n", ""))
+        self.assertEqual((answer.status, answer.out, answer.errors), (0, f"2 lines left out in turn: 0 that no session notices{FAILING}\n", ""))
 
     def test_rules_that_no_session_needs_are_reported(self) -> None:
         # the first does what the rule of the example does too, and the second never matches
@@ -140,7 +144,7 @@ class DayOfCoverage(OfAGame):
         told = [line.split(": no session notices it: ") for line in answer.out.splitlines()[:-1]]
         first = self.number(RULE)
         self.assertEqual(told, [[f"{self.game}:{first + it}", text] for it, text in enumerate((RULE, RULE, never))])
-        self.assertEqual(answer.out.splitlines()[-1], "4 lines left out in turn: 3 that no session notices")
+        self.assertEqual(answer.out.splitlines()[-1], f"4 lines left out in turn: 3 that no session notices{FAILING}")
 
     def test_a_win_line_is_needed_where_a_session_solves_a_level(self) -> None:
         inside = self.write_entries([self.entries[2]])
@@ -181,6 +185,14 @@ class DayOfCoverage(OfAGame):
         answer = run("coverage", self.game, self.write_entries([self.entries[1]]))
         self.assertEqual(answer.status, 1)
         self.assertEqual(answer.out, f"{self.game}:{self.number(rule) + 1}: no session notices it: [ > Player |  Wall ] -> [ Player | Wall ]\n3 lines left out in turn: 1 that no session notices\n")
+
+    def test_how_many_sessions_fail_already_is_said(self) -> None:
+        failing = [["other", ["", [0], "background:0,", 0]], ["none", ["no game", [], "", 0]]]
+        told = []
+        for more in (failing[:1], failing):
+            told.append(run("coverage", self.game, self.write_entries([self.entries[1], *more])).out.splitlines()[-1])
+        counts = "2 lines left out in turn: 0 that no session notices; "
+        self.assertEqual(told, [f"{counts}1 of 2 sessions does not pass with all lines there", f"{counts}2 of 3 sessions do not pass with all lines there"])
 
     def test_where_no_session_is_played_there_is_no_answer(self) -> None:
         sessions = self.write("refused.json", json.dumps([["a", ["", [], ""]]]))

@@ -1,15 +1,21 @@
 """`saxtegun compare`: where two runs part, on the example's lines, each changed in one place."""
 from __future__ import annotations
 
+import contextlib
+import io
 import json
 import re
 import unittest
 from pathlib import Path
 from typing import Any
+from unittest import mock
 
 from day import EXAMPLE
 from test_test import RULE, OfAGame
 from tool import PROGRAM, Answer, plays, run
+from saxtegun import command_line
+from saxtegun.budget import NOT_LOOKED_AT, Budget
+from saxtegun.descriptions import why_it_ended
 from saxtegun.divergence import divergence_of
 from saxtegun.lines import Frame, Run
 
@@ -54,6 +60,21 @@ class Compare(OfAGame):
         self.assertIn("background player; the other: background wall\n", answer.out)
         self.assertIn("    | one       the other\n", answer.out)
         self.assertTrue(answer.out.endswith("5 sessions: 4 the same, 1 diverges\n"))
+
+    def test_sources_are_asked_for_at_once_and_levels_are_drawn_as_long_as_there_is_time(self) -> None:
+        entries = [[f"session {it}", [f"title {it} of compared\n", [], "a:0,", 0]] for it in range(40)]
+        sessions, texts = self.write_entries(entries, "titles.json"), []
+        for name in "ab":
+            lines = [[{"at": 0, "frame": 0, "kind": "start", "level": f"{name}:0,", "session": it}, {"close": "differs", "frames": 1, "name": f"session {it}", "session": it}] for it in range(40)]
+            texts.append(self.write(f"{name}.lines", "".join(json.dumps(it, separators=(",", ":")) + "\n" for them in lines for it in them)))
+        for seconds, told in ((60.0, 0), (0.0, 40)):
+            shown, budget = io.StringIO(), Budget(seconds)
+            with mock.patch("saxtegun.descriptions.why_it_ended", side_effect=why_it_ended) as asked, mock.patch("saxtegun.divergence.EXPLAINING", budget), \
+                    mock.patch("sys.argv", ["saxtegun", "compare", *map(str, texts), str(sessions)]), contextlib.redirect_stdout(shown):
+                self.assertEqual(command_line.main(), 1)
+            self.assertLess(asked.call_count, 3)
+            self.assertEqual(shown.getvalue().count(f"    both levels: {NOT_LOOKED_AT}\n"), told)
+            self.assertEqual(shown.getvalue().count("column 1, row 1: a; the other: b\n"), 40)
 
     def test_another_kind_and_another_close_are_reported(self) -> None:
         told = self.compare(self.changed(1, kind="tick")).out

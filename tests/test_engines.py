@@ -51,7 +51,7 @@ CLOSE: Dict[str, Any] = {"close": "differs", "frames": 1, "name": "a", "session"
 
 
 # Of a session whose press moved nothing: the one more input is an undo, which meets nothing there.
-UNKNOWN_END = "; of 1 of the same it isn't known whether play is over in both"
+UNKNOWN_END = "; of 1 of the same it isn't known whether play is over in both, since with one more input not all were played by "
 
 
 class OnEngines(OnSessions):
@@ -174,14 +174,14 @@ class Compare(OnEngines):
             self.assertEqual(answer.out.splitlines(), [
                 f"session 1, session of 8: {name} crashed after input 5 (undo): ended with status 1 before the session was closed: ValueError: no level at 6",
                 f"session 3, session of 1: {name} crashed after the start: ended with status 1 before the session was closed: ValueError: no level at 0",
-                f"4 sessions: 2 the same, 2 diverge{UNKNOWN_END}",
+                f"4 sessions: 2 the same, 2 diverge{UNKNOWN_END}{name}",
             ])
             self.assertEqual((answer.status, answer.errors), (1, ""))
 
     def test_a_hang_is_told_and_the_other_sessions_are_played(self) -> None:
         self.sessions([3], [3, 1, "undo", "undo", "undo"], [1])
         answer = self.compare(self.engine("hang"), "--timeout", "5")
-        self.assertEqual((answer.status, answer.out), (1, "session 1, session of 5: hang-false has no answer after input 3 (undo): not answered in 5 s\n" f"3 sessions: 2 the same, 1 diverges{UNKNOWN_END}\n"))
+        self.assertEqual((answer.status, answer.out), (1, "session 1, session of 5: hang-false has no answer after input 3 (undo): not answered in 5 s\n" f"3 sessions: 2 the same, 1 diverges{UNKNOWN_END}hang-false\n"))
 
     def test_where_an_engine_hangs_late_is_looked_for_no_longer_than_may_be_explained(self) -> None:
         """Each look takes all the time of a session, so what is left of the whole is what the last of them has."""
@@ -200,7 +200,7 @@ class Compare(OnEngines):
         self.sessions([3], [3, "undo", "undo"], [1])
         answer = self.compare(self.engine("say"))
         self.assertEqual(answer.out.splitlines()[0], "session 1, session of 3: say-false wrote a line before its first frame that is none of its session: debug: nothing to take back, \\u{1b}[2J 2")
-        self.assertEqual((answer.status, answer.out.splitlines()[1:]), (1, [f"3 sessions: 2 the same, 1 diverges{UNKNOWN_END}"]))
+        self.assertEqual((answer.status, answer.out.splitlines()[1:]), (1, [f"3 sessions: 2 the same, 1 diverges{UNKNOWN_END}say-false"]))
 
     def test_what_parts_before_a_crash_is_told_first(self) -> None:
         self.sessions([3, 1, "undo", "restart", "undo", "undo", "undo"])

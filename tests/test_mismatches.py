@@ -6,9 +6,11 @@ import tracemalloc
 import unittest
 from pathlib import Path
 from typing import Any, Callable, List, Tuple, Union
+from unittest import mock
 
 from day import EXAMPLE, OnSessions
 from tool import run
+from saxtegun.budget import NOT_LOOKED_AT, Budget
 from saxtegun.lines import Frame, Run
 from saxtegun.mismatches import ALL_BUT_ORDER, NAMES_ALONE, OF_ANY_ENGINE, Tests, mismatch, start_fault
 from saxtegun.sessions import sessions_in
@@ -89,6 +91,10 @@ class Starts(unittest.TestCase):
         self.assertIn("was played in the order rows", self.fault("background player:0,background:1,1,\n0,1,1,\n", "p..\np..", order="columns"))
         self.assertIn("doesn't begin with the level", self.fault(level, "..\np.", order="rows"))
         self.assertIn("doesn't begin with the level", self.fault(level, "p..\n..", order="rows"))
+
+    def test_where_there_is_no_time_left_to_read_sources_nothing_is_taken_as_theirs(self) -> None:
+        with mock.patch("saxtegun.mismatches.EXPLAINING", Budget(0.0)):
+            self.assertEqual(self.fault("background player:0,", "p", order="rows"), f"whether session 0 begins with the level that its source draws isn't known: {NOT_LOOKED_AT}")
 
     def test_levels_are_drawn_up_to_the_limits_of_the_program(self) -> None:
         for width, height in ((255, 1), (1, 255), (128, 128)):

@@ -4,7 +4,9 @@ from __future__ import annotations
 from itertools import zip_longest
 from typing import List, NamedTuple, Optional
 
+from saxtegun.budget import EXPLAINING, NOT_LOOKED_AT, UsedUp
 from saxtegun.commands import cut, plural
+from saxtegun.descriptions import Undescribed
 from saxtegun.explanations import CELLS_TOLD, cell_told, input_told
 from saxtegun.games import game_of
 from saxtegun.levels import Labels, differing, in_rows, position, read_cells, width_of
@@ -108,9 +110,16 @@ def below_of(divergence: Divergence, entry: Optional[Entry], order: str) -> List
 
 
 def side_by_side(entry: Entry, labels: Labels, one: List[int], other: List[int], width: int, order: str) -> List[str]:
-    """Two levels by the game's own letters, where each cell has one."""
-    game = game_of(entry.source)
-    drawn = [game.drawing([[labels.names[it] for it in row] for row in in_rows(order, width, cells)]) for cells in (one, other)]
+    """Two levels by the game's own letters, where each cell has one, and as long as there is time to explain."""
+    try:
+        with EXPLAINING.spent():
+            EXPLAINING.look()
+            game = game_of(entry.source)
+            drawn = [game.drawing([[labels.names[it] for it in row] for row in in_rows(order, width, cells)]) for cells in (one, other)]
+    except UsedUp:
+        return [f"both levels: {NOT_LOOKED_AT}"]
+    except Undescribed as why:
+        return [f"both levels: {why}"]
     if drawn[0] is None or drawn[1] is None:
         return []
     room = max(width, len("one")) + 4

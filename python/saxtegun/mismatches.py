@@ -3,6 +3,7 @@ from __future__ import annotations
 
 from typing import Dict, Iterator, NamedTuple, Optional, Tuple, Union
 
+from saxtegun.budget import EXPLAINING, NOT_LOOKED_AT, UsedUp
 from saxtegun.commands import ORDERS, Refused, cut, plural
 from saxtegun.explanations import input_told
 from saxtegun.levels import Labels, read_cells, sets_of
@@ -109,12 +110,21 @@ def start_fault(entry: Entry, run: Run, tests: Tests) -> Optional[str]:
     cells = read_cells(run.frames[0].level, labels)
     if cells is None:
         return None
-    shown = tuple(sets_of(cells, labels)) if may_begin_with(entry, len(cells)) else None
-    if shown is not None and are_same_cells(shown, drawn_start(entry, tests.order)):
+    try:
+        with EXPLAINING.spent():
+            EXPLAINING.look()
+            return drawn_fault(entry, run, tests, tests.order, tuple(sets_of(cells, labels)) if may_begin_with(entry, len(cells)) else None)
+    except UsedUp:
+        return f"whether session {run.number} begins with the level that its source draws isn't known: {NOT_LOOKED_AT}"
+
+
+def drawn_fault(entry: Entry, run: Run, tests: Tests, order: str, shown: Optional[Cells]) -> Optional[str]:
+    """What the cells of the first frame show against what is drawn, or None; `shown` is None where the level that is drawn has another number of them."""
+    if shown is not None and are_same_cells(shown, drawn_start(entry, order)):
         return None
-    other = ORDERS[1 - ORDERS.index(tests.order)]
+    other = ORDERS[1 - ORDERS.index(order)]
     if shown is not None and are_same_cells(shown, drawn_start(entry, other)):
-        return f"session {run.number} was played in the order {other}, as its first frame shows, and not in the order {tests.order}"
+        return f"session {run.number} was played in the order {other}, as its first frame shows, and not in the order {order}"
     return f"session {run.number} doesn't begin with the level that its source draws: it was played over another source" if tests.is_drawn else None
 
 

@@ -4,10 +4,11 @@ from __future__ import annotations
 import json
 from typing import Callable, Dict, Iterable, List, Optional, Sequence, Set, Tuple
 
+from saxtegun.budget import EXPLAINING, UsedUp
 from saxtegun.commands import Refused, fold, say
 from saxtegun.files import read_any_text
 from saxtegun.descriptions import description_of, expected
-from saxtegun.games import title_of
+from saxtegun.games import UNTITLED, title_of
 from saxtegun.levelsets import first_level
 from saxtegun.recording_search import NAMELESS, Findings, Found, find
 from saxtegun.sessions import Entry, Sessions, sessions_in
@@ -42,8 +43,11 @@ def is_broken(findings: Findings) -> bool:
 def read_findings(verb: str, path: str) -> Findings:
     """What a file holds; what is skipped is said. Refused where it holds no recording."""
     text = read_any_text(path)
-    findings = find(text)
     place = "standard input" if path == "-" else path
+    try:
+        findings = find(text)
+    except Refused as why:
+        raise Refused(f"{place}: {why}") from None
     for it in findings.skipped:
         say(f"{verb}: {place}, line {it.line}: skipped {skipped_told(it.what)}")
     if not findings.found:
@@ -70,9 +74,15 @@ class Names:
 
 
 def own_name(name: str, entry: Entry) -> str:
-    """The name of a recording: its own; or the title with the level, where it has none or the title, as the editor writes it."""
-    title = title_of(entry.source)
-    return f"{title}, level {first_level(entry)}" if name in NAMELESS or fold(name) == fold(title) else name
+    """The name of a recording: its own; or the title with the level, where it has none or the title, as the editor writes it. Where there is no time left to
+    read titles, it is its own too, or that of a game without a title."""
+    try:
+        with EXPLAINING.spent():
+            EXPLAINING.look()
+            title = title_of(entry.source)
+            return f"{title}, level {first_level(entry)}" if name in NAMELESS or fold(name) == fold(title) else name
+    except UsedUp:
+        return name or UNTITLED
 
 
 def entry_text(name: str, it: Found) -> str:

@@ -16,7 +16,7 @@ An engine that crashes, that writes a line of its own or that has no answer in
 10 s a session (or what --timeout says) is named with the session and the input.
 What is the same is played again with one more input, which shows whether play
 is over in both: the last win has no frame of its own, and lines don't tell it.
-Where an engine fails at that, no more is said than that it isn't known.
+Where an engine fails at that, it is named, and no more is known.
 
 With --report F it also writes a page that shows both runs side by side, from
 the frame at which they diverge. Frames and inputs are counted from 0.
@@ -35,6 +35,7 @@ from pathlib import Path
 from typing import Callable, Iterator, List, NamedTuple, Optional, Sequence, Tuple
 
 from saxtegun.commands import Refused, add_playing, cut, plural, printable, say
+from saxtegun.descriptions import expect
 from saxtegun.divergence import Divergence, below_of, divergence_of, sentence_of
 from saxtegun.engines import FAILED, OURS, SECONDS, answers, engine_at, failure_told, tellers_of, with_frames
 from saxtegun.explanations import cause_told
@@ -152,7 +153,7 @@ class Comparing:
         self.stages = tellers_of(given)
         self.count, self.parted, self.failed, self.refused, self.late = 0, 0, 0, 0, 0
         self.same: List[Run] = []
-        self.unknown = 0
+        self.unknown, self.failing = 0, dict.fromkeys(self.names, False)
         self.why = ""
         self.report: Optional[Report] = None
         if given.report and sides.sessions is None:
@@ -191,6 +192,7 @@ class Comparing:
                 self.tell_ends(run, *both)
             else:
                 failed += 1
+                self.failing.update({name: True for name, it in zip(self.names, both) if it.close not in PLAYED})
             if failed == MOST_FAILED:
                 break
 
@@ -253,12 +255,19 @@ class Comparing:
         self.late += 1
 
     @property
+    def unknown_told(self) -> str:
+        """Of how many it isn't known whether play is over in both, and in which not all were played further, or nothing."""
+        failing = [name for name, fails in self.failing.items() if fails]
+        why = f", since with one more input not all were played by {' and '.join(failing)}" if failing else ""
+        return f"; of {self.unknown} of the same it isn't known whether play is over in both{why}" if self.unknown else ""
+
+    @property
     def result(self) -> str:
         same = self.count - self.parted - self.late
         told = f"{plural(self.count, 'session')}: {same} the same, {self.parted} {'diverges' if self.parted == 1 else 'diverge'}"
         told += f", {self.late} not answered" if self.late else ""
         told += f"; {self.refused} {'was' if self.refused == 1 else 'were'} refused by both, and not played" if self.refused else ""
-        told += f"; of {self.unknown} of the same it isn't known whether play is over in both" if self.unknown else ""
+        told += self.unknown_told
         sessions = self.sides.sessions
         left = len(sessions.entries) - self.count if sessions else 0
         return f"{told}; {left} more not played, since an engine failed {MOST_FAILED} times" if left and self.failed == MOST_FAILED else told
@@ -281,7 +290,10 @@ def main(given: Namespace) -> int:
     guard_output(*given.files, *(given.sources or []))
     guard_files([given.report], [*given.files, *(given.sources or []), *(given.engines or []), *(given.stages or []), given.program])
     guard_places(given.report)
-    comparing = Comparing(given, sides_of(given))
+    sides = sides_of(given)
+    if sides.sessions:
+        expect(it.source for it in sides.sessions.entries)
+    comparing = Comparing(given, sides)
     comparing.run()
     check_played(comparing, given)
     print(comparing.result)

@@ -6,7 +6,8 @@ plays the suite again.
         the game's text is the source of each recording whose source is empty
 
 A session notices that a line is gone if it closes differently; with a win line,
-or a rule that wins, also if it wins differently. The lines of a game whose sessions are all refused
+or a rule that wins, also if it wins differently. One that doesn't pass with all
+lines there counts as any other, and how many don't is said. The lines of a game whose sessions are all refused
 are not tried, nor are lines without which the rest is refused. Behind 600
 seconds, or --within N, no more lines are left out.
 
@@ -198,6 +199,11 @@ class Coverage:
             whole = "without any of them the rest is refused" if trials else "no source that is played has a rule or a win line"
             raise Refused(f"no line was left out: {self.left_told() or whole}")
 
+    def failing_told(self) -> str:
+        """How many sessions don't pass with all lines there, or nothing: what they notice is another failure."""
+        failing = sum(close[0] != "passed" for close, _ in self.before.values())
+        return f"; {failing} of {plural(len(self.before), 'session')} {'does' if failing == 1 else 'do'} not pass with all lines there" if failing else ""
+
     def left_told(self) -> str:
         """How many lines were not left out, since the time was over, or nothing."""
         return f"{plural(self.left, 'line')} {'was' if self.left == 1 else 'were'} not tried in {self.given.within:g} s; --within gives more time" if self.left else ""
@@ -218,7 +224,7 @@ def main(given: Namespace) -> int:
     sources: Set[str] = {it.source for it in coverage.unnoticed}
     alone = f", {plural(coverage.alone, 'line')} can't be left out alone" if coverage.alone else ""
     games = f" in {plural(len(sources), 'source')}" if len(sources) > 1 else ""
-    print(f"{plural(coverage.tried, 'line')} left out in turn: {len(coverage.unnoticed)} that no session notices{games}{alone}")
+    print(f"{plural(coverage.tried, 'line')} left out in turn: {len(coverage.unnoticed)} that no session notices{games}{alone}{coverage.failing_told()}")
     if coverage.left:
         raise Refused(f"there is no whole answer: {coverage.left_told()}")
     return 1 if coverage.unnoticed else 0
