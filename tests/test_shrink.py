@@ -3,6 +3,8 @@ from __future__ import annotations
 
 import json
 import os
+import signal
+import sys
 import unittest
 from pathlib import Path
 from typing import Any, Iterator, List, Sequence, Set, Tuple, Union
@@ -11,12 +13,14 @@ from unittest import mock
 from day import OnSessions
 import tool  # puts the package on the path
 from tool import PROGRAM, Answer, plays, run
+from saxtegun.commands import Refused
+from saxtegun.engines import answers
 from saxtegun.lines import Run
 from saxtegun.playing import Engine
 from saxtegun.reductions import STAGES, of_columns, of_inputs, of_levels, of_lines, of_loops, of_objects
-from saxtegun.sessions import Entry
+from saxtegun.sessions import Entry, Sessions
 from saxtegun.shrinking import Programs, Shrinking
-from saxtegun.verbs.shrink import first_that_parts, write_case
+from saxtegun.verbs.shrink import files_of_case, first_that_parts, write_case
 
 SOURCE = """title A yard (with a comment
 of two lines)
@@ -184,6 +188,34 @@ class Shrink(OnAYard):
         self.assertEqual(write_case(f"{self.room}/d/", {"status": b""}), f"{self.room}/d/")
         self.assertEqual(write_case(f"{self.room}/d/", {"status": b""}), f"{self.room}/d-2")
 
+    def test_what_ends_it_as_the_case_gets_its_name_leaves_no_empty_folder(self) -> None:
+        def made(folder: str) -> str:
+            os.mkdir(folder)
+            signal.raise_signal(signal.SIGTERM)
+            return folder
+
+        before = signal.signal(signal.SIGTERM, lambda *_: sys.exit(15))
+        try:
+            with mock.patch("saxtegun.verbs.shrink.taken_name", made), self.assertRaises(SystemExit):
+                write_case(str(self.room / "c"), {"status": b"0\n"})
+        finally:
+            signal.signal(signal.SIGTERM, before)
+        self.assertEqual((os.listdir(self.room / "c"), list(self.room.glob(".saxtegun-*"))), (["status"], []))
+
+    def test_a_case_has_the_lines_that_were_looked_at(self) -> None:
+        """The program that is kept says nothing in its last call."""
+        entry = ENTRY._replace(source=SOURCE, inputs=[3])
+        engine = Engine(program=str(self.one))
+        [shown] = answers([entry], engine)
+        of = Sessions("s.json", "", [entry])
+        files = files_of_case(entry, shown, engine, of)
+        self.assertEqual(files["stdout"].count(b"\n"), 3)
+        for body in ("", 'echo \'{"at":0,"frame":0,"kind":"start","level":"a:0,","session":0}\'', "echo no line"):
+            silent = self.write("silent", f"#!/bin/sh\n{body}\n")
+            silent.chmod(0o755)
+            with self.assertRaises(Refused):
+                files_of_case(entry, shown, Engine(program=str(silent)), of)
+
     def test_a_program_that_shows_something_else_each_time_makes_no_case(self) -> None:
         """It has the bug in its first call, and then in none."""
         flaky = self.engine("flaky", "(lambda log: log.write('x') and log.tell() == 1)(open(__file__ + '.log', 'a'))")
@@ -295,6 +327,19 @@ class DayOfShrinking(OnAYard):
         [[_, [source, inputs, _, _]]] = json.loads((self.room / "case/input.json").read_text(encoding="utf-8"))
         self.assertEqual(inputs, ["undo"])
         self.assertEqual(lines_left(source), ["OBJECTS", "Background .", "green", "Player p", "white", "LEGEND", "COLLISIONLAYERS", "Background", "Player", "LEVELS", "."])
+
+    def test_programs_that_part_with_one_more_input_alone_are_shrunk_with_it(self) -> None:
+        """Behind the press the level is won, which has no frame of its own; the undo shows that play is over."""
+        source = "OBJECTS\nBackground .\ngreen\nPlayer p\nwhite\nLEGEND\nCOLLISIONLAYERS\nBackground\nPlayer\nWINCONDITIONS\nSome Player\nLEVELS\np."
+        sessions = self.write("won.json", json.dumps([["won", [source, [3], "", 0]]]))
+        other = self.write("goes-on", f"#!/bin/sh\n{PROGRAM} \"$@\" | sed 's/\"kind\":\"over\"/\"kind\":\"undo\"/'\nexit 1\n")
+        other.chmod(0o755)
+        answer = run("shrink", PROGRAM, other, sessions, "won", self.room / "case")
+        self.assertEqual((answer.status, answer.errors), (0, ""))
+        self.assertIn("won: frame 2, after input 1 (undo): one shows over of 2 inputs, the other undo of 2\n", answer.out)
+        [[_, [_, inputs, _, _]]] = json.loads((self.room / "case/input.json").read_text(encoding="utf-8"))
+        kinds = [json.loads(it).get("kind") for it in (self.room / "case/stdout").read_text(encoding="utf-8").splitlines()]
+        self.assertEqual((inputs[1:], kinds), (["undo"], ["start", "move", "over", None]))
 
 
 if __name__ == "__main__":

@@ -12,6 +12,7 @@ from time import monotonic, sleep
 from typing import BinaryIO, Iterator, Optional, Sequence, Tuple
 
 from saxtegun.commands import Refused
+from saxtegun.processes import held
 
 MARK = "\ufeff"
 NEW_LINE = b"\n"
@@ -224,8 +225,10 @@ def write_whole(path: str, text: str) -> None:
                 device.write(text)
             return
         mode = stat.S_IMODE(os.stat(target).st_mode) if os.path.exists(target) else rights_of_new()
-        with tempfile.NamedTemporaryFile("w", encoding="utf-8", newline="", dir=os.path.dirname(target), prefix=".saxtegun-", delete=False) as file:
+        with held():
+            file = tempfile.NamedTemporaryFile("w", encoding="utf-8", newline="", dir=os.path.dirname(target), prefix=".saxtegun-", delete=False)
             new = file.name
+        with file:
             file.write(text)
             file.flush()
             os.fsync(file.fileno())

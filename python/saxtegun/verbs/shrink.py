@@ -3,9 +3,11 @@ as a case of conformance/.
 
 P and Q are programs with our command line; `saxtegun` is our own. NAME is a
 session of SESSIONS, or a pattern (`level 2*`): then the first on which they
-diverge is taken. It leaves out inputs, then rules, levels and objects, then
-other lines, while the programs diverge in the same way: with the same kinds of
-frames, with the same closes, or with the same crash, hang or stray line of one.
+diverge is taken. Where they don't on any, the first is with one more input, an
+undo: it shows whether play is over. It leaves out inputs, then rules, levels and
+objects, then other lines, while the programs diverge in the same way: with the
+same kinds of frames, with the same closes, or with the same crash, hang or stray
+line of one.
 
 With --stages S T the first stage at which they part also stays one of the same
 rules: S and T tell the stages of P and Q; `saxtegun` tells our own.
@@ -33,17 +35,19 @@ from saxtegun.divergence import below_of, divergence_of, sentence_of
 from saxtegun.engines import FAILED, SECONDS, answers, engine_at, failure_told, tellers_of, with_frames
 from saxtegun.files import guard_places
 from saxtegun.levels import Labels, read_cells
-from saxtegun.lines import Run
+from saxtegun.lines import Frame, Run, frame_of, line_of
 from saxtegun.playing import Engine, play_file
-from saxtegun.processes import room_for_now
+from saxtegun.processes import held, room_for_now
 from saxtegun.sessions import Entry, Sessions, chosen, read_sessions, written
 from saxtegun.shrinking import Programs, Way, cut_behind, shrunk
+from saxtegun.solutions import MOST_INPUTS, with_one_more
 from saxtegun.texts import over, read_game, say_others
 
 USAGE = "shrink P Q SESSIONS NAME [FOLDER] [options]"
 LETTERS_OF_A_FOLDER = 60
 # Below so many a number behind the name of a folder is looked for that makes it a new one.
 MOST_NAMES = 1000
+NOT_EACH_TIME = "a program doesn't show the same each time"
 # So many seconds a session shrinks.
 WITHIN = 600
 
@@ -100,16 +104,25 @@ def with_reached(entry: Entry, run: Run) -> Entry:
     return entry._replace(level=level if read_cells(level, Labels()) is not None else "")
 
 
-def files_of_case(entry: Entry, engine: Engine, of: Sessions) -> Dict[str, bytes]:
-    """The five files of a case, as an engine answers it."""
+def frames_in(data: bytes) -> List[Frame]:
+    """The frames that lines show."""
+    lines = data.decode("utf-8", "replace").split("\n")[:-1]
+    values = [line_of("what the program wrote", number, it) for number, it in enumerate(lines, 1)]
+    return [it for it in map(frame_of, values) if it is not None]
+
+
+def files_of_case(entry: Entry, shown: Run, engine: Engine, of: Sessions) -> Dict[str, bytes]:
+    """The five files of a case, as an engine answers it. Refused where it doesn't show what it showed before."""
     text = written([entry])
     with room_for_now() as room:
         path, lines = os.path.join(room, "input.json"), os.path.join(room, "lines")
         with open(path, "w", encoding="utf-8", newline="") as file:
             file.write(text)
         status = play_file(path, lines, engine, of._replace(entries=[entry]), engine.seconds)
-        with open(lines, "rb") as shown:
-            stdout = shown.read()
+        with open(lines, "rb") as lines_shown:
+            stdout = lines_shown.read()
+    if frames_in(stdout) != shown.frames:
+        raise Refused(f"{cut(entry.name)} with {plural(len(entry.inputs), 'input')} shows other frames than before: {NOT_EACH_TIME}")
     args = "--order\nrows\n" if engine.order == "rows" else ""
     return {"input.json": text.encode(), "args": args.encode(), "stdout": stdout, "stderr": b"", "status": f"{status}\n".encode()}
 
@@ -131,7 +144,8 @@ def write_case(folder: str, files: Dict[str, bytes]) -> str:
     beside = os.path.dirname(os.path.abspath(folder))
     room = ""
     try:
-        room = tempfile.mkdtemp(prefix=".saxtegun-", dir=beside)
+        with held():
+            room = tempfile.mkdtemp(prefix=".saxtegun-", dir=beside)
         os.chmod(room, 0o755)
         for name, data in files.items():
             with open(os.path.join(room, name), "wb") as file:
@@ -147,15 +161,16 @@ def write_case(folder: str, files: Dict[str, bytes]) -> str:
 def renamed(room: str, folder: str) -> str:
     """Gives a folder a name that nothing had, and answers it."""
     while True:
-        name = taken_name(folder)
-        try:
-            os.rename(room, name)
-            return name
-        except OSError as why:
-            # another has written into the one that was made for it
-            if why.errno not in (errno.ENOTEMPTY, errno.EEXIST):
-                os.rmdir(name)
-                raise
+        with held():
+            name = taken_name(folder)
+            try:
+                os.rename(room, name)
+                return name
+            except OSError as why:
+                # another has written into the one that was made for it
+                if why.errno not in (errno.ENOTEMPTY, errno.EEXIST):
+                    os.rmdir(name)
+                    raise
 
 
 def started_with(programs: Programs, found: Found) -> Entry:
@@ -168,7 +183,7 @@ def played_again(entry: Entry, programs: Programs, way: Way) -> Tuple[Run, Run]:
     """What the programs show of what is left. Refused where they don't part on it any more: one of them doesn't show the same each time."""
     one, other = next(programs.pairs([entry]))
     if programs.way(entry, one, other, way) != way:
-        raise Refused(f"{cut(entry.name)} with {plural(len(entry.inputs), 'input')} no longer parts as it did before: a program doesn't show the same each time")
+        raise Refused(f"{cut(entry.name)} with {plural(len(entry.inputs), 'input')} no longer parts as it did before: {NOT_EACH_TIME}")
     return one, other
 
 
@@ -195,7 +210,8 @@ def main(given: Namespace) -> int:
     guard_places(folder)
     engine = Engine(given.order, given.workers, seconds=given.timeout, may_build=False)
     programs = Programs(engine_at(given.one, engine), engine_at(given.other, engine), tuple(tellers_of(given)))
-    found = first_that_parts(programs, chosen(sessions, [given.name]))
+    entries = chosen(sessions, [given.name])
+    found = first_that_parts(programs, entries) or first_that_parts(programs, with_one_more([it for it in entries if len(it.inputs) < MOST_INPUTS]))
     if found is None:
         print(printable(f"{given.one} and {given.other} show the same"))
         return 1
@@ -208,11 +224,11 @@ def main(given: Namespace) -> int:
         say(f"shrink: stopped behind {given.within:g} s; with a larger --within it may get smaller")
     one, other = played_again(entry, programs, found.way)
     tell(entry, one, other, programs, given)
-    keeper = programs.one if one.close not in FAILED else programs.other
+    keeper, shown = (programs.one, one) if one.close not in FAILED else (programs.other, other)
     if found.way[0] != "close":
         # the recorded level decides nothing here, and the one that P reached makes the case one that P passes
         entry = with_reached(entry, next(answers([entry], keeper)))
-    written_as = write_case(folder, files_of_case(entry, keeper, sessions))
+    written_as = write_case(folder, files_of_case(entry, shown, keeper, sessions))
     if written_as != folder:
         say(f"shrink: {folder} has come to be there meanwhile: the case is written as {written_as}")
     sizes = [f"{plural(len(it.inputs), 'input')} and {plural(len(it.source), 'letter')} of source" for it in (found.entry, entry)]

@@ -25,6 +25,7 @@ from saxtegun.commands import Refused
 from saxtegun.files import read_text
 from saxtegun.parts import MANIFEST, Part, manifest_of, name_in
 from saxtegun.parts import MOST_BYTES as MOST_OF_MANIFEST
+from saxtegun.processes import held
 from saxtegun.sessions import DEMAND, MOST_BYTES, MOST_ENTRIES, after_space
 from saxtegun.texts import say_demands
 
@@ -124,8 +125,10 @@ def write_parts(count: int, entries: Entries, folder: str) -> None:
     """Writes the parts into a folder beside, which gets its name once all of them are there."""
     beside = os.path.dirname(os.path.abspath(folder))
     parts: List[Part] = []
-    room = tempfile.mkdtemp(prefix=".saxtegun-", dir=beside)
+    room = ""
     try:
+        with held():
+            room = tempfile.mkdtemp(prefix=".saxtegun-", dir=beside)
         os.chmod(room, 0o755)
         bounds = bounds_of(entries.costs, count)
         for first, behind in zip(bounds, bounds[1:]):
@@ -140,7 +143,8 @@ def write_parts(count: int, entries: Entries, folder: str) -> None:
             manifest.write(listed)
         os.rename(room, folder)
     finally:
-        shutil.rmtree(room, ignore_errors=True)
+        if room:
+            shutil.rmtree(room, ignore_errors=True)
 
 
 def main(given: Namespace) -> int:
