@@ -21,6 +21,7 @@ from unittest import mock
 from test_test import OfAGame
 from tool import TOP, environment, plays, run
 from saxtegun.games import Game
+from saxtegun.verbs.play import in_plain_letters
 from saxtegun.terminal import CLEAR, Depth, Screen, codes_of, depth_of, fitted, lettered, marked, painted, pixels_of, screen_now
 
 START = "####..\n#.O#..\n#..###\n#@P..#\n#..*.#\n#..###\n####..\n"
@@ -207,6 +208,13 @@ class DayOfTerminals(OfAGame):
         window.resize(90, 30)
         window.press(b"da" * 10)
         window.until("20 inputs")
+
+
+class HandedOut(unittest.TestCase):
+    def test_a_recording_that_is_handed_out_has_no_letter_that_a_terminal_obeys(self) -> None:
+        value = ["a", ["", [1, "undo"], "cr\x9b2Jate \u202e\x7f:0,\n", 0]]
+        text = in_plain_letters(value)
+        self.assertEqual((text.isascii() and text.isprintable(), json.loads(text)), (True, value))
 
 
 class Terminal(OfAGame):

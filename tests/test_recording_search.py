@@ -7,10 +7,13 @@ import time
 import unittest
 from typing import List, Tuple
 
+from day import OnSessions
 from test_test import OfAGame
 from tool import TOP, Answer, InARoom, plays, run
 from saxtegun.files import read_any_text
+from saxtegun.commands import Refused
 from saxtegun.recording_search import find
+from saxtegun.sessions import MOST_ENTRIES, sessions_in
 
 FORMS = TOP / "tests/forms"
 EXPECTED = json.loads((FORMS / "expected.json").read_text(encoding="utf-8"))
@@ -27,6 +30,25 @@ SAID = {
     "cut-off-in-its-source": "line 1: skipped a recording that is cut off",
     "input-that-is-none": "line 1: skipped a recording with a fault: its input 2 is neither 0 to 4 nor undo, restart or tick",
 }
+
+
+class Bounds(OnSessions):
+    """A text of short recordings takes a hundred times its size in memory, so no more are looked for than a sessions file takes."""
+
+    def test_no_more_recordings_are_read_than_a_sessions_file_takes(self) -> None:
+        text = '["n",["t",[],""]]\n'
+        self.assertEqual(len(find(text * MOST_ENTRIES).found), MOST_ENTRIES)
+        with self.assertRaisesRegex(Refused, "^it has more than 65,536 recordings, which no sessions file takes$"):
+            find(text * (MOST_ENTRIES + 1))
+        path = self.room / "many.txt"
+        path.write_text(text * (MOST_ENTRIES + 1))
+        self.assert_refused(run("testdata", path), f"{path}: it has more than 65,536 recordings")
+
+    def test_no_more_sessions_are_read_than_a_file_may_have(self) -> None:
+        entry = '["",["",[],""]]'
+        self.assertEqual(len(sessions_in("f", f"[{','.join([entry] * MOST_ENTRIES)}]").entries), MOST_ENTRIES)
+        with self.assertRaisesRegex(Refused, "^f has more than 65,536 sessions: play it in parts, by saxtegun split$"):
+            sessions_in("f", f"[{','.join([entry] * (MOST_ENTRIES + 1))}]")
 
 
 class Forms(unittest.TestCase):

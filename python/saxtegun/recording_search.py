@@ -10,8 +10,9 @@ import json
 import re
 from typing import Any, Dict, List, NamedTuple, Optional, Tuple
 
+from saxtegun.commands import Refused
 from saxtegun.javascript import BODIES, ROUNDS, behind, skip_space, token_at, unescaped
-from saxtegun.sessions import fault_of
+from saxtegun.sessions import MOST_ENTRIES, fault_of
 
 # What may stand between a bracket and a text, in so many rounds; what is looked for first is what stands there most often.
 BREAK = rf"[\s>]*(?:(?:<br\s*/?>|&nbsp;)[\s>]*){ROUNDS}"
@@ -192,6 +193,8 @@ class Search:
 
     def take(self, at: int, entry: Any, body: str, rest: Tuple[str, ...] = ()) -> None:
         """Takes an entry, whose body and further elements stand there as JSON, unless it has a fault."""
+        if len(self.findings.found) == MOST_ENTRIES:
+            raise Refused(f"it has more than {MOST_ENTRIES:,} recordings, which no sessions file takes")
         fault = fault_of(entry)
         if fault:
             self.findings.skipped.append(Skipped(self.line_of(at), fault))

@@ -213,7 +213,9 @@ def sessions_in(path: str, text: str) -> Sessions:
     try:
         if text.startswith(MARK):
             raise Refused(f"{path}, line 1: a byte order mark stands before the list, which JSON doesn't allow; save the file without it")
-        items = list(items_in(text, 0, CAREFUL))
+        items = list(islice(items_in(text, 0, CAREFUL), MOST_ENTRIES + 1))
+        if len(items) > MOST_ENTRIES:
+            raise Refused(f"{path} has more than {MOST_ENTRIES:,} sessions: play it in parts, by saxtegun split")
         end = after_space(text, text.index("]", items[-1][2] if items else 0) + 1)
         if end != len(text):
             raise json.JSONDecodeError("something stands after the list", text, end)

@@ -169,13 +169,19 @@ class Play:
 
     def save(self, name: str, path: str) -> None:
         """Adds what was played to a file, or where that fails writes it to standard output: it is lost in no case."""
-        entry = json.dumps([name, ["", self.inputs, self.last.level, self.index]], ensure_ascii=False, separators=(",", ":"))
+        value = [name, ["", self.inputs, self.last.level, self.index]]
+        entry = json.dumps(value, ensure_ascii=False, separators=(",", ":"))
         try:
             append(path, entry)
         except Refused as why:
             advice = "keep it, and call saxtegun add" if len(entry.encode()) < MOST_BYTES else f"no sessions file takes it, which has {MOST_BYTES // 2**20} MiB at most"
-            raise Refused(f"{why}; what was played {handed_out(entry)}: {advice}") from None
+            raise Refused(f"{why}; what was played {handed_out(in_plain_letters(value))}: {advice}") from None
         say(f"play: {name}: {plural(len(self.inputs), 'input')} saved in {path}")
+
+
+def in_plain_letters(value: object) -> str:
+    """A value as JSON without any letter by which a stranger's names would command a terminal."""
+    return json.dumps(value, separators=(",", ":")).replace("\x7f", "\\u007f")
 
 
 def press_keys(play: Play) -> None:
