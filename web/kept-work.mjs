@@ -1,8 +1,9 @@
 // @ts-check
 // A state as it is kept between visits, and back. What is kept has a version; what can't be read is no state.
-import { keyOfValue, lackingOf, withNote } from "./notes.mjs";
+import { lackingOf, withNote } from "./notes.mjs";
 import { packed, takePack, unpacked } from "./packing.mjs";
 import { lastLost, lostNow, remembering, withTexts } from "./past.mjs";
+import { Values } from "./sameness.mjs";
 import { MOST_INPUTS, SessionFile } from "./session-file.mjs";
 import { whyNoField } from "./texts.mjs";
 import { beginning, besideField } from "./work.mjs";
@@ -109,18 +110,15 @@ function leftBy({ text, work, file, isUnsaved, past, example }) {
   return withTexts(Object.keys(own).length === 0 ? past : [...past, ...lostNow([own], past)], text);
 }
 
-// What another tab left, but for what a state has itself, as a copy of one that isn't gone does.
-function leftBeside(other, state) {
-  const keyOf = (lost) => keyOfValue({ ...keptLoss(lost), number: undefined }), there = new Set(leftBy(state).map(keyOf));
-  return leftBy(other).filter((lost) => !there.has(keyOf(lost)));
-}
+// What is lost, by what is kept of it, whenever that was.
+const anyTime = (lost) => ({ ...keptLoss(lost), number: undefined });
 
 // What other tabs left as it can be put back in a state, as long as there is room for all of it, and the names of those for which there is none: another tab may
-// go on with them.
+// go on with them. What the state has itself isn't taken again, as a copy has it of a tab that isn't gone.
 function takenBeside(others, state) {
-  const taken = [], waiting = [];
+  const taken = [], waiting = [], there = new Values(others.length === 0 ? [] : leftBy(state).map(anyTime));
   for (const { name, state: other } of others) {
-    const lost = leftBeside(other, state);
+    const lost = leftBy(other).filter((it) => !there.has(anyTime(it)));
     if (lastLost(lost, [...state.past, ...taken]).length < lost.length) waiting.push(name);
     else taken.push(...lost);
   }

@@ -1,21 +1,15 @@
 // @ts-check
 // What is noted of a value where the database doesn't have it yet: a page that is left has no time for that. A browser has little room for notes, so what
 // the database surely has is left out of them.
+import { Values } from "./sameness.mjs";
+
 const NOTE = "saxtegun-left ";
+const MOST_OF_A_NOTE = 10 * 2 ** 20; // letters, of which most browsers take half
 const decoder = new TextDecoder("utf-8", { ignoreBOM: true });
 const encoder = new TextEncoder();
 
 // A value as a text. Bytes of it are those of texts.
-export const textOfValue = (value) => JSON.stringify(value, (_, it) => (it instanceof Uint8Array ? { text: decoder.decode(it) } : it));
-
-// By what it is known that two values are the same: their texts, or a value itself that has none, as nothing has that a page keeps.
-export function keyOfValue(value) {
-  try {
-    return textOfValue(value);
-  } catch {
-    return value;
-  }
-}
+const textOfValue = (value) => JSON.stringify(value, (_, it) => (it instanceof Uint8Array ? { text: decoder.decode(it) } : it));
 
 const valueOfText = (text) => JSON.parse(text, (key, it) => (key === "bytes" && it?.text !== undefined ? encoder.encode(it.text) : it));
 
@@ -45,7 +39,16 @@ export function forgetNote(name) {
   }
 }
 
+// How many letters a value has at least as a text: a letter has three bytes at most.
+function lettersOf(value) {
+  if (value instanceof Uint8Array) return value.length / 3;
+  if (typeof value === "string") return value.length;
+  return typeof value === "object" && value !== null ? Object.values(value).reduce((sum, it) => sum + lettersOf(it), 0) : 1;
+}
+
 function hasRoom(name, part) {
+  // no text is made of what browsers surely have no room for: it would take seconds, at each key
+  if (lettersOf(part) > MOST_OF_A_NOTE) return false;
   try {
     localStorage.setItem(NOTE + name, textOfValue(part));
     return true;
@@ -74,8 +77,8 @@ const isBehind = (note, value) => (numberKept(note, "turn") - numberKept(value, 
 // What the database has together with what was noted since; null where that is nothing.
 export function withNote(value, note) {
   if (note === null || !Array.isArray(note.past) || !isBehind(note, value)) return null;
-  const again = new Set(note.past.map(keyOfValue)), numbers = new Set(note.past.map((lost) => numberKept(lost, "number"))), front = numberKept(note, "front");
-  const isAgain = (lost) => again.has(keyOfValue(lost)) || (numberKept(lost, "number") > 0 && numbers.has(lost.number));
+  const again = new Values(note.past), numbers = new Set(note.past.map((lost) => numberKept(lost, "number"))), front = numberKept(note, "front");
+  const isAgain = (lost) => (numberKept(lost, "number") > 0 && numbers.has(lost.number)) || again.has(lost);
   return { ...value, ...note, past: [...note.past.slice(0, front), ...(value.past ?? []).filter((lost) => !isAgain(lost)), ...note.past.slice(front)] };
 }
 

@@ -88,6 +88,26 @@ test("a file is noted where the database lacks it, and it alone knows of the ses
   assert.deepEqual([last.state.file.entries, last.state.work.name], [FILE.entries, "mine"]);
 });
 
+test("no text is made of what no browser has room for in a note", async () => {
+  const browser = new OneTab(), visit = await worked(browser), file = new SessionFile("large.json", new TextEncoder().encode(`[["a",["${"x".repeat(32 * 2 ** 20)}",[],""]]]`));
+  browser.database.isBroken = true;
+  const { stringify } = JSON;
+  let most = 0;
+  JSON.stringify = (...words) => {
+    const text = stringify(...words);
+    most = Math.max(most, text?.length ?? 0);
+    return text;
+  };
+  try {
+    visit.keep({ ...visit.state, file, isUnsaved: true });
+    browser.leave();
+  } finally {
+    JSON.stringify = stringify;
+  }
+  assert.ok(most < 10_000, `${most}`);
+  assert.equal(Object.values(browser.notes.room.items).length, 1);
+});
+
 test("of what has no room the text and the recording are noted alone, which is said, and what the database had is put back", async () => {
   const browser = new OneTab({ most: 25_000 }), visit = await worked(browser, LONG[0]);
   visit.act(withGame, LONG[1]);
