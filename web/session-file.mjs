@@ -9,7 +9,7 @@ import { there } from "./there.mjs";
 /** @typedef {{ name: string, source: string, inputs: import("../engine/saxtegun").Session["inputs"], level: string, index: number, rest?: unknown[] }} Entry */
 
 const WORDS = ["undo", "restart", "tick"];
-const MOST_INDEX = 2 ** 64;
+const MOST_INDEX = 2n ** 64n - 1n;
 const HALF_A_LETTER = /\p{Surrogate}/u;
 const isWhite = (byte) => byte === 0x20 || byte === 0x0a || byte === 0x0d || byte === 0x09;
 const QUOTE = 0x22, BACKSLASH = 0x5c;
@@ -32,12 +32,16 @@ const DEMAND = "solved";
 const MOST_ELEMENTS = 10_000; // of an entry and its body, of which five have a meaning, and of the lists and objects behind those
 const MOST_DEEP = 127; // lists and objects that stand in one another
 
+// Whether a value is a number that is beyond the largest there is: JSON.parse makes it infinite.
+const isInfinite = (value) => value === Infinity || value === -Infinity;
+
 const isHolder = (value) => value !== null && typeof value === "object";
 
-// What there is in an element that the engine ignores: whether a text or a name in it has half a letter, whether one holds the demand, how deep its lists and
-// objects go, and how many things they have, each as far as is asked for. Each is listed once: an object with a million members takes long.
+// What there is in an element that the engine ignores: whether a text or a name in it has half a letter, whether one holds the demand, whether a number is
+// beyond the largest, how deep its lists and objects go, and how many things they have, each as far as is asked for. Each is listed once: an object with a
+// million members takes long.
 function contentOf(element, most = MOST_ELEMENTS) {
-  const content = { isHalf: false, isDemand: false, depth: 0, count: 0 };
+  const content = { isHalf: false, isDemand: false, isInfinite: isInfinite(element), depth: 0, count: 0 };
   const see = (text) => {
     content.isHalf ||= hasHalfALetter(text);
     content.isDemand ||= text.toLowerCase().includes(DEMAND);
@@ -53,6 +57,7 @@ function contentOf(element, most = MOST_ELEMENTS) {
       for (const value of Array.isArray(holder) ? holder : names.map((name) => holder[name])) {
         if (typeof value === "string") see(value);
         else if (isHolder(value)) inside.push(value);
+        else content.isInfinite ||= isInfinite(value);
       }
     }
     level = inside;
@@ -63,6 +68,7 @@ function contentOf(element, most = MOST_ELEMENTS) {
 // What of such elements the command's program would not read, or null; `most` is how deep they may be.
 function ignoredFault(contents, most) {
   if (contents.some(({ isHalf }) => isHalf)) return HALF;
+  if (contents.some((it) => it.isInfinite)) return "a number in it is beyond the largest number";
   return contents.some(({ depth }) => depth > most) ? `its lists and objects are more than ${MOST_DEEP} deep` : null;
 }
 
@@ -104,7 +110,7 @@ function contentsOf(elements, whole) {
     const content = contentOf(element);
     if (whole === undefined || !isHolder(element)) return content;
     const all = contentOf(whole[place], 2 * MOST_ELEMENTS), { isHalf, isDemand, depth } = all;
-    return { isHalf, isDemand, depth, count: all.count > 2 * MOST_ELEMENTS ? Infinity : content.count };
+    return { isHalf, isDemand, isInfinite: all.isInfinite, depth, count: all.count > 2 * MOST_ELEMENTS ? Infinity : content.count };
   });
 }
 
@@ -122,13 +128,16 @@ function furtherFault(body, rest, whole) {
   return `its further element ${told} "${DEMAND}", and would demand nothing`;
 }
 
+const noInputTold = (place) => `its input ${place} is neither 0 to 4 nor undo, restart or tick`;
+const NO_INDEX = "its index is no whole number";
+
 // What makes a value no body of a session, a list of its source, inputs, level and index, or null.
 /** @type {(body: any[]) => string | null} */
 export function bodyFault([source, inputs, level, index = null]) {
   if (typeof source !== "string" || !Array.isArray(inputs) || typeof level !== "string") return "after its name there is no list of a source, a list of inputs and a level text";
   const bad = inputs.findIndex((input) => !isInput(input));
-  if (bad >= 0) return `its input ${bad} is neither 0 to 4 nor undo, restart or tick`;
-  if (index !== null && !(Number.isInteger(index) && index >= 0 && index <= MOST_INDEX)) return "its index is no whole number";
+  if (bad >= 0) return noInputTold(bad);
+  if (index !== null && !(Number.isInteger(index) && index >= 0 && index <= Number(MOST_INDEX))) return NO_INDEX;
   return [source, level].some(hasHalfALetter) ? HALF : null;
 }
 
@@ -182,6 +191,32 @@ export const restOf = (entry) => (entry.length > 2 ? { rest: entry.slice(2) } : 
 export const isSolvedWanted = ({ rest = [] }) => rest.includes(DEMAND);
 
 const encoded = (value) => new TextEncoder().encode(JSON.stringify(value));
+
+const MINUS = 0x2d, POINT = 0x2e;
+const isDigit = (byte) => byte >= 0x30 && byte <= 0x39;
+
+// Whether a number in bytes of JSON may be written otherwise than as digits: JSON.parse leaves of 3.0 and 2.99999999999999999999 what it leaves of 3.
+function hasOddNumbers(bytes) {
+  let isText = false;
+  for (let at = 0; at < bytes.length; at += 1) {
+    const byte = bytes[at];
+    if (byte === QUOTE) isText = !isText;
+    else if (isText) at += byte === BACKSLASH ? 1 : 0;
+    else if (byte === MINUS || byte === POINT || ((byte === 0x65 || byte === 0x45) && isDigit(bytes[at - 1]))) return true;
+  }
+  return false;
+}
+
+const isLongIndex = (entry) => entry?.[1]?.[3] > Number.MAX_SAFE_INTEGER;
+
+// What of the inputs and the index of an entry isn't written as digits, as the engine wants it, or null.
+/** @type {(bytes: Uint8Array, span: Span) => string | null} */
+function writingFault(bytes, span) {
+  const [, inputs, , index] = spansIn(bytes, bodyIn(bytes, span), 4), bad = spansIn(bytes, inputs).findIndex(([begin, end]) => bytes[begin] !== QUOTE && end - begin > 1);
+  if (bad >= 0) return noInputTold(bad);
+  const written = index === undefined ? "null" : new TextDecoder().decode(bytes.subarray(...index));
+  return written === "null" || (/^[0-9]{1,20}$/.test(written) && BigInt(written) <= MOST_INDEX) ? null : NO_INDEX;
+}
 
 function entryOf(value, number, whole) {
   const fault = faultOf(value, whole);
@@ -274,7 +309,10 @@ function sessionsIn(name, bytes) {
   if (!Array.isArray(values)) throw new Refusal(`${name} is no JSON list of sessions`);
   const whole = values.some(hasIgnored) ? JSON.parse(textOf(withoutObjects(bytes), name)) : [];
   try {
-    return values.map((value, number) => entryOf(value, number, whole[number]));
+    const entries = values.map((value, number) => entryOf(value, number, whole[number])), isOdd = hasOddNumbers(bytes), spans = isOdd || values.some(isLongIndex) ? spansIn(bytes, [0, bytes.length]) : [];
+    const faults = spans.map((span, number) => (isOdd || isLongIndex(values[number]) ? writingFault(bytes, span) : null)), bad = faults.findIndex((fault) => fault !== null);
+    if (bad >= 0) throw new Refusal(`session ${bad}: ${faults[bad]}`);
+    return entries;
   } catch (error) {
     throw error instanceof Refusal ? new Refusal(`${name}, ${error.message}`) : error;
   }

@@ -108,8 +108,8 @@ test("a session is added, replaced and removed", () => {
   assert.equal(textOf(file.with(entry).bytes), FILE.replace('"b:0,"]]', `"b:0,"]],\n${three}`));
   assert.equal(textOf(file.withReplaced(1, entry).bytes), FILE.replace('["\\u0074wo",["",[],"b:0,"]]', three));
   // what stands behind a body stays where another session takes the place
-  const demanding = new SessionFile("f", bytesOf('[["one",["s",[],"",0,"seed"],"solved" , {"a":1e400}]]'));
-  assert.equal(textOf(demanding.withReplaced(0, entry).bytes), '[["three",["s",[3],"",2],"solved",{"a":1e400}]]');
+  const demanding = new SessionFile("f", bytesOf('[["one",["s",[],"",0,"seed"],"solved" , {"a":1e300}]]'));
+  assert.equal(textOf(demanding.withReplaced(0, entry).bytes), '[["three",["s",[3],"",2],"solved",{"a":1e300}]]');
   assert.deepEqual(file.with(entry).without(1).entries.map(({ name }) => name), ["one", "three"]);
   assert.deepEqual(file.without(0).entries.map(({ name }) => name), ["two"]);
   assert.deepEqual(file.without(1).without(0).entries, []);
@@ -126,6 +126,21 @@ test("what is no sessions file is refused with its place", () => {
   for (const [text, message] of refusals) assert.throws(() => new SessionFile("f", bytesOf(text)), (error) => error instanceof Refusal && error.message === message, text);
   assert.throws(() => new SessionFile("f", bytesOf("[,]")), Refusal);
   assert.throws(() => new SessionFile("f", new Uint8Array([0xff])), (error) => error.message === "f is no text in UTF-8");
+});
+
+test("inputs and indices are written as digits, as the program wants them, and no number is beyond the largest", () => {
+  const input = "f, session 1: its input 1 is neither 0 to 4 nor undo, restart or tick", index = "f, session 1: its index is no whole number", beyond = "a number in it is beyond the largest number";
+  const withBody = (body) => `[["a",["",[0,"\\u0075ndo"],"",null],{"x":[1.5,-2e3]}],["b",${body}]]`;
+  for (const number of ["3.0", "3e0", "-0", "0.99999999999999999999", "3.00000000000000000001"]) {
+    assert.throws(() => new SessionFile("f", bytesOf(withBody(`["",[1, ${number} ,2],""]`))), (error) => error.message === input, number);
+  }
+  for (const number of ["1.0", "-0", "1e0", "18446744073709551616", "18446744073709551999"]) {
+    assert.throws(() => new SessionFile("f", bytesOf(`[["a",["",[],""]],["b",["",[1],"", ${number}]]]`)), (error) => error.message === index, number);
+  }
+  for (const more of ['"",[],"",0,1e400', `"",[],"",0,${"9".repeat(400)}`, '"",[],"",0,[{"x":-1e400}]', '"",[],"",0,{"x":1e400,"x":1}']) {
+    assert.throws(() => new SessionFile("f", bytesOf(withBody(`[${more}]`))), (error) => error.message === `f, session 1: ${beyond}`, more);
+  }
+  for (const body of ['["",[1,"\\u0074ick","restart", 4 ],"",0]', '["",[],"", 18446744073709551615 ]', '["",[],"",null,1e300]', '["",[],"-1.5e3"]']) assert.equal(new SessionFile("f", bytesOf(withBody(body))).entries.length, 2, body);
 });
 
 test("a fault of the engine is told in words", () => {
