@@ -99,24 +99,48 @@ export const PASTED = "pasted";
 // Whether a text that is pasted into an element is left to it: not one that a browser would lay out there for minutes.
 export const isTyped = (text, element) => text === "" || (Boolean(element.matches?.("textarea, input")) && whyNoField(text) === null);
 
-// Hands on files that are chosen, dropped or pasted, as above. That some are being read is told by during(promise).
-export function takeFiles(take, refuse, during) {
-  const takeAll = (files) => during(takeEach(files, take, refuse));
+// Whether a text may be dropped into an element, as the browser does that.
+const isField = (element) => Boolean(element.matches?.("textarea, input[type=text], input[type=search], input:not([type])")) && !element.readOnly && !element.disabled;
+
+// Holds what is dropped before the page can take files: a browser would open it in the place of the page, whoever made it. The answer ends that, and has the files.
+export function holdingDrops() {
+  /** @type {File[]} */
+  const held = [], hold = (event) => {
+    event.preventDefault();
+    if (event.type === "drop") held.push(...event.dataTransfer?.files ?? []);
+  };
+  const types = ["dragover", "drop"];
+  types.forEach((type) => document.addEventListener(type, hold));
+  return () => {
+    types.forEach((type) => document.removeEventListener(type, hold));
+    return held;
+  };
+}
+
+// Hands on files that are chosen or dropped, as above, and texts that are pasted or dropped. during(begin) begins to read what one act of a hand brought;
+// `held` are files that came before.
+export function takeFiles(take, refuse, during, held) {
+  const takeAll = (files) => during(() => takeEach(files, take, refuse)), takeText = (text) => during(() => take(PASTED, new TextEncoder().encode(text)));
   at("open").addEventListener("click", () => at("file").click());
   at("file").addEventListener("change", async () => {
     await takeAll([...at("file").files ?? []]);
     at("file").value = "";
   });
-  document.addEventListener("dragover", (event) => event.preventDefault());
+  document.addEventListener("dragover", (event) => {
+    if (event.dataTransfer?.types.includes("Files") || !isField(event.target)) event.preventDefault();
+  });
   document.addEventListener("drop", (event) => {
+    const files = [...event.dataTransfer?.files ?? []], text = event.dataTransfer?.getData("text/plain") ?? "";
+    if (files.length === 0 && isField(event.target) && whyNoField(text) === null) return;
     event.preventDefault();
-    const files = [...event.dataTransfer?.files ?? []];
     if (files.length > 0) takeAll(files);
+    else if (text !== "") takeText(text);
   });
   document.addEventListener("paste", (event) => {
     const text = event.clipboardData?.getData("text/plain");
     if (text === undefined || isTyped(text, event.target)) return;
     event.preventDefault();
-    take(PASTED, new TextEncoder().encode(text));
+    takeText(text);
   });
+  if (held.length > 0) takeAll(held);
 }

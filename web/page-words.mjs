@@ -90,9 +90,24 @@ export function notesTold({ notes }) {
 // How far something is read that came, where that takes long; or null.
 export const readingTold = (reading) => (reading?.isSlow ? { text: `${reading.what}: ${reading.done} of ${reading.total}.`, close: null } : null);
 
+const MOST_REFUSALS = 5; // that are told of files that came at once
+
+// Why files aren't opened, in sentences.
+function refusalsTold(refusals) {
+  const more = refusals.length - MOST_REFUSALS;
+  return [...refusals.slice(0, MOST_REFUSALS).map((why) => `Not opened: ${why}.`), ...(more > 0 ? [`Nor ${plural(more, "more file")}.`] : [])];
+}
+
 // What stands above the level: { text, close }.
 /** @param {State} state */
 export function statusOf(state) {
+  const { refusals, told } = state;
+  return refusals.length === 0 ? statusOfWork(state) : { text: [...refusalsTold(refusals), ...(told === null ? [] : [told.text])].join(" "), close: "refused" };
+}
+
+// The same of what is worked on.
+/** @param {State} state */
+function statusOfWork(state) {
   if (state.told !== null) return state.told;
   if (state.isHeld) return { text: "This is not played yet. An edit, a key or Play plays it.", close: null };
   if (!isPlayed(state)) return { text: "", close: null };

@@ -6,7 +6,7 @@ import { Drawn } from "./drawn.mjs";
 import { Ghost } from "./ghost.mjs";
 import { at, isMotionReduced, json } from "./elements.mjs";
 import { titlesOf } from "./findings.mjs";
-import { PASTED, download, handing, takeFiles } from "./handing.mjs";
+import { PASTED, download, handing, holdingDrops, takeFiles } from "./handing.mjs";
 import { keptOf, stateOfVisit } from "./kept-work.mjs";
 import { Store } from "./keeping.mjs";
 import { listen } from "./listening.mjs";
@@ -23,7 +23,7 @@ import { say } from "./saying.mjs";
 import { linePointedAt, lookedAtActed, stageChosen } from "./staging.mjs";
 import { sessionOpened } from "./suite.mjs";
 import { there } from "./there.mjs";
-import { RECORDED_ORDER, cutBack, edited, inOrder, lookedAt, lookedAtInput, pressed, released, withGame } from "./work.mjs";
+import { RECORDED_ORDER, cutBack, edited, inOrder, lookedAt, lookedAtInput, pressed, released, withGame, withRefusal, withoutRefusals } from "./work.mjs";
 
 const FRAME_PAUSE = 160; // milliseconds between two frames when playing
 
@@ -36,7 +36,7 @@ class Playground {
     const acts = {
       open: (number) => this.act(sessionOpened, number), input: (taken) => this.act(lookedAtInput, taken), frame: (frame) => this.act(lookedAt, frame),
       stage: (number) => this.act(stageChosen, number), acted: (input) => this.act(lookedAtActed, input), point: (line) => this.act(linePointedAt, line),
-      type: (text) => this.runner.type((now) => edited(now, text)),
+      type: (text) => this.runner.type((now) => withoutRefusals(edited(now, text))),
     };
     this.page = new Drawn(acts);
     this.animation = new Animation(() => this.runner.show(), isMotionReduced);
@@ -55,8 +55,13 @@ class Playground {
     else this.page.draw(seen, doing, isBusy);
   }
 
-  // Does something to the state. Frames that are shown one after another stop.
+  // Does something to the state by hand. Frames that are shown one after another stop, and what was said of files that came before is read by then.
   act(change, ...words) {
+    this.taking((state) => withoutRefusals(change(state, ...words)));
+  }
+
+  // Does to the state what a file leads to.
+  taking(change, ...words) {
     this.stopMoving();
     this.runner.update((state) => change(state, ...words));
   }
@@ -64,7 +69,7 @@ class Playground {
   // Does what a key does that may be held down.
   actByKey(change, ...words) {
     this.stopMoving();
-    this.runner.update((state) => change(state, ...words), true);
+    this.runner.update((state) => withoutRefusals(change(state, ...words)), true);
   }
 
   stopMoving() {
@@ -151,7 +156,7 @@ class Playground {
       const it = await this.runner.reading(`Reading ${name}`, (...words) => this.read(name, bytes, ...words));
       if (it === null) throw new Refusal(`${name} was stopped while it was read`);
       if (it.kind === "recordings") await this.add(it.found, it.skipped);
-      else if (it.kind === "sessions") this.act(withOtherFile, new SessionFile(name, it.bytes), name === PASTED);
+      else if (it.kind === "sessions") this.taking(withOtherFile, new SessionFile(name, it.bytes), name === PASTED);
       else if (it.kind === "lines") await this.compare(name, it.text);
       else this.takeGame(it.text);
     } catch (error) {
@@ -172,23 +177,29 @@ class Playground {
     await this.runner.idle();
     const comparison = await this.runner.reading("Comparing sessions", (...words) => inPieces(comparing(this.state, name, text), ...words));
     if (comparison === null) throw new Refusal(`${name} was stopped while it was compared`);
-    this.act(withComparison, comparison);
+    this.taking(withComparison, comparison);
   }
 
   // Adds recordings, once the texts are read that they are of.
   async add(recordings, skipped) {
     const titles = await this.runner.reading("Reading the texts of recordings", (...words) => titlesOf(recordings, ...words));
     if (titles === null) throw new Refusal("it was stopped while its texts were read");
-    this.act(withRecordings, recordings, skipped, titles);
+    this.taking(withRecordings, recordings, skipped, titles);
   }
 
-  // Says why a file isn't opened.
+  // Says why a file isn't opened, until something else is done by hand: what comes beside it says nothing of that.
   refuse(why) {
-    this.act((state) => ({ ...state, told: { text: `Not opened: ${why}.`, close: "refused" } }));
+    this.taking(withRefusal, why);
+  }
+
+  // Begins to read what one act of a hand has brought.
+  during(begin) {
+    this.act((state) => state);
+    return this.runner.during(begin());
   }
 
   takeGame(text) {
-    this.act(withGame, text.replaceAll("\r\n", "\n"));
+    this.taking(withGame, text.replaceAll("\r\n", "\n"));
     at("stage").focus();
   }
 
@@ -202,12 +213,12 @@ class Playground {
 }
 
 async function start() {
-  const example = json("example-game"), [engine, store] = await Promise.all([startEngine(), Store.open()]);
+  const release = holdingDrops(), example = json("example-game"), [engine, store] = await Promise.all([startEngine(), Store.open()]);
   const { state, read, ...visit } = stateOfVisit(store.entries, example), told = visitTold({ ...visit, isCut: visit.isCut || store.isCut, isGone: store.isGone });
   await store.goOn(read);
   const page = new Playground(state, engine, store);
   listen(page);
-  takeFiles((name, bytes) => page.take(name, bytes), (why) => page.refuse(why), (coming) => page.runner.during(coming));
+  takeFiles((name, bytes) => page.take(name, bytes), (why) => page.refuse(why), (begin) => page.during(begin), release());
   page.runner.update((now) => (told === null ? now : { ...now, told: { text: told, close: null } }));
   document.body.inert = false;
   await page.runner.idle();

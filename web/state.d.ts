@@ -166,6 +166,7 @@ export interface State {
   since: (Parting & { at: number }) | null;
   messages: string[];
   told: Told | null;
+  refusals: string[];
   saved: string;
   staging: Staging;
   solving: { asked: Asked | null; came: { solution: Found | null; frames: Frame[]; fault: string | null } | null };

@@ -124,10 +124,11 @@ function partingKnown(...runs) {
   }
 }
 
-// Whether what is worked on may make way for a session: it is nothing, or stands in the file.
+// Whether what is worked on may make way for a session: no key waits, and it is nothing, or stands in the file.
 /** @param {State} state */
 function mayMakeWay(state) {
-  const { work, file } = state;
+  const { work, file, queue } = state;
+  if (queue.length > 0) return false;
   if (work.opened !== null) return isSessionOpen(state);
   return work.inputs.length === 0 && work.name === "" && file !== null;
 }

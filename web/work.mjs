@@ -53,6 +53,7 @@ export function beginning(example) {
     since: null, // where the session that is open began to go another way
     messages: [], // of LEVELS, which are shown one after another before play goes on
     told: null, // what was said of the last act
+    refusals: [], // why files aren't opened that came last
     saved: "",
     staging: UNSTAGED,
     solving: { asked: null, came: null }, // what is looked for that wins, and what was found
@@ -61,6 +62,14 @@ export function beginning(example) {
 
 // What no longer holds once another text is at hand.
 const AFRESH = { seen: new Map(), isHeld: false, comparison: null, messages: [], told: null, saved: "", since: null };
+
+// ---- files that aren't opened
+
+/** @param {State} state @param {string} why */
+export const withRefusal = (state, why) => ({ ...state, refusals: [...state.refusals, why] });
+
+/** @param {State} state */
+export const withoutRefusals = (state) => (state.refusals.length === 0 ? state : { ...state, refusals: [] });
 
 // ---- the recording
 

@@ -10,8 +10,8 @@ import { SessionFile } from "../../web/session-file.mjs";
 import { accepted, followed, namesakeOf, removed, savedAs, savedLater, withOtherFile, withRecordings } from "../../web/filing.mjs";
 import { lastLost } from "../../web/past.mjs";
 import { framesOf, isPlayed, shownOf, sourceOf } from "../../web/replaying.mjs";
-import { differenceOf, playedAgain, rowsOf, seenOf, sessionOf, sessionOpened } from "../../web/suite.mjs";
-import { beginning, begunAnew, cutBack, edited, fromLevel, held, inOrder, lookedAt, lookedAtInput, named, pressed, putBack, released, withGame, withOwnText } from "../../web/work.mjs";
+import { differenceOf, playedAgain, rowsOf, seenOf, sessionOf, sessionOpened, suiteCame } from "../../web/suite.mjs";
+import { beginning, begunAnew, cutBack, edited, fromLevel, held, inOrder, lookedAt, lookedAtInput, named, pressed, putBack, released, withGame, withOwnText, withRefusal, withoutRefusals } from "../../web/work.mjs";
 import { Bench, GAME, comparedWithLines, module, read } from "./bench.mjs";
 
 const PUSH = "[ > Player | Crate ] -> [ > Player | > Crate ]", BROKEN = GAME.replace(PUSH, "[ > Player | Crate ] -> [ Player | Crate ]");
@@ -255,6 +255,27 @@ it("the first session that breaks is shown where nothing is in the way, and else
   await bench.act(pressed, 3);
   await bench.act(edited, BROKEN);
   assert.deepEqual([bench.state.work.inputs, bench.state.work.opened, tabTold(bench.state)], [[3], null, "Sessions: 1 differs"]);
+});
+
+it("no session that broke is opened while keys wait", async () => {
+  const bench = await withPush();
+  await bench.act(fromLevel, 1);
+  await bench.act(savedAs);
+  await bench.act(sessionOpened, 1);
+  const asked = edited(bench.state, BROKEN), waiting = { ...asked, queue: [{ input: 3, behind: null, looked: null }] };
+  await bench.act(edited, BROKEN);
+  const answer = { fault: null, lines: bench.state.suite.lines, unsolved: new Set() }, openedIn = (state) => suiteCame(state, state, answer, 1).work.opened;
+  assert.deepEqual([openedIn(asked), openedIn(waiting)], [0, 1]);
+});
+
+it("why files aren't opened is said beside what else is, until something is done by hand", () => {
+  const state = withRefusal(withRefusal(beginning(GAME), "one.json is no list"), "two.json is empty"), said = "Not opened: one.json is no list. Not opened: two.json is empty.";
+  assert.deepEqual(statusOf(state), { text: said, close: "refused" });
+  const next = withGame(state, `${GAME}\n`);
+  assert.deepEqual(statusOf({ ...next, told: { text: "Taken.", close: null } }), { text: `${said} Taken.`, close: "refused" });
+  assert.deepEqual(statusOf(withoutRefusals(next)), { text: "", close: null });
+  const many = Array.from({ length: 7 }, (_, number) => `${number}`).reduce(withRefusal, beginning(GAME));
+  assert.equal(statusOf(many).text, "Not opened: 0. Not opened: 1. Not opened: 2. Not opened: 3. Not opened: 4. Nor 2 more files.");
 });
 
 it("a file of one session is opened at once, is looked at from its start where it passes, and what is done with it meanwhile stays", async () => {
