@@ -4,7 +4,9 @@ from __future__ import annotations
 import json
 import os
 import signal
+import subprocess
 import sys
+import time
 import unittest
 from pathlib import Path
 from typing import Any, Iterator, List, Sequence, Set, Tuple, Union
@@ -12,7 +14,9 @@ from unittest import mock
 
 from day import OnSessions
 import tool  # puts the package on the path
-from tool import PROGRAM, Answer, plays, run
+from test_compare import state_of
+from test_processes import hear_signals
+from tool import PROGRAM, TOP, Answer, environment, plays, run
 from saxtegun.commands import Refused
 from saxtegun.engines import answers
 from saxtegun.lines import Run
@@ -201,6 +205,22 @@ class Shrink(OnAYard):
         finally:
             signal.signal(signal.SIGTERM, before)
         self.assertEqual((os.listdir(self.room / "c"), list(self.room.glob(".saxtegun-*"))), (["status"], []))
+
+    def test_what_ends_it_ends_the_program_that_it_waits_for(self) -> None:
+        """Also where Python takes the thread for ended in which that is waited for."""
+        sleeper = self.write("sleeper", f"#!/bin/sh\necho $$ >>'{self.room}/pids'\nexec sleep 1000\n")
+        sleeper.chmod(0o755)
+        pids = self.room / "pids"
+        for number in (signal.SIGTERM, signal.SIGINT, signal.SIGHUP):
+            pids.unlink(missing_ok=True)
+            command = [sys.executable, TOP / "saxtegun", "shrink", sleeper, self.other, self.sessions, "idle", self.room / "case", "--timeout", "100"]
+            ran = subprocess.Popen(list(map(str, command)), stdin=subprocess.DEVNULL, stdout=subprocess.DEVNULL, stderr=subprocess.DEVNULL, env=environment(), preexec_fn=hear_signals)
+            while not pids.exists() or not pids.read_text().endswith("\n"):
+                time.sleep(0.05)
+            time.sleep(0.5)
+            ran.send_signal(number)
+            ran.wait(60)
+            self.assertEqual(state_of(int(pids.read_text())), "X", number)
 
     def test_a_case_has_the_lines_that_were_looked_at(self) -> None:
         """The program that is kept says nothing in its last call."""

@@ -10,7 +10,7 @@ import subprocess
 import tempfile
 from collections import deque
 from contextlib import contextmanager
-from threading import Thread, current_thread, main_thread
+from threading import Event, Thread, current_thread, main_thread
 from time import monotonic
 from typing import IO, Any, Callable, Deque, Dict, Generic, Iterator, List, Mapping, NamedTuple, Optional, Sequence, TypeVar
 
@@ -76,6 +76,8 @@ class Beside(Thread, Generic[Value]):
         self.why: Optional[BaseException] = None
         self.ran: "Optional[subprocess.Popen[bytes]]" = None
         self.is_left = False
+        # a thread whose join a signal has broken off counts as ended, in some versions of Python, though it goes on
+        self.done = Event()
         self.start()
 
     def run(self) -> None:
@@ -83,11 +85,13 @@ class Beside(Thread, Generic[Value]):
             self.values.append(self.act())
         except BaseException as why:
             self.why = why
+        finally:
+            self.done.set()
 
     def wait(self) -> None:
         """Waits until it is done. A signal that comes just before this waits is heard only once it is awake again."""
-        while self.is_alive():
-            self.join(PAUSE)
+        while not self.done.wait(PAUSE):
+            pass
 
     def result(self) -> Value:
         """What came of it, once it is done."""
@@ -99,11 +103,11 @@ class Beside(Thread, Generic[Value]):
     def leave(self) -> None:
         """Ends the program that it has started, and so itself, since it starts no other."""
         self.is_left = True
-        while self.is_alive():
+        while not self.done.is_set():
             ran = self.ran
             if ran is not None and ran.poll() is None:
                 end(ran)
-            self.join(PAUSE)
+            self.done.wait(PAUSE)
 
 
 @contextmanager
