@@ -25,6 +25,7 @@ ROUND = "to_rest(lambda: any([self.rest(group) for group in groups]))"
 FROM_THE_FIRST = f"while groups:{BREAK}            did = [self.rest(it) for it in groups]{BREAK}            groups = groups[did.index(True):] if any(did) else []"
 JOINED = '"orthogonal": CLASSES["orthogonal"], "horizontal": HORIZONTAL, "vertical": VERTICAL}'
 TO = "to_x, to_y = x + STEPS[heading][0], y + STEPS[heading][1]"
+CHANGED = "has_changed = level != self.level"
 FREE = "layer not in self.level[to_x][to_y]"
 
 
@@ -104,6 +105,15 @@ ERRORS: Dict[Tuple[str, str], List[Tuple[str, str, str]]] = {
     ("rules.prefixes", "late-twice"): [
         ("it may stand there once", 'any(it != "late"', 'prefixes.count("late") > 1 or any(it != "late"'),
     ],
+    ("rules.prefixes", "two-rules-that-undo-each-other-stop-at-the-loop-limit"): [
+        ("a `+` rule is a group of its own", "if not joins:", "if True:"),
+    ],
+    ("expand.names", "each-member-of-an-aggregate-gets-the-word"): [
+        ("the first alone gets it", MEMBERS, "items += [Item(None if number else it.word, member) for number, member in enumerate(members)]"),
+    ],
+    ("rules.class-words", "each-movement-word-on-the-left-fits-its-directions"): [
+        ("action is no movement", '"moving": ("up", "down", "left", "right", "action")', '"moving": ("up", "down", "left", "right")'),
+    ],
     ("legend.lines", "two-names-on-the-left"): [
         ("the first is defined", "len(left) != 1 or", "not left or"),
     ],
@@ -121,6 +131,9 @@ ERRORS: Dict[Tuple[str, str], List[Tuple[str, str, str]]] = {
     ],
     ("play.checkpoint", "a-tick-that-sets-a-checkpoint"): [
         ("a press alone does", 'if "checkpoint" in given:', 'if "checkpoint" in given and kind == "move":'),
+    ],
+    ("play.checkpoint", "a-restart-command-goes-back-to-the-checkpoint"): [
+        ("it is the level before the step", CHANGED, f'{CHANGED}{BREAK}if "checkpoint" in given:{BREAK}    self.target, given = copy_of(self.level), given - {{"checkpoint"}}'),
     ],
     ("play.start-ticks", "the-rules-run-at-the-start"): [
         ("they don't", "self.chain(self.starts())", "self.chain(False)"),
