@@ -13,6 +13,8 @@ from typing import Tuple
 from day import EXAMPLE, OnSessions
 from tool import PROGRAM, TOP, plays, run
 from saxtegun.lines import READER, frame_of, written_frame
+from saxtegun.playing import refusal
+from saxtegun.sessions import sessions_in
 from saxtegun.verbs.lines import Closed, Tally
 
 RUN = TOP / "conformance/run"
@@ -40,6 +42,9 @@ class Lines(OnSessions):
         answer = run("lines", EXAMPLE, "--program", program)
         self.assert_refused(answer, "block-pushing.json was not played: the recorded level of session 4 (a recording that has gone stale) is no level text (bad-level 4)")
         self.assert_refused(run("lines", "--program", program, stdin=b"[]"), "standard input was not played: the recorded level of session 4 is no level text")
+        # of sessions that are played alone the number is their own
+        alone = sessions_in("s.json", '[["a",["x",[],"a:0,"]],["b",["x",[],"a:0,"]]]').entries[1:]
+        self.assertEqual(refusal("bad-level 0", "s.json", alone), "s.json was not played: the recorded level of session 1 (b) is no level text (bad-level 1)")
         self.assert_refused(run("lines", EXAMPLE, "--program", self.program("kill -9 $$")), "was not played: nothing is told")
 
     def test_what_an_ended_program_has_left_behind_is_not_waited_for(self) -> None:

@@ -5,7 +5,7 @@ import { at } from "./elements.mjs";
 import { allSkippedTold, nothingTold } from "./findings.mjs";
 import { atOnce } from "./pieces.mjs";
 import { MOST_SESSIONS, Refusal, codingOf, textOf } from "./session-file.mjs";
-import { MOST_OF_A_SOURCE, hasManyLists, whyNoField } from "./texts.mjs";
+import { MOST_OF_A_SOURCE, asInField, hasManyLists, whyNoField } from "./texts.mjs";
 /** @typedef {{ kind: string, text: string, bytes?: Uint8Array, found?: import("./session-file.mjs").Entry[], skipped?: object[] }} Handed */
 
 const MOST_OF_A_FILE = 64 * 2 ** 20; // of a file that is read, as python/saxtegun/files.py has it
@@ -58,7 +58,7 @@ export function* handing(name, bytes) {
   const why = nothingTold(plain);
   if (why !== null) throw new Refusal(`${name}: ${why}`);
   const whyNot = whyNoField(plain);
-  if (whyNot !== null) throw new Refusal(`${name} ${whyNot}: play it by the command, or shorten it`);
+  if (whyNot !== null) throw new Refusal(`${name} ${whyNot}: play it by the command, or edit it`);
   return { kind: "game", text: plain };
 }
 
@@ -97,7 +97,7 @@ export async function takeEach(files, take, refuse) {
 export const PASTED = "pasted";
 
 // Whether a text that is pasted into an element is left to it: not one that a browser would lay out there for minutes.
-export const isTyped = (text, element) => text === "" || (Boolean(element.matches?.("textarea, input")) && whyNoField(text) === null);
+export const isTyped = (text, element) => text === "" || (Boolean(element.matches?.("textarea, input")) && whyNoField(asInField(text)) === null);
 
 // Whether a text may be dropped into an element, as the browser does that.
 const isField = (element) => Boolean(element.matches?.("textarea, input[type=text], input[type=search], input:not([type])")) && !element.readOnly && !element.disabled;
@@ -131,7 +131,7 @@ export function takeFiles(take, refuse, during, held) {
   });
   document.addEventListener("drop", (event) => {
     const files = [...event.dataTransfer?.files ?? []], text = event.dataTransfer?.getData("text/plain") ?? "";
-    if (files.length === 0 && isField(event.target) && whyNoField(text) === null) return;
+    if (files.length === 0 && isField(event.target) && whyNoField(asInField(text)) === null) return;
     event.preventDefault();
     if (files.length > 0) takeAll(files);
     else if (text !== "") takeText(text);

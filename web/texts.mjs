@@ -24,7 +24,10 @@ export const isTooLong = (text) => text.length > MOST_OF_A_SOURCE || (3 * text.l
 const beyondIn = (text) => text.replace(PRINTABLE, "").length;
 const isBeyond = (text, most) => text.length > most && beyondIn(text) > most;
 
-// Why a text isn't put into the field where it would be edited, in words that go on behind it; or null.
+// A text as a field gives it back.
+export const asInField = (text) => text.replace(/\r\n?/g, "\n");
+
+// Why a text isn't put into the field where it would be edited, in words that go on behind it; or null. A game has its lines between line feeds.
 export function whyNoField(text) {
   if (isTooLong(text)) return "is longer than a game's text may be";
   const lines = text.split(END_OF_LINE), at = lines.findIndex((line) => isBeyond(line, MOST_BEYOND_ASCII));
@@ -32,7 +35,9 @@ export function whyNoField(text) {
   if (at >= 0) return `has more than 4,096 letters beyond printable ASCII on line ${at + 1}, ${LAID_OUT}`;
   const onLongLines = lines.filter((line) => line.length > LONG_LINE).reduce((sum, line) => sum + line.length * beyondIn(line), 0);
   if (onLongLines > MOST_ON_LONG_LINES) return `has many letters beyond printable ASCII on very long lines, ${LAID_OUT}`;
-  return isBeyond(text, MOST_BEYOND_IN_ALL) ? `has more than 32,768 letters beyond printable ASCII, ${LAID_OUT}` : null;
+  if (isBeyond(text, MOST_BEYOND_IN_ALL)) return `has more than 32,768 letters beyond printable ASCII, ${LAID_OUT}`;
+  const within = text.search(/\r(?!\n)/);
+  return within < 0 ? null : `has a carriage return within line ${text.slice(0, within).split("\n").length}, which a field shows as the end of a line`;
 }
 
 // What is said where a text comes to hand otherwise than by the field.

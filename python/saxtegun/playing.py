@@ -84,7 +84,9 @@ def refusal(said: str, path: str, entries: Sequence[Entry] = ()) -> str:
     is_known = number is not None and match[1].startswith("bad-") and number < len(entries)
     named = f"{entries[number].number} ({cut(entries[number].name)})" if is_known and number is not None else match[2]
     where = broken_told(entries[number].level) if is_known and match[1] == "bad-level" and number is not None else ""
-    return f"{path} was not played: {REFUSALS[match[1]].format(number=named)}{where} ({line})"
+    # a part of the sessions may be played alone, of which the program counts another number
+    own = f"{match[1]} {entries[number].number}" if is_known and number is not None else line
+    return f"{path} was not played: {REFUSALS[match[1]].format(number=named)}{where} ({own})"
 
 
 def watched_in_time(words: Sequence[str], output: IO[bytes], engine: Engine, seconds: Optional[float]) -> Ran:

@@ -29,7 +29,7 @@ test("what is dropped is taken, and never opened by the browser in the place of 
     assert.deepEqual(taken.splice(0), [["a.txt", GAME], ["a.txt", GAME]]);
     for (const [type, what, left] of /** @type {[string, object, boolean][]} */ ([
       ["dragover", { files: [FILE] }, false], ["dragover", { text: "x" }, false], ["dragover", { text: "x", target: element(true) }, true], ["dragover", { files: [FILE], target: element(true) }, false],
-      ["drop", { files: [FILE], target: element(true) }, false], ["drop", { text: "x" }, false], ["drop", {}, false], ["drop", { text: "y", target: element(true) }, true],
+      ["drop", { files: [FILE], target: element(true) }, false], ["drop", { text: "x" }, false], ["drop", {}, false], ["drop", { text: "y\rz", target: element(true) }, true],
       ["drop", { text: "z", target: element(true, { readOnly: true }) }, false], ["drop", { text: "\u3042".repeat(5000), target: element(true) }, false],
     ])) assert.equal(isLeft(page, type, what), left, `${type} ${JSON.stringify(what)}`);
     await Promise.all(coming);

@@ -147,7 +147,7 @@ class Showing(MixedIn):
         self.assertEqual(self.browser.value(f"[{text('message-text')}.length, {text('message-text')}.at(-1)]"), [4001, "\u2026"])
         self.hand("game.txt", unsaid.encode())
         line = (HEAD + WIN).count("\n") + 1
-        told = f"Not opened: game.txt has more than 4,096 letters beyond printable ASCII on line {line}, which a browser may take minutes to lay out: play it by the command, or shorten it."
+        told = f"Not opened: game.txt has more than 4,096 letters beyond printable ASCII on line {line}, which a browser may take minutes to lay out: play it by the command, or edit it."
         self.assertEqual(self.browser.until(text("status"), told), told)
         self.assertEqual(self.browser.value("document.getElementById('source').value.length"), len(said))
 
