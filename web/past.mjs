@@ -141,14 +141,15 @@ const roomOfWork = ({ own, name, inputs }) => (own?.length ?? 0) + name.length +
 const bytesOf = ({ text = "", work, file }) => text.length + (work ? roomOfWork(work) : 0) + (file?.bytes.length ?? 0);
 
 // Of things that can be put back the last that were lost, in their places: as many as stay beside others, and as have room; one in any case where there are
-// no others.
+// no others. Those behind one that has no room may have some, unless they may be played over its text.
 export function lastLost(past, others = []) {
   const order = [...past.keys()].sort((one, other) => numberOf(past[other]) - numberOf(past[one]) || other - one), stays = new Set();
   let bytes = others.reduce((sum, it) => sum + bytesOf(it), 0);
   for (const place of order) {
-    const count = others.length + stays.size;
-    bytes += bytesOf(past[place]);
-    if (count === MOST_PAST || (count > 0 && bytes > MOST_BYTES_PAST)) break;
+    const count = others.length + stays.size, lost = past[place], more = bytesOf(lost), hasRoom = count === 0 || bytes + more <= MOST_BYTES_PAST;
+    if (count === MOST_PAST || (!hasRoom && lost.text !== undefined)) break;
+    if (!hasRoom) continue;
+    bytes += more;
     stays.add(place);
   }
   return stays.size === past.length ? past : past.filter((_, place) => stays.has(place));

@@ -533,6 +533,10 @@ test("what can be put back has 256 MiB, and the last that was lost in any case",
   assert.deepEqual(numbers([4, 100], [1, 1], [2, 100], [3, 56]), [4, 2, 3]);
   assert.deepEqual(numbers([4, 100], [1, 1], [2, 100], [3, 55]), [4, 1, 2, 3]);
   assert.deepEqual(numbers([2, 257], [1, 1]), [2]);
+  // what is small stays though something large behind it has no room, unless it may be played over the text of that
+  assert.deepEqual(numbers([1, 1], [2, 100], [3, 200], [4, 100]), [1, 2, 4]);
+  const [one, two, three] = [lost(1, 1), { ...lost(2, 200), text: GAME }, lost(3, 100)];
+  assert.deepEqual(lastLost([one, two, three]), [three]);
 });
 
 it("a text that was kept, and that a browser would lay out for minutes, is played as the recording's own, and the field begins with the example", async () => {

@@ -14,7 +14,8 @@ rules: S and T tell the stages of P and Q; `saxtegun` tells our own.
 
 FOLDER, which must not be there yet, gets the five files of a case; if it has
 come to be there meanwhile, FOLDER-2 does, or the next. Its stdout is what P
-wrote, and P may be wrong: read it against the rule before you keep it.
+wrote, or Q where P fails, and that may be wrong: read it against the rule
+before you keep it.
 
 Exit status: 0 a case was written, 1 the programs don't diverge, 2 something
 is refused."""
