@@ -584,7 +584,7 @@ export function elementsOf(bytes, most = Infinity) {
 // The file as files of consecutive sessions, each with the number of its first; null where it is played whole.
 /** @type {(bytes: Uint8Array, most: number) => Part[] | null} */
 export function partsOf(bytes, most) {
-  const elements = bytes.length > MOST_BYTES ? null : elementsOf(bytes);
+  const elements = bytes.length > MOST_BYTES ? null : elementsOf(bytes, MOST_SESSIONS + 1);
   if (!elements || elements.length < 2 || elements.length > MOST_SESSIONS || most < 2) return null;
   const count = Math.min(most, elements.length);
   return Array.from({ length: count }, (_, k) => {

@@ -82,7 +82,7 @@ class Starts(unittest.TestCase):
     def fault(self, level: str, rows: str, **words: Any) -> Any:
         source = f"OBJECTS\nBackground .\nred\nPlayer p\nred\nLEGEND\nCOLLISIONLAYERS\nBackground\nPlayer\nLEVELS\n{rows}\n"
         entry = sessions_in("x", json.dumps([["a", [source, [], LEVEL]]])).entries[0]
-        return start_fault(entry, Run(0, "a", "differs", None, [Frame(0, "start", level)]), Tests(is_drawn=True, **words))
+        return start_fault(entry, Run(0, "a", "differs", None, [Frame(0, "start", level)]), Tests(**{"is_drawn": True, **words}))
 
     def test_a_level_of_the_same_size_is_looked_at_in_both_orders(self) -> None:
         level = "background player:0,background:1,\n1,1,\n"
@@ -95,6 +95,8 @@ class Starts(unittest.TestCase):
     def test_where_there_is_no_time_left_to_read_sources_nothing_is_taken_as_theirs(self) -> None:
         with mock.patch("saxtegun.mismatches.EXPLAINING", Budget(0.0)):
             self.assertEqual(self.fault("background player:0,", "p", order="rows"), f"whether session 0 begins with the level that its source draws isn't known: {NOT_LOOKED_AT}")
+            # where the order alone is asked for, and nothing more is explained, an honest suite of very many games has its answer
+            self.assertIsNone(self.fault("background player:0,", "p", order="rows", is_drawn=False))
 
     def test_levels_are_drawn_up_to_the_limits_of_the_program(self) -> None:
         for width, height in ((255, 1), (1, 255), (128, 128)):

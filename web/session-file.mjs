@@ -210,8 +210,9 @@ function hasOddNumbers(bytes) {
 const isLongIndex = (entry) => entry?.[1]?.[3] > Number.MAX_SAFE_INTEGER;
 
 // What of the inputs and the index of an entry isn't written as digits, as the engine wants it, or null.
-/** @type {(bytes: Uint8Array, span: Span) => string | null} */
-function writingFault(bytes, span) {
+/** @type {(bytes: Uint8Array, span: Span, count: number) => string | null} */
+function writingFault(bytes, span, count) {
+  if (count > MOST_INPUTS) return null; // the engine refuses it, and a place of each would take gigabytes
   const [, inputs, , index] = spansIn(bytes, bodyIn(bytes, span), 4), bad = spansIn(bytes, inputs).findIndex(([begin, end]) => bytes[begin] !== QUOTE && end - begin > 1);
   if (bad >= 0) return noInputTold(bad);
   const written = index === undefined ? "null" : new TextDecoder().decode(bytes.subarray(...index));
@@ -310,7 +311,7 @@ function sessionsIn(name, bytes) {
   const whole = values.some(hasIgnored) ? JSON.parse(textOf(withoutObjects(bytes), name)) : [];
   try {
     const entries = values.map((value, number) => entryOf(value, number, whole[number])), isOdd = hasOddNumbers(bytes), spans = isOdd || values.some(isLongIndex) ? spansIn(bytes, [0, bytes.length]) : [];
-    const faults = spans.map((span, number) => (isOdd || isLongIndex(values[number]) ? writingFault(bytes, span) : null)), bad = faults.findIndex((fault) => fault !== null);
+    const faults = spans.map((span, number) => (isOdd || isLongIndex(values[number]) ? writingFault(bytes, span, entries[number].inputs.length) : null)), bad = faults.findIndex((fault) => fault !== null);
     if (bad >= 0) throw new Refusal(`session ${bad}: ${faults[bad]}`);
     return entries;
   } catch (error) {

@@ -115,7 +115,8 @@ def start_fault(entry: Entry, run: Run, tests: Tests) -> Optional[str]:
             EXPLAINING.look()
             return drawn_fault(entry, run, tests, tests.order, tuple(sets_of(cells, labels)) if may_begin_with(entry, len(cells)) else None)
     except UsedUp:
-        return f"whether session {run.number} begins with the level that its source draws isn't known: {NOT_LOOKED_AT}"
+        # what isn't wanted here serves explaining alone, which has ended
+        return f"whether session {run.number} begins with the level that its source draws isn't known: {NOT_LOOKED_AT}" if tests.is_drawn else None
 
 
 def drawn_fault(entry: Entry, run: Run, tests: Tests, order: str, shown: Optional[Cells]) -> Optional[str]:
