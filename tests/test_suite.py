@@ -309,6 +309,12 @@ class Suite(InARoom):
         other.write_bytes(text)
         self.assert_refused(run("join", self.parts), "these are lines of another part")
 
+    def test_a_part_without_sessions_is_read_once_at_most(self) -> None:
+        self.split_and_play(SUITES[0], 3)
+        manifest = self.parts / "parts.txt"
+        manifest.write_text('{"first": 0, "names": []}\n' + manifest.read_text())
+        self.assert_refused(run("join", self.parts), "parts.txt, line 1: a part without sessions, which is there only where it is the whole")
+
     def test_a_manifest_that_is_cut_is_reported(self) -> None:
         self.split_and_play(SUITES[0], 3)
         manifest = self.parts / "parts.txt"

@@ -72,6 +72,8 @@ def parts_in(path: str, lines: List[str]) -> List[Part]:
         part = part_in(line, wanted)
         if part is None:
             raise Refused(f"{path}, line {number}: not the part that begins with session {wanted}")
+        if not part.names and len(lines) > 1:
+            raise Refused(f"{path}, line {number}: a part without sessions, which is there only where it is the whole")
         parts.append(part)
         wanted += len(part.names)
     return parts
