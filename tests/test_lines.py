@@ -87,6 +87,16 @@ class Lines(OnSessions):
                 self.assertIn("that the program closes as played ha", answer.errors)
 
 
+    def test_a_status_that_says_otherwise_than_the_lines_is_no_success(self) -> None:
+        sessions, game = self.write("s.json", '[["a",["",[],"a:0,"]]]'), self.write("game.txt", "title A\n")
+        lines = '{"at":0,"frame":0,"kind":"start","level":"a:0,","session":0}', '{"close":"passed","frames":1,"name":"a","session":0}'
+        program = self.program("".join(f"echo '{it}'\n" for it in lines) + "exit 1")
+        self.assertEqual(run("lines", sessions, "--program", program).status, 1)
+        answer = run("lines", sessions, "--game", game, "--program", program)
+        self.assertEqual((answer.status, answer.out.splitlines()), (2, [*lines]))
+        self.assertIn("s.json was not played: the program ended with status 1, and each session passed by its lines\n", answer.errors)
+
+
 class Tallies(unittest.TestCase):
     LINES = (
         b'{"at":0,"frame":0,"kind":"start","level":"","session":0}\n{"close":"passed","frames":1,"name":"{\\"close\\":","session":0}\n{"cause":"no-level","close":"refused","frames":0,"name":"","session":1}\n'
