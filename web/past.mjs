@@ -165,6 +165,18 @@ function lettingGo(past) {
   return past;
 }
 
+// A state whose recording has the keys too that wait to be played: where they won't be, it is lost with them.
+/** @type {(state: State) => State} */
+export function withKeys(state) {
+  const { work, queue } = state, inputs = [...work.inputs];
+  if (queue.length === 0) return state;
+  for (const { input, behind } of queue) {
+    if (behind !== null) inputs.length = Math.min(inputs.length, behind);
+    inputs.push(input);
+  }
+  return { ...state, work: { ...work, inputs } };
+}
+
 // The next state, in which can be put back what it lost of the one before.
 /** @param {State} before @param {State} after */
 export function remembering(before, after) {

@@ -3,7 +3,7 @@
 // knows the page or the engine. What the engine is wanted to play follows from the state, and its answer leads to the next (replaying.mjs, suite.mjs).
 import { levelsOf } from "./game.mjs";
 import { messagesAt } from "./messages.mjs";
-import { behindAll, isReplaced, leavingText, lostNow, remembering } from "./past.mjs";
+import { behindAll, isReplaced, leavingText, lostNow, remembering, withKeys } from "./past.mjs";
 import { firstFrom } from "./recording.mjs";
 import { cutToPlayed, framesOf, gameOf, isAtEnd, isPlayed, sourceOf, takenOf } from "./replaying.mjs";
 import { MOST_INPUTS } from "./session-file.mjs";
@@ -109,7 +109,7 @@ export function pressed(state, input) {
 // The state with something else worked on.
 /** @param {State} state */
 export function withWork(state, work, more = {}) {
-  return remembering(state, { ...state, work, looked: null, queue: [], messages: [], told: null, saved: "", since: null, ...more });
+  return remembering(withKeys(state), { ...state, work, looked: null, queue: [], messages: [], told: null, saved: "", since: null, ...more });
 }
 
 // Leaves out all inputs behind the frame that is looked at, or the last one where that is looked at; a key that isn't played yet is the last.
@@ -149,7 +149,7 @@ function overText(state) {
 /** @param {State} state */
 export function edited(state, text) {
   if (text === state.text) return state;
-  return remembering(isReplaced(state.text, text) ? state : { ...state, text }, { ...state, text, work: overText(state), looked: null, queue: [], ...AFRESH });
+  return remembering(withKeys(isReplaced(state.text, text) ? state : { ...state, text }), { ...state, text, work: overText(state), looked: null, queue: [], ...AFRESH });
 }
 
 // Takes another game.
@@ -200,5 +200,5 @@ export function putBack(state) {
   const { text = state.text, work = state.work, file = state.file, isUnsaved = state.isUnsaved } = lost;
   const below = state.past.slice(0, -1), open = { ...work, opened: stillOpened(work, file, text) }, told = why === null ? null : { text: noFieldTold("The text that was put back", why), close: null };
   const next = { ...state, text, work: open, file, isUnsaved, past: [...(why === null ? below : leavingText(below, last.text)), ...lostNow(past, state.past)], looked: null, queue: [], ...AFRESH, told };
-  return behindAll(state, next);
+  return behindAll(withKeys(state), next);
 }

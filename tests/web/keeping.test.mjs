@@ -93,8 +93,8 @@ test("no text is made of what no browser has room for in a note", async () => {
   browser.database.isBroken = true;
   const { stringify } = JSON;
   let most = 0;
-  JSON.stringify = (...words) => {
-    const text = stringify(...words);
+  JSON.stringify = (/** @type {any} */ value, /** @type {any} */ replacer) => {
+    const text = stringify(value, replacer);
     most = Math.max(most, text?.length ?? 0);
     return text;
   };

@@ -257,6 +257,18 @@ it("the first session that breaks is shown where nothing is in the way, and else
   assert.deepEqual([bench.state.work.inputs, bench.state.work.opened, tabTold(bench.state)], [[3], null, "Sessions: 1 differs"]);
 });
 
+it("keys that wait are put back with the recording that they were pressed for", async () => {
+  const bench = await played(3, 1);
+  /** @type {import("../../web/state").Key[]} */
+  const keys = [{ input: 0, behind: null, looked: null }, { input: 2, behind: 1, looked: 1 }, { input: "undo", behind: null, looked: null }];
+  const waiting = { ...bench.state, queue: keys };
+  for (const next of [fromLevel(waiting, 1), withGame(waiting, OTHER), edited(waiting, `${GAME}(x)`), withOtherFile(waiting, fileOf([DAY[0]]))]) {
+    assert.deepEqual([next.queue, next.past.at(-1).work.inputs, putBack(next).work.inputs], [[], [3, 2, "undo"], [3, 2, "undo"]]);
+  }
+  // what they lead to is no loss
+  assert.deepEqual([waiting.past, pressed(waiting, 4).past], [[], []]);
+});
+
 it("no session that broke is opened while keys wait", async () => {
   const bench = await withPush();
   await bench.act(fromLevel, 1);
