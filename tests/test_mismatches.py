@@ -79,10 +79,10 @@ class Inputs(unittest.TestCase):
 class Starts(unittest.TestCase):
     """First frames that are held against the level that a source draws."""
 
-    def fault(self, level: str, rows: str, **words: Any) -> Any:
+    def fault(self, level: str, rows: str, is_drawn: bool = True, **words: Any) -> Any:
         source = f"OBJECTS\nBackground .\nred\nPlayer p\nred\nLEGEND\nCOLLISIONLAYERS\nBackground\nPlayer\nLEVELS\n{rows}\n"
         entry = sessions_in("x", json.dumps([["a", [source, [], LEVEL]]])).entries[0]
-        return start_fault(entry, Run(0, "a", "differs", None, [Frame(0, "start", level)]), Tests(**{"is_drawn": True, **words}))
+        return start_fault(entry, Run(0, "a", "differs", None, [Frame(0, "start", level)]), Tests(is_drawn=is_drawn, **words))
 
     def test_a_level_of_the_same_size_is_looked_at_in_both_orders(self) -> None:
         level = "background player:0,background:1,\n1,1,\n"

@@ -4,7 +4,7 @@ import { lackingOf, withNote } from "./notes.mjs";
 import { packed, takePack, unpacked } from "./packing.mjs";
 import { lastLost, lostNow, remembering, withTexts } from "./past.mjs";
 import { Values } from "./sameness.mjs";
-import { MOST_INPUTS, SessionFile } from "./session-file.mjs";
+import { MOST_INPUTS, Refusal, SessionFile } from "./session-file.mjs";
 import { whyNoField } from "./texts.mjs";
 import { beginning, besideField } from "./work.mjs";
 /** @typedef {import("./state").State} State */
@@ -74,6 +74,16 @@ function lostFrom(value) {
   return lost;
 }
 
+// The file that was open, or where this page can't read it any more what can be put back of it: { file, lost }.
+function openOrLost(bytes, isUnsaved) {
+  try {
+    return { file: openFrom(bytes), lost: [] };
+  } catch (error) {
+    if (!(error instanceof Refusal)) throw error;
+    return { file: null, lost: [{ file: fileFrom(bytes, SessionFile.kept), isUnsaved: Boolean(isUnsaved) }] };
+  }
+}
+
 // As pages kept it that had no versions.
 function fromFirst({ source, index, inputs, name, opened, order, file, former, isUnsaved }) {
   const past = former ? [{ file: former, isUnsaved: true }] : [];
@@ -85,8 +95,8 @@ export function stateFrom(value, example) {
   try {
     const { version, text, order, work, queue = [], file: bytes, isUnsaved, past, tab, isTicked, isBusy } = value.version === undefined ? fromFirst(value) : value;
     wanted(version === VERSION && isText(text) && ORDERS_OF_CELLS.includes(order) && isListOf(past, (lost) => lost !== undefined));
-    const file = openFrom(bytes);
-    return { ...beginning(example), text, order, work: workFrom(work, file), queue: queueFrom(queue), file, isUnsaved: Boolean(isUnsaved), past: lastLost(past.map(lostFrom)), tab: tab === "sessions" ? tab : "game", isTicked: Boolean(isTicked), isHeld: Boolean(isBusy) };
+    const { file, lost } = openOrLost(bytes, isUnsaved), before = past.map(lostFrom);
+    return { ...beginning(example), text, order, work: workFrom(work, file), queue: queueFrom(queue), file, isUnsaved: Boolean(isUnsaved), past: lastLost([...before, ...lostNow(lost, before)]), tab: tab === "sessions" ? tab : "game", isTicked: Boolean(isTicked), isHeld: Boolean(isBusy) };
   } catch {
     return null;
   }

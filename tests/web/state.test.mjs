@@ -513,10 +513,19 @@ it("a file that can be put back is read once it is, and has no sessions where it
   }
 });
 
+it("an open file that this page reads no more can be put back as it is, and takes nothing else with it", async () => {
+  const { kept } = await withPush();
+  for (const written of [new Uint8Array([1]), new TextEncoder().encode('[["one",["",[3.0],""]]]')]) {
+    const state = stateFrom({ ...kept, file: { name: "f.json", bytes: written }, isUnsaved: true, work: { ...kept.work, opened: 0 } }, GAME), back = putBack(state);
+    assert.deepEqual([state.file, state.text, state.work], [null, kept.text, { ...kept.work, opened: null }]);
+    assert.deepEqual([back.file.name, back.file.bytes, back.file.entries, back.isUnsaved], ["f.json", written, [], true]);
+  }
+});
+
 it("what can't be read, or has another version, leaves a page that works", async () => {
   const { kept } = await withPush();
   const strange = [null, 1, "", {}, [], { version: 3 }, { ...kept, version: 9 }, { ...kept, text: 5 }, { ...kept, work: null }, { ...kept, work: { ...kept.work, inputs: [9] } }, { ...kept, past: 3 },
-    { ...kept, file: { name: "f", bytes: new Uint8Array([1]) } }, { ...kept, order: "up" }, { source: "title", index: 0, inputs: null }];
+    { ...kept, file: { name: 1, bytes: new Uint8Array([1]) } }, { ...kept, order: "up" }, { source: "title", index: 0, inputs: null }];
   for (const [place, value] of strange.entries()) assert.equal(stateFrom(value, GAME), null, `${place}`);
   const { state, read: names, unreadable } = stateOfVisit([{ name: "one", value: strange[4] }, { name: "two", value: kept }], GAME);
   assert.deepEqual([state.work.inputs, names, unreadable], [PUSHING, ["two"], 1]);
