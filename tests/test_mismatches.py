@@ -10,9 +10,9 @@ from unittest import mock
 
 from day import EXAMPLE, OnSessions
 from tool import run
-from saxtegun.budget import NOT_LOOKED_AT, Budget
+from saxtegun.budget import Budget
 from saxtegun.lines import Frame, Run
-from saxtegun.mismatches import ALL_BUT_ORDER, NAMES_ALONE, OF_ANY_ENGINE, Tests, mismatch, start_fault
+from saxtegun.mismatches import ALL_BUT_ORDER, NAMES_ALONE, OF_ANY_ENGINE, TOO_LONG, Tests, mismatch, start_fault
 from saxtegun.sessions import sessions_in
 
 LEVEL, OTHER = "background:0,\n", "background player:0,\n"
@@ -93,8 +93,8 @@ class Starts(unittest.TestCase):
         self.assertIn("doesn't begin with the level", self.fault(level, "p..\n..", order="rows"))
 
     def test_where_there_is_no_time_left_to_read_sources_nothing_is_taken_as_theirs(self) -> None:
-        with mock.patch("saxtegun.mismatches.EXPLAINING", Budget(0.0)):
-            self.assertEqual(self.fault("background player:0,", "p", order="rows"), f"whether session 0 begins with the level that its source draws isn't known: {NOT_LOOKED_AT}")
+        with mock.patch("saxtegun.mismatches.HOLDING", Budget(0.0)):
+            self.assertEqual(self.fault("background player:0,", "p", order="rows"), f"whether session 0 begins with the level that its source draws isn't known: {TOO_LONG}")
             # where the order alone is asked for, and nothing more is explained, an honest suite of very many games has its answer
             self.assertIsNone(self.fault("background player:0,", "p", order="rows", is_drawn=False))
 

@@ -3,7 +3,7 @@ from __future__ import annotations
 
 from typing import Dict, Iterator, NamedTuple, Optional, Tuple, Union
 
-from saxtegun.budget import EXPLAINING, NOT_LOOKED_AT, UsedUp
+from saxtegun.budget import HOLDING, SECONDS_OF_SOURCES, UsedUp
 from saxtegun.commands import ORDERS, Refused, cut, plural
 from saxtegun.explanations import input_told
 from saxtegun.levels import Labels, read_cells, sets_of
@@ -28,6 +28,7 @@ class Tests(NamedTuple):
     is_played: bool = True
 
 
+TOO_LONG = f"reading the sources took {SECONDS_OF_SOURCES:.0f} s already; without the lines the sessions are played now"
 ALL_BUT_ORDER = Tests()
 NAMES_ALONE = Tests(False)
 # What an engine writes that may have any error.
@@ -111,12 +112,12 @@ def start_fault(entry: Entry, run: Run, tests: Tests) -> Optional[str]:
     if cells is None:
         return None
     try:
-        with EXPLAINING.spent():
-            EXPLAINING.look()
+        with HOLDING.spent():
+            HOLDING.look()
             return drawn_fault(entry, run, tests, tests.order, tuple(sets_of(cells, labels)) if may_begin_with(entry, len(cells)) else None)
     except UsedUp:
-        # what isn't wanted here serves explaining alone, which has ended
-        return f"whether session {run.number} begins with the level that its source draws isn't known: {NOT_LOOKED_AT}" if tests.is_drawn else None
+        # the order alone serves what explains, and all lines of a call have one
+        return f"whether session {run.number} begins with the level that its source draws isn't known: {TOO_LONG}" if tests.is_drawn else None
 
 
 def drawn_fault(entry: Entry, run: Run, tests: Tests, order: str, shown: Optional[Cells]) -> Optional[str]:
