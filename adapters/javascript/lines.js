@@ -23,7 +23,10 @@ const CAUSED = ["stopped", "refused"];
 // A name as names are compared: the case of ASCII letters is ignored, and of no others.
 const fold = (name) => name.replace(/[A-Z]/g, (letter) => letter.toLowerCase());
 
-const byBytes = (one, other) => Buffer.compare(Buffer.from(one), Buffer.from(other));
+const BEYOND = /[\ud800-\udfff]/;
+
+// Names in the order of their bytes, which is that of their units but for letters of two.
+const byBytes = (one, other) => (BEYOND.test(one) || BEYOND.test(other) ? Buffer.compare(Buffer.from(one), Buffer.from(other)) : one < other ? -1 : Number(one > other));
 
 // The names of a cell as a level text spells them.
 /** @type {(names: Iterable<string>) => string} */
