@@ -12,7 +12,7 @@ from test_test import OfAGame
 from tool import TOP, Answer, InARoom, plays, run
 from saxtegun.files import read_any_text
 from saxtegun.commands import Refused
-from saxtegun.recording_search import find
+from saxtegun.recording_search import MOST_SKIPPED, find
 from saxtegun.sessions import MOST_ENTRIES, sessions_in
 
 FORMS = TOP / "tests/forms"
@@ -38,8 +38,11 @@ class Bounds(OnSessions):
     def test_no_more_recordings_are_read_than_a_sessions_file_takes(self) -> None:
         text = '["n",["t",[],""]]\n'
         self.assertEqual(len(find(text * MOST_ENTRIES).found), MOST_ENTRIES)
-        with self.assertRaisesRegex(Refused, "^it has more than 65,536 recordings, which no sessions file takes$"):
+        with self.assertRaisesRegex(Refused, "^it has more than 65,536 recordings, whole or not, which no sessions file takes$"):
             find(text * (MOST_ENTRIES + 1))
+        for more in ("'[\"\",[\"\",[9],\"\"]]' ", "'[\"\",[\"\",[],\"\"]]' "):
+            with self.assertRaisesRegex(Refused, "^it has more than 65,536 recordings, whole or not"):
+                find(more * (MOST_SKIPPED + 1))
         path = self.room / "many.txt"
         path.write_text(text * (MOST_ENTRIES + 1))
         self.assert_refused(run("testdata", path), f"{path}: it has more than 65,536 recordings")

@@ -138,7 +138,7 @@ class Playground {
     const asked = this.state;
     if (this.state.order !== RECORDED_ORDER) this.act(inOrder, RECORDED_ORDER);
     await this.runner.idle();
-    this.act(savedLater, asked, number);
+    this.taking(savedLater, asked, number);
     at("stage").focus({ preventScroll: true });
   }
 

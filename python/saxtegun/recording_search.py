@@ -82,12 +82,16 @@ def value_of(items: List[str]) -> Any:
     return json.loads(f"[{','.join(items)}]")
 
 
-class Search:
-    """A search through a text. `inner` says whether the text was quoted or escaped, and is not unquoted again."""
+# So much is skipped at most in a text: what a compiler printed stands before many recordings.
+MOST_SKIPPED = 2 * MOST_ENTRIES
 
-    def __init__(self, text: str, first_line: int = 1, is_inner: bool = False) -> None:
-        self.text, self.first_line, self.is_inner = text, first_line, is_inner
-        self.findings = Findings([], [])
+
+class Search:
+    """A search through a text. `outer` is that of the text in which this one was quoted or escaped, which is not unquoted again: both find together."""
+
+    def __init__(self, text: str, first_line: int = 1, outer: "Optional[Search]" = None) -> None:
+        self.text, self.first_line, self.is_inner = text, first_line, outer is not None
+        self.findings: Findings = outer.findings if outer else Findings([], [])
         self.counted, self.line = 0, first_line
         self.last_comment = text.rfind("*/")
         self.heading = -1
@@ -120,10 +124,22 @@ class Search:
 
     def read_inner(self, at: int, text: str) -> bool:
         """Searches a text that was quoted; answers whether something was in it."""
-        inner = Search(text, self.line_of(at), True).run()
-        self.findings.found.extend(inner.found)
-        self.findings.skipped.extend(inner.skipped)
-        return bool(inner.found or inner.skipped)
+        before = self.count
+        Search(text, self.line_of(at), self).run()
+        return self.count > before
+
+    @property
+    def count(self) -> int:
+        return len(self.findings.found) + len(self.findings.skipped)
+
+    def check_count(self) -> None:
+        if len(self.findings.found) == MOST_ENTRIES or len(self.findings.skipped) == MOST_SKIPPED:
+            raise Refused(f"it has more than {MOST_ENTRIES:,} recordings, whole or not, which no sessions file takes")
+
+    def skip(self, at: int, what: str) -> None:
+        """Notes what is no whole recording."""
+        self.check_count()
+        self.findings.skipped.append(Skipped(self.line_of(at), what))
 
     def has_read(self, at: int, begin: int, end: int) -> bool:
         """Searches what was escaped; answers whether something was in it."""
@@ -189,15 +205,14 @@ class Search:
         elif is_body(value):
             self.take(it.at, ["", value], f"[{','.join(it.items)}]")
         elif is_of_a_compiler(value) or (len(value) == 2 and is_of_a_compiler(value[1])):
-            self.findings.skipped.append(Skipped(self.line_of(it.at), "compiler"))
+            self.skip(it.at, "compiler")
 
     def take(self, at: int, entry: Any, body: str, rest: Tuple[str, ...] = ()) -> None:
         """Takes an entry, whose body and further elements stand there as JSON, unless it has a fault."""
-        if len(self.findings.found) == MOST_ENTRIES:
-            raise Refused(f"it has more than {MOST_ENTRIES:,} recordings, which no sessions file takes")
+        self.check_count()
         fault = fault_of(entry)
         if fault:
-            self.findings.skipped.append(Skipped(self.line_of(at), fault))
+            self.skip(at, fault)
         else:
             self.findings.found.append(Found(self.line_of(at), entry[0], body, rest))
 
@@ -214,7 +229,7 @@ class Search:
         if is_whole and not is_in_text:
             self.take(lists[0].at, value_of(items[0]), items[0][1], tuple(items[0][2:]))
         elif is_whole or self.has_heading(lists[0].at, at):
-            self.findings.skipped.append(Skipped(self.line_of(lists[0].at), "cut-off"))
+            self.skip(lists[0].at, "cut-off")
 
     def has_heading(self, begin: int, at: int) -> bool:
         """Whether a heading of a source stands in what was read, or soon behind it in its line."""
