@@ -92,6 +92,8 @@ class Beside(Thread, Generic[Value]):
         """Waits until it is done. A signal that comes just before this waits is heard only once it is awake again."""
         while not self.done.wait(PAUSE):
             pass
+        # as Python ends no thread of it is to be in the midst of ending
+        self.join(PAUSE)
 
     def result(self) -> Value:
         """What came of it, once it is done."""
