@@ -88,6 +88,7 @@ command_of _ = None
 unfoldable pub commands_of : List Token → Option (List Command)
 commands_of tokens = all_some (map command_of tokens)
 
+-- rules.prefixes: a first `+` joins the rule to the group above
 abbrev pub begins_joined : List Token → Bool
 begins_joined (token.Plus ∷ ts) = true
 begins_joined _ = false

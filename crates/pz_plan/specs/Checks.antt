@@ -40,7 +40,7 @@ is_aggregate _ = false
 unfoldable pub is_mixed : List Denotation → Phrase → Bool
 is_mixed table phrase = is_no phrase.lead && option_map_or (λ denotation. is_aggregate denotation.kind) (denotation_if_any table phrase.name) false
 
--- a movement word
+-- checks.late-movement: a movement word
 unfoldable pub is_moving : Phrase → Bool
 is_moving phrase = elim phrase.lead [ None ↦ false | Some word ↦ not (is_no (Some word)) ]
 

@@ -101,7 +101,8 @@ fn is_chosen(lead: Option<Lead<Class>>, denotation: &Denotation) -> bool
         && denotation.members.items().len() != 1
 }
 
-/// Adds what a name stands for, with the word before it. Rule `expand.no-property`.
+/// Adds what a name stands for, with the word before it: of an aggregate each member, with the word.
+/// Rules `expand.names`, `expand.no-property`.
 fn add_mentions(
     side: Side,
     lead: Option<Lead<Class>>,

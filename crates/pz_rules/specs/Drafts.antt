@@ -66,7 +66,7 @@ is_misplaced draft rule =
 unfoldable pub lateness : Draft → Rule → Bool
 lateness draft rule = if rule.is_joined then elim draft.group [ None ↦ is_late_rule rule | Some group ↦ group.is_late ] else is_late_rule rule
 
--- the instances that stand before a rule's own in its group
+-- rules.prefixes: the instances that stand before a rule's own in its group, those of the rules above where a `+` joins it to them
 unfoldable pub joins : Draft → Rule → List Instance
 joins draft rule = if rule.is_joined then elim draft.group [ None ↦ [] | Some group ↦ group.instances ] else []
 

@@ -162,7 +162,7 @@ fn lateness(draft: &Draft, rule: &Rule) -> bool
     }
 }
 
-/// The last group, with the instances of a rule that joins it.
+/// The last group, with the instances of a rule that joins it. Rule `rules.prefixes`.
 fn with_instances(
     group: Option<OpenGroup>,
     rule: &Rule,

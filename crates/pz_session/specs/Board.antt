@@ -89,7 +89,7 @@ showing_end kind state = showing kind state false
 abbrev pub idle : State → Link State
 idle state = record { shown = []; after = state; goes_on = false }
 
--- play.start-ticks: in a game with `run_rules_on_level_start` a tick follows each load and each restart
+-- play.start-ticks: in a game with `run_rules_on_level_start` a tick follows the start, each load and each restart
 abbrev pub ticks_at_start : State → Bool
 ticks_at_start state = state.game.options.run_rules_on_level_start
 

@@ -169,7 +169,7 @@ impl<'a> Board<'a> {
         }
     }
 
-    /// Whether a tick follows each load and each restart. Rule `play.start-ticks`.
+    /// Whether a tick follows the start, each load and each restart. Rule `play.start-ticks`.
     fn ticks_at_start(&self) -> bool
         ensures { result ≡ ticks_at_start self.now }
     {

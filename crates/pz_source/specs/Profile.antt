@@ -14,7 +14,7 @@ use Rattle.pz_base.specs.declared.fault.SourceFault.{SourceFault}
 use Rattle.pz_source.specs.Rules.{rule_words}
 use Rattle.pz_game.specs.declared.options.Options.{Options}
 
--- rules that choose by chance, and rigid bodies
+-- checks.profile: rules that choose by chance, and rigid bodies
 abbrev pub is_outside_word : List ℕ → Bool
 is_outside_word word = bytes_eq word (codes "random") || bytes_eq word (codes "randomdir") || bytes_eq word (codes "rigid")
 

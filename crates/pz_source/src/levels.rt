@@ -126,7 +126,8 @@ fn next_glyph(row: &[usize], column: usize, last: usize) -> usize
     row.get(column).copied().unwrap_or(last)
 }
 
-/// The cells of the rows of a level, or `BadGlyph` at the first row with a glyph that draws nothing. Rule `levels.long-rows`.
+/// The cells of the rows of a level, or `BadGlyph` at the first row with a glyph that draws nothing.
+/// Rules `levels.glyphs`, `levels.long-rows`.
 fn rows(
     alloc: Global,
     glyphs: &mut Glyphs,

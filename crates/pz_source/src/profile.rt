@@ -80,7 +80,7 @@ fn outside_profile(alloc: Global, lines: &[Line]) -> Result<Option<SourceFault>,
 }
 
 /// The rule lines of lines that are in the profile: those that aren't blank, cut into words. Else `OutsideProfile`, at the first line that is
-/// outside.
+/// outside. Rule `checks.profile`.
 fn rules_in_profile(
     alloc: Global,
     lines: &[Line],
