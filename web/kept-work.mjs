@@ -2,7 +2,7 @@
 // A state as it is kept between visits, and back. What is kept has a version; what can't be read is no state.
 import { lackingOf, withNote } from "./notes.mjs";
 import { packed, takePack, unpacked } from "./packing.mjs";
-import { lastLost, lostNow, remembering, withTexts } from "./past.mjs";
+import { lastLost, lostNow, remembering, withKeys, withTexts } from "./past.mjs";
 import { Values } from "./sameness.mjs";
 import { MOST_INPUTS, Refusal, SessionFile } from "./session-file.mjs";
 import { whyNoField } from "./texts.mjs";
@@ -74,13 +74,14 @@ function lostFrom(value) {
   return lost;
 }
 
-// The file that was open, or where this page can't read it any more what can be put back of it: { file, lost }.
+// The file that was open, or where this page can't read it any more what can be put back of it, and what is said of that: { file, lost, told }.
 function openOrLost(bytes, isUnsaved) {
   try {
-    return { file: openFrom(bytes), lost: [] };
+    return { file: openFrom(bytes), lost: [], told: null };
   } catch (error) {
     if (!(error instanceof Refusal)) throw error;
-    return { file: null, lost: [{ file: fileFrom(bytes, SessionFile.kept), isUnsaved: Boolean(isUnsaved) }] };
+    const told = { text: `The sessions file that was open isn't read any more: ${error.message}. Put back has it, as it was.`, close: null };
+    return { file: null, lost: [{ file: fileFrom(bytes, SessionFile.kept), isUnsaved: Boolean(isUnsaved) }], told };
   }
 }
 
@@ -95,8 +96,8 @@ export function stateFrom(value, example) {
   try {
     const { version, text, order, work, queue = [], file: bytes, isUnsaved, past, tab, isTicked, isBusy } = value.version === undefined ? fromFirst(value) : value;
     wanted(version === VERSION && isText(text) && ORDERS_OF_CELLS.includes(order) && isListOf(past, (lost) => lost !== undefined));
-    const { file, lost } = openOrLost(bytes, isUnsaved), before = past.map(lostFrom);
-    return { ...beginning(example), text, order, work: workFrom(work, file), queue: queueFrom(queue), file, isUnsaved: Boolean(isUnsaved), past: lastLost([...before, ...lostNow(lost, before)]), tab: tab === "sessions" ? tab : "game", isTicked: Boolean(isTicked), isHeld: Boolean(isBusy) };
+    const { file, lost, told } = openOrLost(bytes, isUnsaved), before = past.map(lostFrom);
+    return { ...beginning(example), text, order, work: workFrom(work, file), queue: queueFrom(queue), file, isUnsaved: Boolean(isUnsaved), past: lastLost([...before, ...lostNow(lost, before)]), tab: tab === "sessions" ? tab : "game", isTicked: Boolean(isTicked), isHeld: Boolean(isBusy), told };
   } catch {
     return null;
   }
@@ -114,7 +115,8 @@ function stateOfEntry({ value, note = null }, example) {
 
 // What another tab left, as it can be put back.
 /** @param {State} state */
-function leftBy({ text, work, file, isUnsaved, past, example }) {
+function leftBy(state) {
+  const { text, work, file, isUnsaved, past, example } = withKeys(state);
   const isWork = work.inputs.length > 0 || work.name !== "" || work.own !== null;
   const own = { ...(text === example ? {} : { text }), ...(isWork ? { work } : {}), ...(file ? { file, isUnsaved } : {}) };
   return withTexts(Object.keys(own).length === 0 ? past : [...past, ...lostNow([own], past)], text);

@@ -163,6 +163,7 @@ function failuresTold(failures) {
 /** @param {State} state */
 export function tabTold(state) {
   if (state.file === null) return "Sessions";
+  if (state.file.whyUnread !== null) return "Sessions: not read";
   const failures = failuresOf(state);
   return failures.length > 0 ? `Sessions: ${failuresTold(failures)}` : `Sessions (${state.file.entries.length})`;
 }
@@ -200,6 +201,8 @@ function comparisonTold(state) {
 /** @param {State} state */
 export function verdictOf(state, doing) {
   const runs = runsOfNow(state);
+  const why = state.file?.whyUnread ?? null;
+  if (why !== null) return { text: `Not read: ${why}. Saved, the file is as it was.`, close: "refused" };
   if (doing !== null) return { text: `Playing: ${doing.done} of ${plural(doing.total, "session")}`, close: null };
   if (runs !== null) return state.comparison === null ? suiteTold(state, runs) : comparisonTold(state);
   return { text: state.suite?.why ?? "Not played yet.", close: null };
@@ -236,7 +239,7 @@ function lostTold({ text, work, file }) {
   const parts = [
     text !== undefined && `the text of ${gameOf(text).title}`,
     work && workTold(work),
-    file && `${file.name} with ${plural(file.count, "session")}`,
+    file && (file.whyUnread === null ? `${file.name} with ${plural(file.count, "session")}` : `${file.name}, which isn't read`),
   ];
   return parts.filter(Boolean).join(", ");
 }

@@ -1,6 +1,7 @@
 // @ts-check
 // What can be put back: texts, recordings, names and sessions files that something else took the place of. The newest stands last.
 import { among, distinct } from "./text-map.mjs";
+import { there } from "./there.mjs";
 
 /** @typedef {import("./state").State} State */
 
@@ -112,7 +113,8 @@ function isOneMissing(texts, others) {
 /** @param {State} before @param {State} after */
 function isFileLost(before, after) {
   if (before.file === null || before.file === after.file || !(before.isUnsaved || after.isUnsaved)) return false;
-  return isOneMissing(before.file.texts, after.file?.texts ?? []) && !after.past.some((it) => it.file === before.file);
+  const isUnread = before.file.whyUnread !== null; // its bytes are all that there is of it
+  return (isUnread || isOneMissing(before.file.texts, after.file?.texts ?? [])) && !after.past.some((it) => it.file === before.file);
 }
 
 // What of one state isn't there any more in the next: { text, work, file, isUnsaved }, each only where it is lost; null where nothing is.
@@ -165,18 +167,6 @@ function lettingGo(past) {
   return past;
 }
 
-// A state whose recording has the keys too that wait to be played: where they won't be, it is lost with them.
-/** @type {(state: State) => State} */
-export function withKeys(state) {
-  const { work, queue } = state, inputs = [...work.inputs];
-  if (queue.length === 0) return state;
-  for (const { input, behind } of queue) {
-    if (behind !== null) inputs.length = Math.min(inputs.length, behind);
-    inputs.push(input);
-  }
-  return { ...state, work: { ...work, inputs } };
-}
-
 // The next state, in which can be put back what it lost of the one before.
 /** @param {State} before @param {State} after */
 export function remembering(before, after) {
@@ -185,9 +175,47 @@ export function remembering(before, after) {
   return { ...after, past: lettingGo(lastLost([...(lost.text === undefined ? past : after.past), ...lostNow([lost], after.past)])) };
 }
 
-// The next state where what is worked on takes the place of what is put back: that stands first then, and comes last.
+// The recordings that a state would have had once the keys that wait were played, each as it was before a key cut it, and the last.
+/** @param {State} state */
+function recordingsOf({ work, queue }) {
+  if (queue.length === 0) return [work.inputs];
+  const inputs = [...work.inputs], recordings = [];
+  for (const { input, behind } of queue) {
+    if (behind !== null && behind < inputs.length) recordings.push([...inputs]);
+    if (behind !== null) inputs.length = Math.min(inputs.length, behind);
+    inputs.push(input);
+  }
+  return [...recordings, inputs];
+}
+
+// A state with a recording of these inputs.
+/** @type {(state: State, inputs: import("./state").Input[]) => State} */
+const withInputs = (state, inputs) => ({ ...state, work: { ...state.work, inputs } });
+
+// A state in whose recording the keys stand that wait, as if they had been played.
+/** @type {(state: State) => State} */
+export function withKeys(state) {
+  const recordings = recordingsOf(state);
+  /** @type {State} */
+  let next = { ...withInputs(state, there(recordings.pop())), queue: [] };
+  for (const inputs of recordings) next = remembering(withInputs(state, inputs), next);
+  return next;
+}
+
+// The next state where keys that wait won't be played: what they would have led to can be put back too, as if they had been.
+/** @param {State} before @param {State} after */
+export function rememberingKeys(before, after) {
+  return recordingsOf(before).reduce((next, inputs) => remembering(withInputs(before, inputs), next), after);
+}
+
+// The next state where what is worked on, with keys that wait, takes the place of what is put back: that stands first then, and comes last.
 /** @param {State} before @param {State} after */
 export function behindAll(before, after) {
+  return recordingsOf(before).reduce((next, inputs) => behindThem(withInputs(before, inputs), next), after);
+}
+
+/** @param {State} before @param {State} after */
+function behindThem(before, after) {
   const lost = lostIn(before, after);
   return lost === null ? after : { ...after, past: lettingGo(lastLost([...lostNow(withTexts([lost], before.text), after.past), ...after.past])) };
 }

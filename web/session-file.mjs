@@ -319,12 +319,12 @@ function sessionsIn(name, bytes) {
   }
 }
 
-// The same, or none where they can't be read.
-function sessionsOrNone(name, bytes) {
+// The same, or none where they can't be read, and why not: { entries, why }.
+function sessionsOrWhy(name, bytes) {
   try {
-    return sessionsIn(name, bytes);
+    return { entries: sessionsIn(name, bytes), why: null };
   } catch (error) {
-    if (error instanceof Refusal) return [];
+    if (error instanceof Refusal) return { entries: [], why: error.message };
     throw error;
   }
 }
@@ -335,6 +335,7 @@ export class SessionFile {
     this.name = name;
     this.bytes = bytes;
     this.read = entries;
+    this.why = null; // none were read, where that is so
     this.counted = null; // how many there are, where they were read and let go
     this.places = null; // where they stand, once that was asked for
   }
@@ -345,8 +346,14 @@ export class SessionFile {
   }
 
   get entries() {
-    if (this.read === null) this.read = sessionsOrNone(this.name, this.bytes);
+    if (this.read === null) ({ entries: this.read, why: this.why } = sessionsOrWhy(this.name, this.bytes));
     return this.read;
+  }
+
+  // Why its sessions can't be read, or null. The engine may play such a file: what it says then is nothing of what is shown.
+  get whyUnread() {
+    if (this.counted === null) void this.entries;
+    return this.why;
   }
 
   // Those that are read, or soon are.

@@ -22,7 +22,7 @@ const isOfNow = (suite, { file, text, order, isTicked }) => suite !== null && su
 /** @param {State} state */
 export function wantedSuite(state) {
   const { file, text, order, isTicked, suite, isHeld } = state;
-  return file === null || isHeld || isOfNow(suite, state) ? null : { file, text, order, isTicked };
+  return file === null || file.whyUnread !== null || isHeld || isOfNow(suite, state) ? null : { file, text, order, isTicked };
 }
 
 // How the sessions closed, or null where they aren't played as they stand.
@@ -150,12 +150,19 @@ function showingFailure(state) {
   return first < 0 || !mayMakeWay(next) ? next : sessionOpened(next, first);
 }
 
+// Why a file isn't played, or null: all its sessions must have come back.
+function whyNotPlayed({ name, entries }, answer, runs) {
+  if (answer === null) return "Stopped: not all sessions were played.";
+  if (answer.fault !== null) return `${name} is not played: ${refusalTold(answer.fault)}.`;
+  return runs.length === entries.length ? null : `${name} is not played: the engine tells of ${runs.length} sessions, and ${entries.length} are read.`;
+}
+
 // Takes what the sessions came to: { fault, lines, unsolved }, in so many milliseconds, or null where it was stopped.
 /** @param {State} state */
 export function suiteCame(state, { file, text, order, isTicked }, answer, milliseconds) {
   if (wantedSuite(state) === null || !isOfNow({ file, text, order, isTicked }, state)) return state;
-  const why = answer === null ? "Stopped: not all sessions were played." : answer.fault === null ? null : `${file.name} is not played: ${refusalTold(answer.fault)}.`;
-  const suite = { file, text, order, isTicked, why, lines: why === null ? answer.lines : null, runs: why === null ? runsOf(answer.lines).map((run, number) => ({ ...run, isUnsolved: answer.unsolved.has(number) })) : null, milliseconds };
+  const runs = answer === null || answer.fault !== null ? null : runsOf(answer.lines), why = whyNotPlayed(file, answer, runs);
+  const suite = { file, text, order, isTicked, why, lines: why === null ? answer.lines : null, runs: why === null ? there(runs).map((run, number) => ({ ...run, isUnsolved: answer.unsolved.has(number) })) : null, milliseconds };
   const next = { ...state, suite, comparison: null };
   if (why !== null) return { ...next, isNew: false };
   return { ...showingFailure(next), saved: state.saved, good: isNoWorse(state.good, suite) ? suite : state.good };

@@ -3,7 +3,7 @@
 // knows the page or the engine. What the engine is wanted to play follows from the state, and its answer leads to the next (replaying.mjs, suite.mjs).
 import { levelsOf } from "./game.mjs";
 import { messagesAt } from "./messages.mjs";
-import { behindAll, isReplaced, leavingText, lostNow, remembering, withKeys } from "./past.mjs";
+import { behindAll, isReplaced, leavingText, lostNow, rememberingKeys } from "./past.mjs";
 import { firstFrom } from "./recording.mjs";
 import { cutToPlayed, framesOf, gameOf, isAtEnd, isPlayed, sourceOf, takenOf } from "./replaying.mjs";
 import { MOST_INPUTS } from "./session-file.mjs";
@@ -84,9 +84,9 @@ export function lookedAt(state, frame) {
 /** @param {State} state */
 export const lookedAtInput = (state, taken) => lookedAt(state, firstFrom(framesOf(state), taken + 1) - 1);
 
-// Ends what is being played: it is played again where that is asked for.
+// Ends what is being played: it is played again where that is asked for, but for keys that wait.
 /** @param {State} state */
-export const held = (state) => ({ ...state, isHeld: true, queue: [], told: null });
+export const held = (state) => rememberingKeys(state, { ...state, isHeld: true, queue: [], told: null });
 
 /** @param {State} state */
 export const released = (state) => ({ ...state, isHeld: false, told: null });
@@ -109,7 +109,7 @@ export function pressed(state, input) {
 // The state with something else worked on.
 /** @param {State} state */
 export function withWork(state, work, more = {}) {
-  return remembering(withKeys(state), { ...state, work, looked: null, queue: [], messages: [], told: null, saved: "", since: null, ...more });
+  return rememberingKeys(state, { ...state, work, looked: null, queue: [], messages: [], told: null, saved: "", since: null, ...more });
 }
 
 // Leaves out all inputs behind the frame that is looked at, or the last one where that is looked at; a key that isn't played yet is the last.
@@ -149,7 +149,7 @@ function overText(state) {
 /** @param {State} state */
 export function edited(state, text) {
   if (text === state.text) return state;
-  return remembering(withKeys(isReplaced(state.text, text) ? state : { ...state, text }), { ...state, text, work: overText(state), looked: null, queue: [], ...AFRESH });
+  return rememberingKeys(isReplaced(state.text, text) ? state : { ...state, text }, { ...state, text, work: overText(state), looked: null, queue: [], ...AFRESH });
 }
 
 // Takes another game.
@@ -169,10 +169,10 @@ export function withOwnText(state) {
 
 // Plays games with a clock without it, or refuses them again.
 /** @param {State} state */
-export const ticked = (state, isTicked) => ({ ...state, ...AFRESH, isTicked, looked: null, queue: [] });
+export const ticked = (state, isTicked) => rememberingKeys(state, { ...state, ...AFRESH, isTicked, looked: null, queue: [] });
 
 /** @param {State} state */
-export const inOrder = (state, order) => ({ ...state, ...AFRESH, order, looked: null, queue: [] });
+export const inOrder = (state, order) => rememberingKeys(state, { ...state, ...AFRESH, order, looked: null, queue: [] });
 
 // ---- what is put back
 
@@ -190,6 +190,12 @@ export function besideField({ text, work = workOn(text), ...more }) {
   return work.own === null ? { ...more, work: { ...work, own: text, opened: null }, past: [] } : { ...more, work, past: [{ text }] };
 }
 
+// What is said of what was put back where its text isn't put into the field, or its file isn't read, or null.
+function toldOfBack(whyNot, file) {
+  const unread = file?.whyUnread ?? null, sentences = [whyNot !== null && noFieldTold("The text that was put back", whyNot), unread !== null && `Not read: ${unread}. Saved, the file is as it was.`].filter(Boolean);
+  return sentences.length === 0 ? null : { text: sentences.join(" "), close: null };
+}
+
 // Puts back what was lost last.
 /** @param {State} state */
 export function putBack(state) {
@@ -198,7 +204,7 @@ export function putBack(state) {
   const { text: lostText } = last, why = lostText === undefined ? null : whyNoField(lostText);
   const { past, ...lost } = why === null || lostText === undefined ? { ...last, past: [] } : besideField({ ...last, text: lostText });
   const { text = state.text, work = state.work, file = state.file, isUnsaved = state.isUnsaved } = lost;
-  const below = state.past.slice(0, -1), open = { ...work, opened: stillOpened(work, file, text) }, told = why === null ? null : { text: noFieldTold("The text that was put back", why), close: null };
+  const below = state.past.slice(0, -1), open = { ...work, opened: stillOpened(work, file, text) }, told = toldOfBack(why, lost.file);
   const next = { ...state, text, work: open, file, isUnsaved, past: [...(why === null ? below : leavingText(below, last.text)), ...lostNow(past, state.past)], looked: null, queue: [], ...AFRESH, told };
-  return behindAll(withKeys(state), next);
+  return behindAll(state, next);
 }

@@ -4,14 +4,14 @@ import assert from "node:assert/strict";
 import test from "node:test";
 import { Ending } from "../../web/comparing.mjs";
 import { findingsIn, searching } from "../../web/console.mjs";
-import { stateFrom, stateOfVisit } from "../../web/kept-work.mjs";
+import { keptOf, stateFrom, stateOfVisit } from "../../web/kept-work.mjs";
 import { endTold, faultOfText, othersTold, ownTold, putBackTold, statusOf, stepTold, tabTold, toldOfLevel, unlikenessTold, verdictOf, visitTold } from "../../web/page-words.mjs";
 import { SessionFile } from "../../web/session-file.mjs";
 import { accepted, followed, namesakeOf, removed, savedAs, savedLater, withOtherFile, withRecordings } from "../../web/filing.mjs";
 import { lastLost } from "../../web/past.mjs";
 import { framesOf, isPlayed, shownOf, sourceOf } from "../../web/replaying.mjs";
 import { differenceOf, playedAgain, rowsOf, seenOf, sessionOf, sessionOpened, suiteCame } from "../../web/suite.mjs";
-import { beginning, begunAnew, cutBack, edited, fromLevel, held, inOrder, lookedAt, lookedAtInput, named, pressed, putBack, released, withGame, withOwnText, withRefusal, withoutRefusals } from "../../web/work.mjs";
+import { beginning, begunAnew, cutBack, edited, fromLevel, held, inOrder, lookedAt, lookedAtInput, named, pressed, putBack, released, ticked, withGame, withOwnText, withRefusal, withoutRefusals } from "../../web/work.mjs";
 import { Bench, GAME, comparedWithLines, module, read } from "./bench.mjs";
 
 const PUSH = "[ > Player | Crate ] -> [ > Player | > Crate ]", BROKEN = GAME.replace(PUSH, "[ > Player | Crate ] -> [ Player | Crate ]");
@@ -267,6 +267,23 @@ it("keys that wait are put back with the recording that they were pressed for", 
   }
   // what they lead to is no loss
   assert.deepEqual([waiting.past, pressed(waiting, 4).past], [[], []]);
+  // as of a tab that is closed
+  const closed = { name: "other", value: structuredClone(keptOf(waiting, false)) }, own = { name: "work", value: structuredClone(keptOf(beginning(GAME), false)) };
+  assert.deepEqual(stateOfVisit([own, closed], GAME).state.past.map(({ work }) => work?.inputs), [[3, 1, 0], [3, 2, "undo"]]);
+});
+
+it("what a key would cut that waits can be put back too, where it isn't played", async () => {
+  const bench = await played(3, 1, 0, 2);
+  await bench.act(lookedAtInput, 1);
+  const waiting = pressed(bench.state, 0), lostIn = ({ past }) => past.map(({ work }) => work?.inputs);
+  assert.deepEqual(waiting.queue.map(({ behind }) => behind), [1]);
+  for (const next of [begunAnew(waiting), fromLevel(waiting, 1), withGame(waiting, OTHER), putBack({ ...waiting, past: [{ text: OTHER, work: { ...waiting.work, inputs: [1, 1] } }] })]) {
+    assert.deepEqual(lostIn(next).sort(), [[3, 0], [3, 1, 0, 2]]);
+  }
+  // those that stay where they are have it themselves
+  for (const next of [held(waiting), inOrder(waiting, "rows"), ticked(waiting, true), edited(waiting, `${GAME}(x)`)]) assert.deepEqual([next.work.inputs, next.queue, lostIn(next)], [[3, 1, 0, 2], [], [[3, 0]]]);
+  await bench.act(pressed, 0);
+  assert.deepEqual([bench.state.work.inputs, lostIn(bench.state)], [[3, 0], [[3, 1, 0, 2]]]);
 });
 
 it("no session that broke is opened while keys wait", async () => {
@@ -713,6 +730,30 @@ it("of thousands of recordings over one text that text is kept once, and the fil
   assert.ok(JSON.stringify(bench.kept).length < file.bytes.length / 5);
   const { state } = stateOfVisit([{ name: "work", value: structuredClone(bench.kept) }], GAME);
   assert.deepEqual([Buffer.from(state.file.bytes).equals(file.bytes), state.file.entries.length], [true, 3000]);
+});
+
+it("a file that an earlier page took, and this one can't read, is put back as it was: it isn't played, and what it would come to isn't said", async () => {
+  const bench = new Bench(), wrong = [["wrong", [GAME, [0, 0], "background:0,", 0], "solvd"]], why = 'mine.json, session 0: its further element "solvd" is nearly "solved", and would demand nothing';
+  const kept = { ...keptOf(withOtherFile(bench.state, fileOf(DAY)), false), file: { name: "mine.json", bytes: bytesOf(wrong) } };
+  const { state } = stateOfVisit([{ name: "work", value: structuredClone(kept) }], GAME);
+  assert.deepEqual([state.file, statusOf(state).text, putBackTold(state)], [null, `The sessions file that was open isn't read any more: ${why}. Put back has it, as it was.`, "Puts back mine.json, which isn't read"]);
+  bench.begin(state);
+  await bench.runner.idle();
+  await bench.act(putBack);
+  await bench.act(edited, `${GAME}(x)`);
+  assert.deepEqual([verdictOf(bench.state, null), tabTold(bench.state)], [{ text: `Not read: ${why}. Saved, the file is as it was.`, close: "refused" }, "Sessions: not read"]);
+  assert.deepEqual([bench.state.suite, JSON.parse(new TextDecoder().decode(bench.state.file.bytes))], [null, wrong]);
+  // nor is it lost behind another one
+  const next = withOtherFile({ ...bench.state, isUnsaved: true }, fileOf(DAY));
+  assert.deepEqual(next.past.map(({ file }) => file?.name), ["mine.json"]);
+});
+
+it("where the engine tells of other sessions than the file has, nothing is said of them", async () => {
+  const bench = await withPush();
+  await bench.act(savedAs);
+  const { lines } = bench.state.suite, asked = playedAgain({ ...bench.state, file: fileOf([DAY[0]]) });
+  const { runs, why } = suiteCame(asked, asked, { fault: null, lines, unsolved: new Set() }, 1).suite;
+  assert.deepEqual([runs, why], [null, "mine.json is not played: the engine tells of 2 sessions, and 1 are read."]);
 });
 
 it("what an earlier page kept without a version is read", async () => {
