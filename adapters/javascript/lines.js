@@ -26,11 +26,16 @@ const fold = (name) => name.replace(/[A-Z]/g, (letter) => letter.toLowerCase());
 const BEYOND = /[\ud800-\udfff]/;
 
 // Names in the order of their bytes, which is that of their units but for letters of two.
-const byBytes = (one, other) => (BEYOND.test(one) || BEYOND.test(other) ? Buffer.compare(Buffer.from(one), Buffer.from(other)) : one < other ? -1 : Number(one > other));
+/** @type {(names: string[]) => string[]} */
+function byBytes(names) {
+  if (!names.some((name) => BEYOND.test(name))) return names.sort();
+  const pairs = names.map((name) => ({ name, bytes: Buffer.from(name) }));
+  return pairs.sort((one, other) => Buffer.compare(one.bytes, other.bytes)).map(({ name }) => name);
+}
 
 // The names of a cell as a level text spells them.
 /** @type {(names: Iterable<string>) => string} */
-const spelt = (names) => [...new Set(Array.from(names, fold))].sort(byBytes).join(" ");
+const spelt = (names) => byBytes([...new Set(Array.from(names, fold))]).join(" ");
 
 // The cells of a level in an order, each as it is spelt.
 /** @type {(level: Level, order: Order) => string[]} */
