@@ -32,10 +32,13 @@ class Lines(OnSessions):
         self.assertEqual((answer.status, answer.out, answer.errors), (1, self.lines.read_text(encoding="utf-8"), ""))
 
     def test_standard_input_is_handed_on(self) -> None:
-        program = self.program('[ "$*" = "--order columns" ] || exit 7\ncat')
+        came = self.room / "came"
+        program = self.program(f'[ "$*" = "--order columns" ] || exit 7\ncat >{came}\ncat {self.lines}')
         for words in ((), ("-",)):
-            answer = run("lines", *words, "--program", program, stdin=b"[]\n")
-            self.assertEqual((answer.status, answer.out, answer.errors), (0, "[]\n", ""))
+            answer = run("lines", *words, "--program", program, stdin=EXAMPLE.read_bytes())
+            self.assertEqual((answer.status, answer.out, answer.errors), (1, self.lines.read_text(encoding="utf-8"), ""))
+            self.assertEqual(came.read_bytes(), EXAMPLE.read_bytes())
+            came.unlink()
 
     def test_a_failure_is_reported_with_its_file_and_entry(self) -> None:
         program = self.program('echo "bad-level 4" >&2\nexit 2')
@@ -87,6 +90,19 @@ class Lines(OnSessions):
                 self.assertIn("that the program closes as played ha", answer.errors)
 
 
+    def test_lines_of_no_frame_and_no_close_are_no_success(self) -> None:
+        sessions, game = self.write("s.json", '[["a",["",[],"a:0,"]]]'), self.write("game.txt", "title A\n")
+        lines = '{"at":0,"frame":0,"kind":"start","level":"a:0,","session":0}', '{"close":"passed","frames":1,"name":"a","session":0}'
+        for strange in ("::error::x", ' {"close":"differs","frames":1,"name":"a","session":0}'):
+            program = self.program("".join(f"echo '{it}'\n" for it in (lines[0], strange, lines[1])))
+            answer = run("lines", sessions, "--program", program)
+            self.assertEqual((answer.status, answer.out.splitlines()), (2, [lines[0], strange, lines[1]]))
+            self.assertIn("s.json was not played: the program writes 1 line of no frame and no close\n", answer.errors)
+            self.assertEqual(run("lines", sessions, "--game", game, "--program", program).status, 2)
+        program = self.program("".join(f"echo '{it}'\n" for it in lines))
+        for words in ((), ("--game", game)):
+            self.assertEqual(run("lines", sessions, "--program", program, *words).status, 0)
+
     def test_a_status_that_says_otherwise_than_the_lines_is_no_success(self) -> None:
         sessions, game = self.write("s.json", '[["a",["",[],"a:0,"]]]'), self.write("game.txt", "title A\n")
         lines = '{"at":0,"frame":0,"kind":"start","level":"a:0,","session":0}', '{"close":"passed","frames":1,"name":"a","session":0}'
@@ -109,12 +125,21 @@ class Tallies(unittest.TestCase):
             tally = Tally()
             for at in range(0, len(self.LINES), size):
                 tally.take(self.LINES[at : at + size])
-            self.assertEqual(tally.closed(), Closed(last=5, closes=5, ordered=5, passed=3, unshown=2), size)
+            self.assertEqual(tally.closed(), Closed(last=5, closes=5, ordered=5, passed=3, unshown=2, strange=0), size)
+
+    def test_lines_that_begin_otherwise_are_counted_wherever_they_are_cut(self) -> None:
+        lines = [b"::error::x\n", b"\n", b' {"close":"differs","frames":1,"name":"a","session":0}\n', b'{"at" :0}\n', b"{", b'{"level":"","session":0}\n', b"x" * 100]
+        whole = b"".join(self.LINES.splitlines(True)[0] + it for it in lines).replace(b"{{", b"{\n{")
+        for size in (1, 2, 3, 7, 39, 40, 41, 100, len(whole)):
+            tally = Tally()
+            for at in range(0, len(whole), size):
+                tally.take(whole[at : at + size])
+            self.assertEqual(tally.closed().strange, len(lines), size)
 
     def test_closes_of_one_session_alone_are_not_those_of_all(self) -> None:
         tally, close = Tally(), b'{"close":"passed","frames":1,"name":"x","session":%d}\n'
         tally.take(close % 1 + close % 1)
-        self.assertEqual(tally.closed(), Closed(last=2, closes=2, ordered=0, passed=2, unshown=2))
+        self.assertEqual(tally.closed(), Closed(last=2, closes=2, ordered=0, passed=2, unshown=2, strange=0))
         self.assertFalse(tally.closed().is_whole(2))
         tally = Tally()
         tally.take(close % 0 + close % 1)

@@ -8,8 +8,8 @@ docs/sessions.md describes the lines.
 Exit status, as that of ./replay: 0 every session passed, 1 some did not, 2
 there is no whole output. Then a line on standard error says which file, and
 where in it. It is 2 too if the program ends without the close of the last
-session, closes another number of them than there are, or closes one as played
-of which it shows no frame. It is 1 if a line says that a session did not pass,
+session, closes another number of them than there are, closes one as played of
+which it shows no frame, or writes what begins as no line of either. It is 1 if a line says that a session did not pass,
 whatever the program says by its status.
 --timeout is for all sessions together."""
 from __future__ import annotations
@@ -42,19 +42,20 @@ MOST_IN_A_PIPE = 1 << 20
 END = re.compile(rb'"session":([0-9]{1,9})}\n\Z')
 MOST_OF_AN_END = 40
 # How the line of a frame begins, and that of a close, with its word where the session was played to its end; and how each ends. None of these has more bytes.
-MARK = re.compile(rb'\n\{"(?:(at":)|(c(?:lose":"(%s)","frames":)?))|"session":([0-9]{1,9})\}(?=\n)' % "|".join(PLAYED).encode())
+MARK = re.compile(rb'\n(?:\{"(?:(at":)|(c(?:lose":"(%s)","frames":)?))|(?=([^{]|\{(?!"(?:at":|c)))))|"session":([0-9]{1,9})\}(?=\n)' % "|".join(PLAYED).encode())
 MOST_OF_A_MARK = 40
 
 
 class Closed(NamedTuple):
     """What lines close: which session stands last, how many closes there are, how many of these are of the sessions in their order, how many passed, and how
-    many of those that were played show nothing."""
+    many of those that were played show nothing. Lines that begin otherwise are strange."""
 
     last: int
     closes: int
     ordered: int
     passed: int
     unshown: int
+    strange: int
 
     def is_whole(self, count: int) -> bool:
         """Whether these are the closes of so many sessions, each once and in order."""
@@ -108,6 +109,8 @@ def check_closed(path: str, count: int, closed: Closed) -> None:
     if not closed.is_whole(count):
         why = f", and the last line is no close of session {count - 1}" if closed.last != count else NOT_IN_ORDER if closed.closes == count else ""
         raise Refused(f"{told_of(path)} was not played whole: the program closed {plural(closed.closes, 'session')} of {count}{why}")
+    if closed.strange:
+        raise Refused(f"{told_of(path)} was not played: the program writes {plural(closed.strange, 'line')} of no frame and no close")
     if closed.unshown:
         raise Refused(f"{told_of(path)} was not played: {plural(closed.unshown, 'session')} that the program closes as played {'has' if closed.unshown == 1 else 'have'} no frame")
 
@@ -121,7 +124,7 @@ class Tally:
     """What lines close that come block by block."""
 
     def __init__(self) -> None:
-        self.closes, self.ordered, self.passed, self.unshown = 0, 0, 0, 0
+        self.closes, self.ordered, self.passed, self.unshown, self.strange = 0, 0, 0, 0, 0
         self.is_shown, self.is_close = False, False
         self.left, self.end = b"\n", b""
 
@@ -141,11 +144,13 @@ class Tally:
             behind = max(behind, mark.end())
         return behind
 
-    def add(self, frame: Optional[bytes], close: Optional[bytes], word: Optional[bytes], session: Optional[bytes]) -> None:
-        """Counts a mark: the begin of a frame, or of a close, or the end of either."""
+    def add(self, frame: Optional[bytes], close: Optional[bytes], word: Optional[bytes], strange: Optional[bytes], session: Optional[bytes]) -> None:
+        """Counts a mark: the begin of a frame, of a close, or of a line that is neither, or the end of one."""
         if session is not None:
             self.ordered += self.is_close and int(session) == self.ordered
             self.is_close = False
+        elif strange is not None:
+            self.strange += 1
         elif frame is not None:
             self.is_shown, self.is_close = True, False
         else:
@@ -158,7 +163,7 @@ class Tally:
         """What all of it closes: no more comes."""
         self.count(self.left, len(self.left))
         found = END.search(self.end)
-        return Closed(int(found[1]) + 1 if found else 0, self.closes, self.ordered, self.passed, self.unshown)
+        return Closed(int(found[1]) + 1 if found else 0, self.closes, self.ordered, self.passed, self.unshown, self.strange)
 
 
 def blocks_in(source: int, ended: Event) -> Iterator[bytes]:
