@@ -6,6 +6,7 @@ are the lines of the part's sessions, numbered from 0.
 from __future__ import annotations
 
 import json
+import os
 import re
 import unittest
 from itertools import accumulate
@@ -308,6 +309,22 @@ class Suite(InARoom):
         one.write_bytes(other.read_bytes())
         other.write_bytes(text)
         self.assert_refused(run("join", self.parts), "these are lines of another part")
+
+    def test_two_parts_are_never_one_file(self) -> None:
+        self.split_and_play(SUITES[0], 3)
+        self.assertIn(run("join", self.parts).status, (0, 1))
+        for ending in ("json", "lines"):
+            one, other = (self.files()[it].with_suffix(f".{ending}") for it in (0, 1))
+            for is_hard in (False, True):
+                text = other.read_bytes()
+                other.unlink()
+                if is_hard:
+                    os.link(one, other)
+                else:
+                    os.symlink(one, other)
+                self.assert_refused(run("join", self.parts), f"{other.name} is the same file as {one}")
+                other.unlink()
+                other.write_bytes(text)
 
     def test_a_part_without_sessions_is_read_once_at_most(self) -> None:
         self.split_and_play(SUITES[0], 3)

@@ -10,15 +10,15 @@ Exit status, as the program's: 0 every session passed, 1 some did not. It is 2,
 with a line on standard error, if a part has no lines, if one of them is no
 line of the program in its place, if they don't show the inputs of its sessions
 or aren't closed as those are, under their names, if FOLDER/parts.txt is cut
-off, or if a part is there that it doesn't know. What was written before is then
-no whole output."""
+off, if two parts are one file, or if a part is there that it doesn't know. What
+was written before is then no whole output."""
 from __future__ import annotations
 
 import os
 import re
 import sys
 from argparse import ArgumentParser, Namespace
-from typing import List
+from typing import Dict, List, Tuple
 
 from saxtegun.commands import Refused, cut, plural
 from saxtegun.files import guard_output
@@ -88,11 +88,25 @@ def joined_part(folder: str, part: Part) -> bool:
     return passed
 
 
+def check_files(folder: str, parts: List[Part]) -> None:
+    """Refuses parts of which two are one file, as by links: a folder of some kilobytes might stand for gigabytes."""
+    known: Dict[Tuple[int, int], str] = {}
+    for path in (os.path.join(folder, it.file(ending)) for it in parts for ending in ("json", "lines")):
+        try:
+            status = os.stat(path)
+        except OSError:
+            continue  # what is missing is said in its turn
+        former = known.setdefault((status.st_dev, status.st_ino), path)
+        if former != path:
+            raise Refused(f"{path} is the same file as {former}")
+
+
 def main(given: Namespace) -> int:
     parts, demands = read_manifest(given.folder)
     known = {it.file(ending) for it in parts for ending in ("json", "lines")}
     for name in sorted(os.listdir(given.folder)):
         if OF_A_PART.fullmatch(name) and name not in known:
             raise Refused(f"{os.path.join(given.folder, name)} is of no part")
+    check_files(given.folder, parts)
     say_demands("join", demands)
     return 0 if all([joined_part(given.folder, it) for it in parts]) else 1
