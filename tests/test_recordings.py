@@ -55,6 +55,13 @@ class WithSource(OnSessions):
             self.assertEqual(run("source", self.game, sessions, "--in-place", "--follow", "--only", "other").status, 0)
             self.assertNotEqual(sessions.read_bytes(), before)
 
+    def test_a_game_may_have_the_title_that_one_without_is_told_by(self) -> None:
+        game = self.write("titled.txt", "title a game\n")
+        sessions = self.write("titled.json", json.dumps([["follows", ["title A game\nOBJECTS\n", [], ""]], ["other", ["title a game\nRULES\n", [], ""]]]))
+        self.assert_refused(run("source", game, sessions, "--follow"), "are of 2 games, by their titles")
+        sessions = self.write("titled.json", json.dumps([["other", ["title a game\nRULES\n", [], ""]]]))
+        self.assertIn("1 session got another source", run("source", game, sessions, "--follow").errors)
+
     def test_titles_that_differ_far_behind_their_beginnings_are_of_two_games(self) -> None:
         long = "x" * 1000
         for one, other in ((f"{long} one", f"{long} two"), ("a" + " " * 9 + "b", "a\\u{20*9}b")):

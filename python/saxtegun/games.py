@@ -52,10 +52,10 @@ def is_seen(text: str) -> bool:
     return any(it.isprintable() and not it.isspace() for it in text)
 
 
-def title_in(told: Description) -> str:
-    """The title that a source has last, whole: titles that differ behind their beginnings are of two games."""
+def title_in(told: Description) -> Optional[str]:
+    """The title that a source has last, whole: titles that differ behind their beginnings are of two games. None where no letter of it is seen."""
     last = next((it.value for it in reversed(told.prelude) if it.keyword == "title"), "")
-    return last if is_seen(last) else UNTITLED
+    return last if is_seen(last) else None
 
 
 def written_lines(lines: Iterable[Line]) -> List[str]:
@@ -81,7 +81,7 @@ class Game:
     def show(self, told: Description, notes: Iterable[str]) -> None:
         """Takes over what is told of a source."""
         self.notes = [*notes]
-        self.title = cut(title_in(told))
+        self.title = cut(title_in(told) or UNTITLED)
         self.ground = PALETTE["black"]
         # by an input the word that switches it off: the site takes no such key, so no recording has it
         self.switches = {SWITCHES[it.keyword]: it.keyword for it in told.prelude if it.keyword in SWITCHES}
@@ -168,8 +168,8 @@ class Game:
         return ["".join(it for it in row if it is not None) for row in letters]
 
 
-def titles_of(sources: Iterable[str]) -> Set[str]:
-    """The titles of the games of sources, whole. This counts as explaining: UsedUp where there is no time left for it."""
+def titles_of(sources: Iterable[str]) -> Set[Optional[str]]:
+    """The titles of the games of sources, whole, or None for one without. This counts as explaining: UsedUp where there is no time left for it."""
     them = dict.fromkeys(sources)
     with EXPLAINING.spent(), expected(them):
         return {title_in(description_of(it)) for it in EXPLAINING.each(them)}
@@ -178,7 +178,7 @@ def titles_of(sources: Iterable[str]) -> Set[str]:
 @lru_cache(maxsize=64)
 def title_of(source: str) -> str:
     """The title of a game, as it is told."""
-    return cut(title_in(description_of(source)))
+    return cut(title_in(description_of(source)) or UNTITLED)
 
 
 def unknown_game(why: str) -> Game:

@@ -9,7 +9,7 @@ from saxtegun.budget import NOT_LOOKED_AT, UsedUp
 from saxtegun.commands import Refused, cut, plural, say
 from saxtegun.descriptions import Undescribed
 from saxtegun.files import MARK, read_text
-from saxtegun.games import UNTITLED, titles_of
+from saxtegun.games import titles_of
 from saxtegun.sessions import Entry, Sessions
 
 # What Unicode calls white space; Python's own idea of it has four letters more.
@@ -90,10 +90,10 @@ def remedy(path: str, others: Sequence[Entry], game: GameText) -> str:
     except (Undescribed, UsedUp) as why:
         return f"whether {'it is' if len(others) == 1 else 'they are'} of another game isn't known: {NOT_LOOKED_AT if isinstance(why, UsedUp) else why}"
     call = f"`saxtegun source {quote(game.path)} {quote(path)} --follow --in-place"
-    if titles == {title} != {UNTITLED}:
+    if titles == {title} and title is not None:
         return f"{call}` makes {'it' if len(others) == 1 else 'them'} follow {game.path}"
-    if title in titles or UNTITLED in titles:
-        return f"not all have {'a' if title == UNTITLED else 'its'} title: with --only NAME behind it {call}` makes one follow that is of {game.path}"
+    if title in titles or None in titles:
+        return f"not all have {'a' if title is None else 'its'} title: with --only NAME behind it {call}` makes one follow that is of {game.path}"
     return "by its title it is of another game" if len(others) == 1 else "by their titles they are of other games"
 
 

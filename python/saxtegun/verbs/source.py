@@ -19,7 +19,7 @@ from typing import Sequence
 from saxtegun.budget import SECONDS, UsedUp
 from saxtegun.commands import Refused, plural, say
 from saxtegun.files import guard_output, guard_places, write_again
-from saxtegun.games import UNTITLED, titles_of
+from saxtegun.games import titles_of
 from saxtegun.sessions import Entry, changed, chosen, guard_size, read_sessions
 from saxtegun.texts import read_named
 
@@ -43,7 +43,7 @@ def check_titles(entries: Sequence[Entry], text: str, given: Namespace) -> None:
         titles, own = titles_of(it.source for it in entries if it.source), titles_of([text])
     except UsedUp:
         raise Refused(f"the titles of all texts that would go take over {SECONDS:.0f} s to read: name the sessions of {given.game} with --only, or say --all") from None
-    if UNTITLED in titles:
+    if None in titles:
         raise Refused(f"a text that would go has no title, so nothing tells that it is of {given.game}: name the sessions of that with --only, or say --all")
     games = titles | own
     if titles and len(games) > 1:
