@@ -3,6 +3,7 @@ from __future__ import annotations
 
 import json
 import os
+import re
 import signal
 import subprocess
 import sys
@@ -230,11 +231,23 @@ class Shrink(OnAYard):
         of = Sessions("s.json", "", [entry])
         files = files_of_case(entry, shown, engine, of)
         self.assertEqual(files["stdout"].count(b"\n"), 3)
-        for body in ("", 'echo \'{"at":0,"frame":0,"kind":"start","level":"a:0,","session":0}\'', "echo no line"):
-            silent = self.write("silent", f"#!/bin/sh\n{body}\n")
-            silent.chmod(0o755)
+        lines = files["stdout"].decode().splitlines(keepends=True)
+        frames, close = lines[:-1], lines[-1]
+        stopped = re.sub('"close":"(passed|differs)"', '"cause":"loop-limit","close":"stopped"', close)
+        wrongs: Tuple[List[str], ...] = ([], ['{"at":0,"frame":0,"kind":"start","level":"a:0,","session":0}\n'], ["no line\n"], frames, [*frames, stopped], [*lines, close], [*lines, "x\n"])
+        for wrong in wrongs:
             with self.assertRaises(Refused):
-                files_of_case(entry, shown, Engine(program=str(silent)), of)
+                files_of_case(entry, shown, self.saying(wrong), of)
+        # what passes and what differs hangs on the recorded level alone
+        turned = close.replace("differs", "passed") if "differs" in close else close.replace("passed", "differs")
+        self.assertEqual(files_of_case(entry, shown, self.saying([*frames, turned]), of)["stdout"], "".join([*frames, turned]).encode())
+
+    def saying(self, lines: List[str]) -> Engine:
+        """An engine that writes these lines, whatever it is asked."""
+        text = self.write("said.lines", "".join(lines))
+        program = self.write("saying", f"#!/bin/sh\ncat '{text}'\n")
+        program.chmod(0o755)
+        return Engine(program=str(program))
 
     def test_a_program_that_shows_something_else_each_time_makes_no_case(self) -> None:
         """It has the bug in its first call, and then in none."""

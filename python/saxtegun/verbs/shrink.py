@@ -36,7 +36,7 @@ from saxtegun.divergence import below_of, divergence_of, sentence_of
 from saxtegun.engines import FAILED, SECONDS, answers, engine_at, failure_told, tellers_of, with_frames
 from saxtegun.files import guard_places
 from saxtegun.levels import Labels, read_cells
-from saxtegun.lines import Frame, Run, frame_of, line_of
+from saxtegun.lines import PLAYED, Run, runs_in
 from saxtegun.playing import Engine, play_file
 from saxtegun.processes import held, room_for_now
 from saxtegun.sessions import Entry, Sessions, chosen, read_sessions, written
@@ -105,11 +105,16 @@ def with_reached(entry: Entry, run: Run) -> Entry:
     return entry._replace(level=level if read_cells(level, Labels()) is not None else "")
 
 
-def frames_in(data: bytes) -> List[Frame]:
-    """The frames that lines show."""
-    lines = data.decode("utf-8", "replace").split("\n")[:-1]
-    values = [line_of("what the program wrote", number, it) for number, it in enumerate(lines, 1)]
-    return [it for it in map(frame_of, values) if it is not None]
+def is_as_shown(path: str, entry: Entry, shown: Run) -> bool:
+    """Whether these lines are a whole answer of one session, with the frames and the close that were shown before. Another recorded level may make it pass or
+    differ."""
+    try:
+        runs = [run for _, run in runs_in(path)]
+    except Refused:
+        return False
+    return [
+        (it.name, it.frames, it.cause, it.close in PLAYED or it.close) for it in runs
+    ] == [(entry.name, shown.frames, shown.cause, shown.close in PLAYED or shown.close)]
 
 
 def files_of_case(entry: Entry, shown: Run, engine: Engine, of: Sessions) -> Dict[str, bytes]:
@@ -122,8 +127,9 @@ def files_of_case(entry: Entry, shown: Run, engine: Engine, of: Sessions) -> Dic
         status = play_file(path, lines, engine, of._replace(entries=[entry]), engine.seconds)
         with open(lines, "rb") as lines_shown:
             stdout = lines_shown.read()
-    if frames_in(stdout) != shown.frames:
-        raise Refused(f"{cut(entry.name)} with {plural(len(entry.inputs), 'input')} shows other frames than before: {NOT_EACH_TIME}")
+        is_same = is_as_shown(lines, entry, shown)
+    if not is_same:
+        raise Refused(f"{cut(entry.name)} with {plural(len(entry.inputs), 'input')} shows other frames than before, or another close: {NOT_EACH_TIME}")
     args = "--order\nrows\n" if engine.order == "rows" else ""
     return {"input.json": text.encode(), "args": args.encode(), "stdout": stdout, "stderr": b"", "status": f"{status}\n".encode()}
 
