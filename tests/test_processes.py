@@ -247,8 +247,28 @@ class Bounds(Programs):
                 self.assert_gone(int((self.room / "number").read_text()))
 
 
+    def test_ctrl_c_ends_a_command_whose_output_nobody_reads(self) -> None:
+        with subprocess.Popen([sys.executable, "-c", ENDLESS], env={**environment(), "PYTHONPATH": str(TOP / "python")}, stdout=subprocess.PIPE, preexec_fn=hear_signals) as ran:
+            time.sleep(2)
+            ran.send_signal(signal.SIGINT)
+            self.assertEqual(ran.wait(timeout=20), 2)
+            assert ran.stdout is not None
+            ran.stdout.close()
+
+
 class Ended(Exception):
     """What a signal raises here."""
+
+
+# A command that writes more than a pipe holds.
+ENDLESS = """
+import sys
+from saxtegun.commands import serve
+def act():
+    while True:
+        sys.stdout.write("a line\\n" * 1000)
+serve("endless", act)
+"""
 
 
 # A command that is done, and to which a signal comes as it ends.

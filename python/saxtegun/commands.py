@@ -303,7 +303,9 @@ def status_of(name: str, main: Callable[[], int]) -> int:
         fail(name, "there is not enough memory")
         status = 2
     except KeyboardInterrupt:
+        # whoever reads the output may keep this waiting for ever
         status = 2
+        silence(sys.stdout, 1)
     except Exception:
         # a fault of this command's own is no answer, and may hold a text of a stranger
         for line in traceback.format_exc().splitlines():

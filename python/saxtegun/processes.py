@@ -103,13 +103,14 @@ class Beside(Thread, Generic[Value]):
         return self.values[0]
 
     def leave(self) -> None:
-        """Ends the program that it has started, and so itself, since it starts no other."""
+        """Ends the program that it has started, and so itself, since it starts no other. What comes meanwhile waits: it would leave a folder behind."""
         self.is_left = True
-        while not self.done.is_set():
-            ran = self.ran
-            if ran is not None and ran.poll() is None:
-                end(ran)
-            self.done.wait(PAUSE)
+        with held():
+            while not self.done.is_set():
+                ran = self.ran
+                if ran is not None and ran.poll() is None:
+                    end(ran)
+                self.done.wait(PAUSE)
 
 
 @contextmanager
