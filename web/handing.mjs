@@ -102,12 +102,15 @@ export const isTyped = (text, element) => text === "" || (Boolean(element.matche
 // Whether a text may be dropped into an element, as the browser does that.
 const isField = (element) => Boolean(element.matches?.("textarea, input[type=text], input[type=search], input:not([type])")) && !element.readOnly && !element.disabled;
 
-// Holds what is dropped before the page can take files: a browser would open it in the place of the page, whoever made it. The answer ends that, and has the files.
+// Holds what is dropped before the page can take it: a browser would open a file in the place of the page, whoever made it. The answer ends that, and has the
+// files, and texts as files.
 export function holdingDrops() {
   /** @type {File[]} */
   const held = [], hold = (event) => {
     event.preventDefault();
-    if (event.type === "drop") held.push(...event.dataTransfer?.files ?? []);
+    if (event.type !== "drop") return;
+    const files = [...event.dataTransfer?.files ?? []], text = event.dataTransfer?.getData("text/plain") ?? "";
+    held.push(...(files.length > 0 || text === "" ? files : [new File([text], PASTED)]));
   };
   const types = ["dragover", "drop"];
   types.forEach((type) => document.addEventListener(type, hold));

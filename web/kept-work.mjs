@@ -2,7 +2,7 @@
 // A state as it is kept between visits, and back. What is kept has a version; what can't be read is no state.
 import { lackingOf, withNote } from "./notes.mjs";
 import { packed, takePack, unpacked } from "./packing.mjs";
-import { lastLost, lostNow, remembering, withKeys, withTexts } from "./past.mjs";
+import { lastLost, lostNow, rememberingKeys, withKeys, withTexts } from "./past.mjs";
 import { Values } from "./sameness.mjs";
 import { MOST_INPUTS, Refusal, SessionFile } from "./session-file.mjs";
 import { whyNoField } from "./texts.mjs";
@@ -110,7 +110,7 @@ function stateOfEntry({ value, note = null }, example) {
   const before = stateFrom(value, example), whole = before && withNote(value, note), after = whole && stateFrom(whole, example);
   if (before === null || note === null || after === null) return before;
   // a note that was cut may have left out a file of its own: the one of before is as much changed as it was
-  return note.isCut ? remembering(before, { ...after, isUnsaved: before.isUnsaved || after.isUnsaved }) : after;
+  return note.isCut ? rememberingKeys(before, { ...after, isUnsaved: before.isUnsaved || after.isUnsaved }) : after;
 }
 
 // What another tab left, as it can be put back.

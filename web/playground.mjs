@@ -226,6 +226,12 @@ async function start() {
   document.documentElement.dataset.opened = "true";
 }
 
+// Says that the page can't begin: nothing that it promises holds then.
+function failed(error) {
+  say("status", `This page can't begin here, and takes nothing: ${error.message}. It needs a browser with WebAssembly, and memory for its engine.`);
+  say("promise", "Nothing is kept.");
+}
+
 // in a worker this script plays what it is handed, and there is no page
-if (typeof document === "object") start();
+if (typeof document === "object") start().catch(failed);
 else if (globalThis.self?.name === PLAYER) servePlayer();

@@ -24,9 +24,10 @@ test("what is dropped is taken, and never opened by the browser in the place of 
   try {
     const release = holdingDrops();
     for (const type of ["dragover", "drop"]) for (const target of [element(false), element(true)]) assert.equal(isLeft(page, type, { files: type === "drop" ? [FILE] : [], target }), false);
+    assert.equal(isLeft(page, "drop", { text: "a text" }), false);
     takeFiles((name, bytes) => taken.push([name, new TextDecoder().decode(bytes)]), (why) => taken.push(why), (begin) => coming.push(begin()), release());
     await Promise.all(coming);
-    assert.deepEqual(taken.splice(0), [["a.txt", GAME], ["a.txt", GAME]]);
+    assert.deepEqual(taken.splice(0), [["a.txt", GAME], ["a.txt", GAME], ["pasted", "a text"]]);
     for (const [type, what, left] of /** @type {[string, object, boolean][]} */ ([
       ["dragover", { files: [FILE] }, false], ["dragover", { text: "x" }, false], ["dragover", { text: "x", target: element(true) }, true], ["dragover", { files: [FILE], target: element(true) }, false],
       ["drop", { files: [FILE], target: element(true) }, false], ["drop", { text: "x" }, false], ["drop", {}, false], ["drop", { text: "y\rz", target: element(true) }, true],
