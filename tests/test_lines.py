@@ -6,6 +6,7 @@ import random
 import subprocess
 import sys
 import unittest
+import unittest.mock
 from pathlib import Path
 from time import monotonic
 from typing import Tuple
@@ -13,8 +14,9 @@ from typing import Tuple
 from day import EXAMPLE, OnSessions
 from tool import PROGRAM, TOP, plays, run
 from saxtegun.lines import READER, frame_of, written_frame
-from saxtegun.playing import refusal
-from saxtegun.sessions import sessions_in
+from saxtegun import command_line
+from saxtegun.playing import Engine, Late, lines_within, refusal
+from saxtegun.sessions import read_sessions, sessions_in
 from saxtegun.verbs.lines import Closed, Tally
 
 RUN = TOP / "conformance/run"
@@ -89,6 +91,25 @@ class Lines(OnSessions):
                 self.assertEqual((answer.status, answer.out.splitlines()), (2, lines))
                 self.assertIn("that the program closes as played ha", answer.errors)
 
+
+    def test_the_time_is_for_all_that_is_played_over_a_game(self) -> None:
+        """Which may be more than the program takes at once."""
+        sessions = self.write("s.json", json.dumps([[name, ["", [], "a:0,"]] for name in "abc"]))
+        lines = '{"at":0,"frame":0,"kind":"start","level":"a:0,","session":0}', '{"close":"passed","frames":1,"name":"a","session":0}'
+        program = self.program("sleep 0.7\n" + "".join(f"echo '{it}'\n" for it in lines))
+        of, engine = read_sessions(str(sessions)), Engine(program=str(program), seconds=30)
+        with unittest.mock.patch("saxtegun.playing.MOST_ENTRIES", 1):
+            self.assertEqual(len([*lines_within(of.entries, of, engine)]), 6)
+            with self.assertRaises(Late):
+                list(lines_within(of.entries, of, engine._replace(end=monotonic() + 1.4)))
+        program = self.program("exec sleep 1000")
+        self.assert_refused(run("lines", sessions, "--game", self.write("game.txt", "title A\n"), "--program", program, "--timeout", "1"), "s.json was not played: not answered in 1 s")
+
+    def test_what_is_written_for_people_is_guarded_whatever_a_file_is_called(self) -> None:
+        for words, is_data in ((["why", "a.json", "--json"], True), (["why", "--", "--json"], False), (["lines", "--", "a.json"], True), (["test", "--json"], False)):
+            with unittest.mock.patch("sys.argv", ["saxtegun", *words]), unittest.mock.patch("saxtegun.command_line.serve") as serve:
+                command_line.call()
+            self.assertEqual(serve.call_args[0][2], is_data, words)
 
     def test_lines_of_no_frame_and_no_close_are_no_success(self) -> None:
         sessions, game = self.write("s.json", '[["a",["",[],"a:0,"]]]'), self.write("game.txt", "title A\n")

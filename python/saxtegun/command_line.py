@@ -93,4 +93,6 @@ def main() -> int:
 def call() -> None:
     """Runs the command, and ends with its status."""
     verb = sys.argv[1] if len(sys.argv) > 1 and sys.argv[1] in VERBS else ""
-    serve(f"saxtegun {verb}".strip(), main, verb in OF_DATA or (verb == "why" and "--json" in sys.argv))
+    # behind `--` stand names alone
+    options = sys.argv[: sys.argv.index("--")] if "--" in sys.argv else sys.argv
+    serve(f"saxtegun {verb}".strip(), main, verb in OF_DATA or (verb == "why" and "--json" in options))

@@ -21,14 +21,16 @@ import select
 import sys
 import tempfile
 from argparse import ArgumentParser, Namespace
+from math import inf
 from threading import Event
+from time import monotonic
 from typing import Iterator, List, NamedTuple, Optional, Sequence, Tuple
 
 from saxtegun.commands import Refused, add_game, add_playing, add_ticks, plural
 from saxtegun.descriptions import expect
 from saxtegun.files import NoFile, TooLong, guard_output, read_bytes
 from saxtegun.lines import PLAYED
-from saxtegun.playing import engine_of, lines_within, refusal
+from saxtegun.playing import Late, engine_of, lines_within, refusal
 from saxtegun.processes import PAUSE, Beside, Ran, watched
 from saxtegun.sessions import MOST_BYTES, Entry, read_sessions, sessions_in
 from saxtegun.texts import over, read_game, say_others, say_untested
@@ -227,10 +229,14 @@ def play_over(given: Namespace) -> int:
     say_others("lines", sessions, game)
     say_untested("lines", sessions.entries)
     expect(it.source for it in sessions.entries)
-    tally = Tally()
-    for line in lines_within(sessions.entries, sessions, engine_of(given)):
-        tally.take(line.encode())
-        sys.stdout.write(line)
+    tally, engine = Tally(), engine_of(given)
+    end = monotonic() + given.timeout if given.timeout else inf
+    try:
+        for line in lines_within(sessions.entries, sessions, engine._replace(end=end)):
+            tally.take(line.encode())
+            sys.stdout.write(line)
+    except Late:
+        raise Refused(f"{given.sessions} was not played: not answered in {given.timeout:g} s") from None
     closed = tally.closed()
     check_closed(given.sessions, len(sessions.entries), closed)
     return 0 if closed.passed == closed.closes else 1
