@@ -1,7 +1,7 @@
 -- Two levels of one size: the words tell in which cells they differ, and where nothing heads the planes of the rows do.
 use Rattle.pz_sheet.proofs.Common.{◌≡◌, ℕ, ◌+◌, ◌*◌, ◌/◌, ◌%◌, ◌<◌, ◌≤◌, List, [], Option, Some, None, Bool, false, true, refl, not, IsTrue, ◌↔◌, length, length-map, get_or, get_or-map, arith, ap, sym, ◌∙◌, cases_lt, div-mul-add, mod-mul-add, mul-add-lt, no_cell, in_word, member, PlaneSets, HeadingSets, stands_in, number_of, column_in, row_in, Cell, Layering, AreAlike, IsSound, pieces_of_cell, IsNext, IsNextDiffering, differ_in, BareState, SameSize, grid_of}
 use Rattle.std.proofs.Math.Bool.{not-not}
-use Rattle.pz_planes.specs.Planes.{AreSameAt, IsNextDifferingLine, IsNextDifferingPosition}
+use Rattle.pz_planes.specs.Planes.{AreSameAt, HasRoomOf, IsNextDifferingLine, IsNextDifferingPosition}
 use Rattle.pz_planes.specs.declared.planes.Differing.{Differing}
 use Rattle.pz_sheet.specs.Changes.{TellsOf}
 use Rattle.pz_sheet.specs.Seen.{IsSheet}
@@ -79,6 +79,16 @@ module _ {N : ℕ} {here there : BareState} (a b : Inside N) (size : SameSize he
 
   pub as_many : length a.cells.items ≡ length b.cells.items
   as_many = grind (arith, same_width, same_height, sheet.stored.covers, sheet_other.stored.covers)
+
+  pub as_many_seen : length here.grid.cells ≡ length there.grid.cells
+  as_many_seen = many ∙ (as_many ∙ (sym (length-map b.cells.items (pieces_of_cell b.layers)) ∙ ap (λ (l : BareState). length l.grid.cells) is_other))
+
+  -- the planes of the rows have as many objects and lines
+  pub same_room : HasRoomOf a.planes.rows b.planes.rows
+  same_room = record {
+    objects = sheet.placed.fits.row_objects ∙ (ap (λ (l : Layering). length l.layers) same_layers ∙ sym sheet_other.placed.fits.row_objects);
+    count = sheet.placed.fits.row_count ∙ (same_height ∙ sym sheet_other.placed.fits.row_count);
+  }
 
   -- the words tell whether the cells of a number are the same
   same_cells : (index : ℕ) (r : Bool) → index < length a.cells.items → (IsTrue r ↔ AreAlike (get_or a.cells.items index (no_cell N)) (get_or b.cells.items index (no_cell N))) → differ_in here.grid there.grid index ≡ not r

@@ -117,7 +117,6 @@ impl<const N: usize> Sheet<N> {
 
     /// The first cell, from number `from` on, in which another level of the same size differs. Then the changes in its row are known, if
     /// that is little work.
-    #[tactic(auto, using(crate::proofs::SheetLemmas::lawful_here))]
     pub fn learn_next(
         &self,
         other: &Sheet<N>,

@@ -1,8 +1,11 @@
 use Rattle.pz_sheet.proofs.Common.{None, Some, length, ap, sym, ◌∙◌, refl, small_cell}
 use Rattle.pz_sheet.proofs.SheetLemmas.{lawful_here}
 use Rattle.pz_sheet.proofs.StillLemmas.{nowhere_read}
-use Rattle.pz_sheet.proofs.TellLemmas.{as_many, next_is, next_by_planes, known_row}
+use Rattle.pz_sheet.proofs.TellLemmas.{as_many, as_many_seen, same_room, next_is, next_by_planes, known_row}
 use Rattle.pz_sheet.proofs.Sheet.learn_next.Goals as goal
+
+pub next_differing-requires-clause-room : goal.next_differing-requires-clause-room
+next_differing-requires-clause-room g c = rw (c.lines-rows.ensures, c.lines-others.ensures) (same_room c.self.inside c.other.inside c.requires.size c.self.view_is c.other.view_is c.self.invariant c.other.invariant)
 
 pub returns-in_default-clause-next : goal.returns-in_default-clause-next
 returns-in_default-clause-next g c = next_by_planes c.self.inside c.other.inside c.requires.size c.self.view_is c.other.view_is c.self.invariant c.other.invariant (c.if-is_told_by_planes.ensures refl) (c.if-are_still.ensures.0 refl).0 (c.if-are_still.ensures.0 refl).1 c.args.from None (rw (c.lines-rows.ensures, c.lines-others.ensures) at c.in_default.ensures)
@@ -25,3 +28,18 @@ returns-clause-next g c = next_is c.self.inside c.other.inside c.requires.size c
 
 pub returns-clause-lawful : goal.returns-clause-lawful
 returns-clause-lawful g c = lawful_here _ _ _ _ _ _ _ c.self.invariant.stored c.self.view_is
+
+pub returns-clause-as_many : goal.returns-clause-as_many
+returns-clause-as_many g c = as_many_seen c.self.inside c.other.inside c.requires.size c.self.view_is c.other.view_is c.self.invariant c.other.invariant
+
+pub returns-in_default-clause-as_many : goal.returns-in_default-clause-as_many
+returns-in_default-clause-as_many g c = as_many_seen c.self.inside c.other.inside c.requires.size c.self.view_is c.other.view_is c.self.invariant c.other.invariant
+
+pub returns-in_default-clause-lawful : goal.returns-in_default-clause-lawful
+returns-in_default-clause-lawful g c = lawful_here _ _ _ _ _ _ _ c.self.invariant.stored c.self.view_is
+
+pub returns-then-is_told_by_planes-clause-as_many : goal.returns-then-is_told_by_planes-clause-as_many
+returns-then-is_told_by_planes-clause-as_many g c = as_many_seen c.self.inside c.other.inside c.requires.size c.self.view_is c.other.view_is c.self.invariant c.other.invariant
+
+pub returns-then-is_told_by_planes-clause-lawful : goal.returns-then-is_told_by_planes-clause-lawful
+returns-then-is_told_by_planes-clause-lawful g c = lawful_here _ _ _ _ _ _ _ c.self.invariant.stored c.self.view_is
