@@ -1,12 +1,16 @@
 -- Steps through the lines of LEVELS.
-use Rattle.std.proofs.Common.{◌≡◌, ℕ, ◌<◌, ◌≤◌, ◌+◌, ◌-◌, zero, suc, true, false, List, [], ◌∷◌, ◌++◌, length, take, drop, get_or, refl, ap, sym, ◌∙◌, arith, length-drop, Bool, true≢false}
+use Rattle.std.proofs.Common.{◌≡◌, ℕ, ◌<◌, ◌≤◌, ◌+◌, ◌-◌, zero, suc, true, false, List, [], ◌∷◌, ◌++◌, length, take, drop, get_or, Option, Some, Ok, Err, refl, ap, sym, ◌∙◌, arith, length-drop, Bool, true≢false}
 use Rattle.std.specs.List.{slice_range, list_all}
-use Rattle.std.specs.Prelude.{if◌then◌else◌}
+use Rattle.std.specs.Prelude.{if◌then◌else◌, option_and_then}
+use Rattle.std.specs.Option.{option_map_or}
 use Rattle.std.proofs.lemmas.List.Folds.{list_all-append, list_all_at}
 use Rattle.std.proofs.lemmas.List.{get_or-drop}
-use Rattle.pz_source.specs.Levels.{entries_of, rows_if_any, is_message, is_entry, row_of_length}
+use Rattle.pz_source.specs.Levels.{entries_of, rows_if_any, is_message, is_entry, glyphs_of, row_of, row_of_length}
+use Rattle.pz_base.specs.Fault.{and_then}
+use Rattle.pz_base.specs.declared.fault.Code.TheVariants as code
+use Rattle.pz_base.proofs.EachLemmas.{behind, some_behind}
 use Rattle.pz_names.specs.Objects.{is_blank}
-use Rattle.pz_base.proofs.ListLemmas.{take-next}
+use Rattle.pz_base.proofs.ListLemmas.{drop-next, take-next}
 use Rattle.pz_text.specs.declared.line.Line.{Line}
 
 drop-one : {A : Type 0} (i : ℕ) (xs : List A) → drop 1 (drop i xs) ≡ drop (i + 1) xs
@@ -22,6 +26,21 @@ filled-step row width last i lt =
     let here : get_or (drop i row) 0 last ≡ get_or row i last = get_or-drop i row 0 last ∙ ap (λ n. get_or row n last) (let e : i + 0 ≡ i = omega arith in e) in
     ap (λ n. row_of_length n last (drop i row)) more
     ∙ (ap (λ x. x ∷ row_of_length (width - (i + 1)) x (drop 1 (drop i row))) here ∙ ap (λ r. get_or row i last ∷ row_of_length (width - (i + 1)) (get_or row i last) r) (drop-one i row))
+
+-- one more number of a row
+pub number-next : (glyph : ℕ → Option ℕ) (row : List ℕ) (i c : ℕ) (done next : List ℕ) (number : ℕ) → i < length row → c ≡ get_or row i c → glyph c ≡ Some number → next ≡ done ++ number ∷ []
+    → some_behind glyph next (drop (i + 1) row) ≡ some_behind glyph done (drop i row)
+number-next glyph row i c done next number lt is got more =
+    ap (λ found. some_behind glyph found (drop (i + 1) row)) more
+    ∙ (ap (option_and_then (λ n. some_behind glyph (done ++ n ∷ []) (drop (i + 1) row))) (sym got) ∙ ap (some_behind glyph done) (sym (drop-next row i c lt is)))
+
+-- one more row of a level
+pub row-next : (glyph : ℕ → Option ℕ) (width : ℕ) (lines : List Line) (i : ℕ) (line : Line) (done next row : List ℕ) → i < length lines → line ≡ get_or lines i line → glyphs_of glyph (take width line.text) ≡ Some row → next ≡ done ++ row_of_length width 0 row
+    → behind (λ cells. cells) (row_of glyph width) next (drop (i + 1) lines) ≡ behind (λ cells. cells) (row_of glyph width) done (drop i lines)
+row-next glyph width lines i line done next row lt is got more =
+    let read : row_of glyph width line ≡ Ok (row_of_length width 0 row) = ap (λ numbers. option_map_or (λ r. Ok (row_of_length width 0 r)) numbers (Err (record { code = code.BadGlyph; line = line.number }))) got in
+    ap (λ cells. behind (λ r. r) (row_of glyph width) cells (drop (i + 1) lines)) more
+    ∙ (ap (and_then (λ cells. behind (λ r. r) (row_of glyph width) (done ++ cells) (drop (i + 1) lines))) (sym read) ∙ ap (behind (λ r. r) (row_of glyph width) done) (sym (drop-next lines i line lt is)))
 
 pub range-next : {A : Type 0} (xs : List A) (start place : ℕ) (x : A) → start ≤ place → place < length xs → x ≡ get_or xs place x
     → slice_range xs start (place + 1) ≡ slice_range xs start place ++ x ∷ []
