@@ -1,5 +1,5 @@
 -- Steps through the lines of LEVELS.
-use Rattle.std.proofs.Common.{◌≡◌, ℕ, ◌<◌, ◌≤◌, ◌+◌, ◌-◌, zero, suc, true, false, List, [], ◌∷◌, ◌++◌, length, take, drop, get_or, Option, Some, Ok, Err, refl, ap, sym, ◌∙◌, arith, length-drop, Bool, true≢false}
+use Rattle.std.proofs.Common.{◌≡◌, ℕ, ◌<◌, ◌≤◌, ◌+◌, ◌-◌, zero, suc, true, false, List, [], ◌∷◌, ◌++◌, length, take, drop, get_or, map, Bor, Option, Some, Result, Ok, Err, refl, ap, sym, ◌∙◌, arith, length-drop, Bool, true≢false}
 use Rattle.std.specs.List.{slice_range, list_all}
 use Rattle.std.specs.Prelude.{if◌then◌else◌, option_and_then}
 use Rattle.std.specs.Option.{option_map_or}
@@ -8,7 +8,9 @@ use Rattle.std.proofs.lemmas.List.{get_or-drop}
 use Rattle.pz_source.specs.Levels.{entries_of, rows_if_any, is_message, is_entry, glyphs_of, row_of, row_of_length}
 use Rattle.pz_base.specs.Fault.{and_then}
 use Rattle.pz_base.specs.declared.fault.Code.TheVariants as code
-use Rattle.pz_base.proofs.EachLemmas.{behind, some_behind}
+use Rattle.pz_base.proofs.EachLemmas.{behind, behind_at, some_behind}
+use Rattle.pz_base.specs.declared.fault.SourceFault.{SourceFault}
+use Rattle.pz_game.specs.declared.level.LevelEntry.{LevelEntry}
 use Rattle.pz_names.specs.Objects.{is_blank}
 use Rattle.pz_base.proofs.ListLemmas.{drop-next, take-next}
 use Rattle.pz_text.specs.declared.line.Line.{Line}
@@ -41,6 +43,13 @@ row-next glyph width lines i line done next row lt is got more =
     let read : row_of glyph width line ≡ Ok (row_of_length width 0 row) = ap (λ numbers. option_map_or (λ r. Ok (row_of_length width 0 r)) numbers (Err (record { code = code.BadGlyph; line = line.number }))) got in
     ap (λ cells. behind (λ r. r) (row_of glyph width) cells (drop (i + 1) lines)) more
     ∙ (ap (and_then (λ cells. behind (λ r. r) (row_of glyph width) (done ++ cells) (drop (i + 1) lines))) (sym read) ∙ ap (behind (λ r. r) (row_of glyph width) done) (sym (drop-next lines i line lt is)))
+
+-- one more entry, read by the number of those above it
+pub entry-next : (read : ℕ → List Line → Result LevelEntry SourceFault) (blocks : List (Bor (List Line))) (i : ℕ) (block : Bor (List Line)) (done next : List LevelEntry) (entry : LevelEntry) → i < length blocks → block ≡ get_or blocks i block
+    → read (length done) block.now ≡ Ok entry → next ≡ done ++ entry ∷ [] → behind_at read next (map (λ b. b.now) (drop (i + 1) blocks)) ≡ behind_at read done (map (λ b. b.now) (drop i blocks))
+entry-next read blocks i block done next entry lt is got more =
+    ap (λ entries. behind_at read entries (map (λ b. b.now) (drop (i + 1) blocks))) more
+    ∙ (ap (and_then (λ e. behind_at read (done ++ e ∷ []) (map (λ b. b.now) (drop (i + 1) blocks)))) (sym got) ∙ ap (λ bs. behind_at read done (map (λ (b : Bor (List Line)). b.now) bs)) (sym (drop-next blocks i block lt is)))
 
 pub range-next : {A : Type 0} (xs : List A) (start place : ℕ) (x : A) → start ≤ place → place < length xs → x ≡ get_or xs place x
     → slice_range xs start (place + 1) ≡ slice_range xs start place ++ x ∷ []

@@ -2,7 +2,7 @@ use Rattle.std.proofs.Common.{◌≡◌, ◌<◌, [], List, Bor, length, map, ge
 use Rattle.std.proofs.lemmas.List.{length-map, get_or-map}
 use Rattle.pz_source.specs.Levels.{entries_of, entry_of, glyph_of}
 use Rattle.pz_text.specs.declared.line.Line.{Line}
-use Rattle.pz_source.proofs.LevelLemmas.{entry-drawn}
+use Rattle.pz_source.proofs.LevelLemmas.{entry-drawn, entry-next}
 use Rattle.pz_base.proofs.EachLemmas.{behind_at, behind_at_none}
 use Rattle.pz_source.proofs.levels.read_levels.Goals as goal
 
@@ -32,4 +32,15 @@ loop-block-init c =
       read = rw c.new-read.ensures.items (ap blocks c.deref-block-items.ensures.value ∙ (all ∙ behind_at_none entry (entries_of [] c.args.lines.now)));
       names = ap (λ glyphs. glyphs.names) c.new-glyphs.ensures;
       values = ap (λ glyphs. glyphs.values) c.new-glyphs.ensures;
+    }
+
+pub loop-block-preserved : goal.loop-block-preserved
+loop-block-preserved c =
+    let i = c.loop-block.invariant in
+    let entry = entry_of (glyph_of c.args.names.now c.args.values.now) in
+    let got = sym (rw (c.in-Ok.is, i.names, i.values, c.len.ensures ∙ c.loop-block.read.ok.0) at c.in_ok-found.ensures.read) in
+    record {
+      read = entry-next entry c.deref-block-items.result.now c.loop-block.block-index c.block-item.result c.loop-block.read.items c.push.new.self.items c.in-Ok.found c.loop-block-test.true c.block-item.is got c.in_ok-push.ensures.items ∙ i.read;
+      names = ap (λ glyphs. glyphs.names) c.read_entry.ensures.same ∙ i.names;
+      values = ap (λ glyphs. glyphs.values) c.read_entry.ensures.same ∙ i.values;
     }
