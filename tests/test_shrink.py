@@ -223,6 +223,21 @@ class Shrink(OnAYard):
             ran.wait(60)
             self.assertEqual(state_of(int(pids.read_text())), "X", number)
 
+    def test_what_ends_it_ends_what_reads_too(self) -> None:
+        """The program has written very much, and ended."""
+        frame = '{"at":%d,"frame":%d,"kind":"move","level":"a:0,","session":0}\n'
+        writer = self.write("writer", f"#!{sys.executable}\nimport sys\nfor number in range(600_000): sys.stdout.write({frame!r} % (number, number))\nsys.stdout.flush()\nopen({str(self.room / 'done')!r}, 'w').close()\n")
+        writer.chmod(0o755)
+        command = [sys.executable, TOP / "saxtegun", "shrink", writer, writer, self.sessions, "idle", self.room / "case"]
+        ran = subprocess.Popen(list(map(str, command)), stdin=subprocess.DEVNULL, stdout=subprocess.DEVNULL, stderr=subprocess.DEVNULL, env=environment(), preexec_fn=hear_signals)
+        while not (self.room / "done").exists():
+            time.sleep(0.05)
+        time.sleep(0.5)
+        begin = time.monotonic()
+        ran.send_signal(signal.SIGINT)
+        ran.wait(60)
+        self.assertLess(time.monotonic() - begin, 20)
+
     def test_a_case_has_the_lines_that_were_looked_at(self) -> None:
         """The program that is kept says nothing in its last call."""
         entry = ENTRY._replace(source=SOURCE, inputs=[3])

@@ -13,7 +13,7 @@ from saxtegun.commands import Refused, cut
 from saxtegun.explanations import input_told
 from saxtegun.lines import UNANSWERED, Frame, Run, close_of, frame_of, is_count, line_of, may_follow, written_frame
 from saxtegun.playing import Engine, batches
-from saxtegun.processes import PATIENCE, Said, Unanswered, check_bounds, end, room_for_now, started, time_left, wait_a_while, written_to
+from saxtegun.processes import PATIENCE, Said, Unanswered, check_bounds, check_wanted, end, room_for_now, started, time_left, wait_a_while, written_to
 from saxtegun.programs import stages_words
 from saxtegun.sessions import Entry
 
@@ -182,6 +182,7 @@ def asked(entries: Sequence[Entry], engine: Engine) -> Answer:
             ended = call([*engine.words(), path], output, engine.seconds)
         with open(lines, "rb") as shown:
             for data in iter(lambda: shown.readline(MOST_OF_LINE), b""):
+                check_wanted()
                 if data.endswith(b"\n") or ended.is_good:
                     reader.take_data(data)
                 if reader.is_lost:

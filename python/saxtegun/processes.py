@@ -103,7 +103,8 @@ class Beside(Thread, Generic[Value]):
         return self.values[0]
 
     def leave(self) -> None:
-        """Ends the program that it has started, and so itself, since it starts no other. What comes meanwhile waits: it would leave a folder behind."""
+        """Ends the program that it has started, and so itself, since it starts no other and reads no more. What comes meanwhile waits: it would leave a folder
+        behind."""
         self.is_left = True
         with held():
             while not self.done.is_set():
@@ -148,11 +149,17 @@ def room_for_now() -> Iterator[str]:
                 shutil.rmtree(made, ignore_errors=True)
 
 
-def begun(words: Sequence[str], **options: Any) -> "subprocess.Popen[bytes]":
-    """A program, noted by whoever runs it beside."""
+def check_wanted() -> None:
+    """Ends what is done beside where nobody waits for it any more."""
     beside = current_thread()
     if isinstance(beside, Beside) and beside.is_left:
-        raise Refused(f"{words[0]} is not run any more")
+        raise Refused("nobody waits for this any more")
+
+
+def begun(words: Sequence[str], **options: Any) -> "subprocess.Popen[bytes]":
+    """A program, noted by whoever runs it beside."""
+    check_wanted()
+    beside = current_thread()
     try:
         ran = subprocess.Popen(words, start_new_session=True, **options)
     except OSError as why:
