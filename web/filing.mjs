@@ -4,7 +4,7 @@ import { partingIn } from "./comparing.mjs";
 import { plural } from "./elements.mjs";
 import { addedTold, toAdd } from "./findings.mjs";
 import { readingRuns } from "./lines.mjs";
-import { isBeginningOf, isSameList, remembering } from "./past.mjs";
+import { isBeginningOf, isSameList, remembering, rememberingKeys } from "./past.mjs";
 import { framesOf, isPlayed, sourceOf } from "./replaying.mjs";
 import { MOST_SESSIONS, Refusal, SessionFile, isSolvedWanted } from "./session-file.mjs";
 import { isOther, runWithFrames, runsOfNow, sessionOpened } from "./suite.mjs";
@@ -17,8 +17,12 @@ import { RECORDED_ORDER } from "./work.mjs";
 export const RECORDINGS = "recordings.json";
 const NAMELESS = "a recording";
 
+// The next state, in which can be put back what it lost. Keys that wait were meant for the text that was at hand.
+/** @param {State} before @param {State} after */
+const withNext = (before, after) => (after.text === before.text ? remembering(before, after) : rememberingKeys(before, { ...after, queue: [] }));
+
 /** @param {State} state */
-const withFile = (state, file, more) => remembering(state, { ...state, file, isUnsaved: true, told: null, saved: "", ...more });
+const withFile = (state, file, more) => withNext(state, { ...state, file, isUnsaved: true, told: null, saved: "", ...more });
 
 // Makes what was seen the recorded level of these sessions.
 /** @param {State} state */
@@ -116,7 +120,7 @@ export function withOtherFile(state, file, isUnsaved = false) {
   const isUntouched = state.text.trim() === "" || state.text === state.example;
   const taken = own !== null && isUntouched && work.own === null ? { text: own } : {};
   const next = { ...state, ...taken, file, work, isUnsaved, suite: null, good: null, seen: new Map(), comparison: null, isHeld: false, isNew: file !== null, tab: "sessions", told: null, saved: "", since: null };
-  const taking = remembering(state, next);
+  const taking = withNext(state, next);
   return file?.entries.length === 1 ? sessionOpened(taking, 0) : taking;
 }
 

@@ -219,7 +219,7 @@ async function start() {
   const page = new Playground(state, engine, store);
   listen(page);
   takeFiles((name, bytes) => page.take(name, bytes), (why) => page.refuse(why), (begin) => page.during(begin), release());
-  page.runner.update((now) => (told === null ? now : { ...now, told: { text: told, close: null } }));
+  page.runner.update((now) => (told === null ? now : { ...now, told: { text: [told, now.told?.text].filter(Boolean).join(" "), close: null } }));
   document.body.inert = false;
   await page.runner.idle();
   at("stage").focus({ preventScroll: true });

@@ -286,6 +286,16 @@ it("what a key would cut that waits can be put back too, where it isn't played",
   assert.deepEqual([bench.state.work.inputs, lostIn(bench.state)], [[3, 0], [[3, 1, 0, 2]]]);
 });
 
+it("keys that wait over the example aren't played over the text that a file brings", async () => {
+  const bench = await played(3, 1), waiting = pressed(pressed(bench.state, 0), 2), own = ["own", [OTHER, [1], "background:0,", 0]];
+  for (const next of [withOtherFile(waiting, fileOf([own, own])), withRecordings(waiting, recordingsInText(JSON.stringify([OTHER, [1], "background:0,", 0])))]) {
+    assert.deepEqual([next.text, next.queue, next.past.at(-1).work.inputs], [OTHER, [], [3, 1, 0, 2]]);
+  }
+  // nor lost where the text stays
+  const beside = withOtherFile(waiting, fileOf(DAY));
+  assert.deepEqual([beside.text, beside.queue.length], [GAME, 2]);
+});
+
 it("no session that broke is opened while keys wait", async () => {
   const bench = await withPush();
   await bench.act(fromLevel, 1);
