@@ -17,9 +17,9 @@ import { RECORDED_ORDER } from "./work.mjs";
 export const RECORDINGS = "recordings.json";
 const NAMELESS = "a recording";
 
-// The next state, in which can be put back what it lost. Keys that wait were meant for the text that was at hand.
+// The next state, in which can be put back what it lost. Keys that wait were meant for the text that was played.
 /** @param {State} before @param {State} after */
-const withNext = (before, after) => (after.text === before.text ? remembering(before, after) : rememberingKeys(before, { ...after, queue: [] }));
+const withNext = (before, after) => (sourceOf(after) === sourceOf(before) ? remembering(before, after) : rememberingKeys(before, { ...after, queue: [] }));
 
 /** @param {State} state */
 const withFile = (state, file, more) => withNext(state, { ...state, file, isUnsaved: true, told: null, saved: "", ...more });
