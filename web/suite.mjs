@@ -62,7 +62,7 @@ export async function partsPlayed({ file, text, isTicked }, signal) {
 // with one more input, by play(file).
 export async function unsolvedIn({ name, entries }, lines, play) {
   const runs = entries.some(isSolvedWanted) ? runsOf(lines) : [], unsolved = new Set([...runs.keys()].filter((number) => isSolvedWanted(entries[number]) && runs[number].close === "passed"));
-  const played = [...unsolved].filter((number) => entries[number].inputs.length < MOST_INPUTS), longer = played.map((number) => [name, bodyWithOneMore(entries[number])]);
+  const played = [...unsolved].filter((number) => entries[number].inputs.length < MOST_INPUTS), longer = played.map((number) => ["", bodyWithOneMore(entries[number])]); // no longer than what was played
   if (played.length === 0) return { fault: null, unsolved };
   const answer = await play(new SessionFile(name, new TextEncoder().encode(JSON.stringify(longer))));
   if (answer === null || answer.fault !== null) return answer;
