@@ -9,8 +9,9 @@ Exit status, as that of ./replay: 0 every session passed, 1 some did not, 2
 there is no whole output. Then a line on standard error says which file, and
 where in it. It is 2 too if the program ends without the close of the last
 session, closes another number of them than there are, closes one as played of
-which it shows no frame, or writes what begins as no line of either. It is 1 if a line says that a session did not pass,
-whatever the program says by its status.
+which it shows no frame, or writes what begins as no line of either. It is 1 if
+a line says that a session did not pass, whatever the program says by its
+status.
 --timeout is for all sessions together."""
 from __future__ import annotations
 
