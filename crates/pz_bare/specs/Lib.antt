@@ -1,3 +1,4 @@
 pub mod AnySheet
 pub mod Loading
 pub mod Past
+pub mod Differing

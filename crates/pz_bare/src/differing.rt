@@ -1,6 +1,7 @@
 //! The cells in which another level of the same size differs, and cells compared and copied one by one.
 
-ghost use Rattle.std.specs.Prelude.{◌≡◌, ◌<◌, ◌↔◌, IsTrue, length};
+ghost use Rattle.std.specs.Prelude.{◌≡◌, ◌<◌, ◌↔◌, All, IsTrue, length};
+ghost use Rattle.pz_bare.specs.Differing.{DifferWithin};
 ghost use Rattle.pz_sheet.specs.Changes.{differ_in, with_cell, TellsOf};
 ghost use Rattle.pz_sheet.specs.Grid.{IsLawful, SameSize};
 ghost use Rattle.pz_sheet.specs.Presence.{cell_of};
@@ -59,6 +60,20 @@ impl BareLevel {
                 index, other, at,
             ),
             _ => unreachable!(),
+        }
+    }
+
+    /// Makes this level equal to another of the same size, from which it differs at most in the cells of these numbers.
+    pub fn take_cells_of(&mut self, other: &BareLevel, numbers: &[usize])
+        requires size { SameSize self.old.grid other.now.grid }
+        requires within { All (λ number. number < length self.old.grid.cells) numbers.now }
+        requires rest { DifferWithin numbers.now self.old.grid other.now.grid }
+        ensures { self.new.grid ≡ other.now.grid }
+    {
+        // (brings the proof the law of both levels)
+        let _ = (self.width(), other.width());
+        for number in numbers {
+            self.take_cell_of(*number, other, *number);
         }
     }
 

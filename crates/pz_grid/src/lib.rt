@@ -12,6 +12,7 @@ use pz_game::direction::Dir;
 use std::marker::Model;
 
 mod admitting;
+mod differing;
 mod headed;
 mod marks;
 mod movement;

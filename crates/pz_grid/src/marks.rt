@@ -126,7 +126,7 @@ fn mark_in(marks: &mut Vec<NumberSet>, line: u32, object: usize)
 }
 
 /// Sets the marks of each row and of each column to the objects that stand there, and gives those of the whole level.
-fn mark_lines(
+pub(crate) fn mark_lines(
     bare: &BareLevel,
     row_marks: &mut Vec<NumberSet>,
     column_marks: &mut Vec<NumberSet>,
