@@ -1,6 +1,6 @@
 //! A step: the press, the early blocks, the movement, the late blocks.
 
-ghost use Rattle.std.specs.Prelude.{◌≡◌, ◌≢◌, ◌<◌, IfOk, IfErr, Ok, Err, length};
+ghost use Rattle.std.specs.Prelude.{◌≡◌, ◌≢◌, ◌<◌, IfOk, IfErr, Ok, Err, Some, length};
 ghost use Rattle.std.specs.List.{list_any, list_all, zip};
 ghost use Rattle.pz_game.specs.Game.{players_of};
 ghost use Rattle.pz_program.specs.Instance.{IsBlockOf, IsProgramOf};
@@ -187,6 +187,34 @@ fn end_of(before: &Level, after: Level, commands: Commands) -> Result<StepEnd, A
     })
 }
 
+/// Plays a step in a copy of the level that has been given the press.
+fn step_pressed(
+    alloc: Global,
+    game: &Game,
+    program: &Program,
+    level: &Level,
+    pressed: Level,
+    input: Option<Dir>,
+) -> Result<StepEnd, StepFault>
+    requires level_of { IsOfGame game.now level.now.grid }
+    requires program_of { IsProgramOf game.now.layers program.now }
+    requires given { pressed.grid ≡ given_input (players_of game.now) input level.now.grid }
+    requires same_size { SameSize level.now.grid pressed.grid }
+    ensures end { IfOk result
+        (λ end. step_of game.now program.now level.now.grid input ≡
+        Ok (record { level = end.level.grid; commands = end.commands; changed = end.changed })) }
+    ensures size { IfOk result (λ end. SameSize level.now.grid end.level.grid) }
+    ensures lawful { IfOk result (λ end. IsLawful end.level.grid) }
+    ensures fault { IfErr result
+        (λ fault. fault ≢ Memory → step_of game.now program.now level.now.grid input ≡ Err fault) }
+{
+    let mut work = pressed;
+    let given = run_rules(alloc, game, &mut work, program)?;
+    let cancelled = must_cancel(game, input, level, &work);
+    let end = end_of(level, work, with_cancel(cancelled, given.commands))?;
+    Ok(end)
+}
+
 /// Plays a step as `step` does, in the memory of a spare level if there is one. What the spare level held is lost. Rule `step.stop`.
 pub fn step_in(
     alloc: Global,
@@ -206,11 +234,33 @@ pub fn step_in(
     ensures fault { IfErr result
         (λ fault. fault ≢ Memory → step_of game.now program.now level.now.grid input ≡ Err fault) }
 {
-    let mut work = with_input(game, level, spare, input)?;
-    let given = run_rules(alloc, game, &mut work, program)?;
-    let cancelled = must_cancel(game, input, level, &work);
-    let end = end_of(level, work, with_cancel(cancelled, given.commands))?;
-    Ok(end)
+    let pressed = with_input(game, level, spare, input)?;
+    step_pressed(alloc, game, program, level, pressed, input)
+}
+
+/// Plays the step of a press as `step` does, in a level that equals the one passed in.
+pub fn step_on(
+    alloc: Global,
+    game: &Game,
+    program: &Program,
+    level: &Level,
+    equal: Level,
+    press: Dir,
+) -> Result<StepEnd, StepFault>
+    requires level_of { IsOfGame game.now level.now.grid }
+    requires program_of { IsProgramOf game.now.layers program.now }
+    requires equal { equal.grid ≡ level.now.grid }
+    ensures end { IfOk result
+        (λ end. step_of game.now program.now level.now.grid (Some press) ≡
+        Ok (record { level = end.level.grid; commands = end.commands; changed = end.changed })) }
+    ensures size { IfOk result (λ end. SameSize level.now.grid end.level.grid) }
+    ensures lawful { IfOk result (λ end. IsLawful end.level.grid) }
+    ensures fault { IfErr result
+        (λ fault. fault ≢ Memory → step_of game.now program.now level.now.grid (Some press) ≡ Err fault) }
+{
+    let mut pressed = equal;
+    push_players(game, &mut pressed, press);
+    step_pressed(alloc, game, program, level, pressed, Some(press))
 }
 
 /// Plays a step of a game from a level: a press with its direction, or a tick (`None`). The level passed in is never changed. If a rule
