@@ -1,5 +1,7 @@
 pub mod Listing
+pub mod Mixing
 pub mod Digesting
 pub mod RowLemmas
 pub mod Books
 pub mod Rowing
+pub mod Renumbering

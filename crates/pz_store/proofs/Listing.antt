@@ -1,5 +1,5 @@
 -- A list with one element more.
-use Rattle.std.proofs.Common.{◌≡◌, ℕ, zero, suc, ◌<◌, ◌⊎◌, inl, inr, List, [], ◌∷◌, ◌++◌, length, Some, refl, arith}
+use Rattle.std.proofs.Common.{◌≡◌, ℕ, zero, suc, ◌<◌, ◌⊎◌, inl, inr, List, [], ◌∷◌, ◌++◌, length, set, Some, refl, ap, arith}
 use Rattle.std.specs.Prelude.{slice_get}
 
 -- what is in a list stays where it is
@@ -29,3 +29,16 @@ pub there : {X : Type 0} (xs : List X) (i : ℕ) → i < length xs → (x : X) �
 there [] i within = absurd (omega (arith, within))
 there (x ∷ xs) zero within = (x, refl)
 there (x ∷ xs) (suc i) within = there xs i (omega (arith, within))
+
+-- a list with another number at a place
+pub set_here : (l : List ℕ) (i x : ℕ) → i < length l → slice_get (set l i x) i ≡ Some x
+set_here [] i x within = absurd (omega (arith, within))
+set_here (y ∷ l) zero x within = refl
+set_here (y ∷ l) (suc i) x within = set_here l i x (omega (arith, within))
+
+pub set_elsewhere : (l : List ℕ) (i j x : ℕ) → (i ≡ j → ⊥) → slice_get (set l i x) j ≡ slice_get l j
+set_elsewhere [] i j x other = refl
+set_elsewhere (y ∷ l) zero zero x other = absurd (other refl)
+set_elsewhere (y ∷ l) zero (suc j) x other = refl
+set_elsewhere (y ∷ l) (suc i) zero x other = refl
+set_elsewhere (y ∷ l) (suc i) (suc j) x other = set_elsewhere l i j x (λ same. other (ap suc same))

@@ -1,5 +1,5 @@
 -- Levels and the numbers of their cells.
-use Rattle.std.proofs.Common.{◌≡◌, ℕ, ◌+◌, ◌<◌, ◌≤◌, ◌⊎◌, ◌≢◌, inl, inr, zero, not, set, true, false, Bool, suc, drop, fold, List, [], ◌∷◌, ◌++◌, length, map, Some, ap, sym, ◌∙◌, refl, subst, arith, All, get_or, ext_get_or}
+use Rattle.std.proofs.Common.{◌≡◌, ℕ, ◌+◌, ◌<◌, ◌≤◌, ◌⊎◌, ◌≢◌, inl, inr, not, set, true, false, Bool, suc, drop, fold, List, [], ◌∷◌, ◌++◌, length, map, Some, ap, sym, ◌∙◌, refl, subst, arith, All, get_or, ext_get_or}
 use Rattle.std.specs.Prelude.{slice_get, option_map, IsTrue, ◌↔◌}
 use Rattle.std.proofs.lemmas.List.{length-map, get_or-map, map-append}
 use Rattle.std.proofs.lemmas.List.Elements.{All-from_get_or, All-get_or, All-head, All-tail, All-weaker}
@@ -10,15 +10,15 @@ use Rattle.pz_cells.specs.Sameness.{same_cell}
 use Rattle.pz_sheet.specs.Changes.{differ_in}
 use Rattle.pz_sheet.specs.Presence.{cell_of}
 use Rattle.pz_store.specs.Book.{AreDistinctCells, AreNumbers, BookState, CellSeen, Extends}
-use Rattle.pz_store.specs.Digest.{cell_word, digest_with}
-use Rattle.pz_store.specs.Levels.{AreRows, IsRow, level_of}
+use Rattle.pz_store.specs.Digest.{ArePowers, cell_word, digest_with}
+use Rattle.pz_store.specs.Levels.{AreLevels, IsRow, level_of}
 use Rattle.pz_store.specs.Rows.{RowsState}
 use Rattle.std.proofs.Math.Seq.{drop-cons}
-use Rattle.pz_store.proofs.Listing.{there, there_before}
+use Rattle.pz_store.proofs.Listing.{set_elsewhere, set_here, there, there_before}
 use Rattle.pz_store.proofs.RowLemmas.{same_elements}
 
 -- the cell of a number
-abbrev cell_at : List CellSeen → ℕ → CellSeen
+abbrev pub cell_at : List CellSeen → ℕ → CellSeen
 cell_at cells number = get_or cells number []
 
 -- the level of the numbers of a level's cells is that level
@@ -88,30 +88,13 @@ digest_more objects cells numbers grid index number word digest total are is tol
     ∙ ap (λ (v : ℕ). fold digest_with (digest_with digest v) (map (cell_word objects) (drop (suc index) grid.cells))) (sym is_word)
     ∙ ap (λ (l : List CellSeen). fold digest_with digest (map (cell_word objects) l)) (sym (drop-cons grid.cells index [] within)) ∙ before
 
--- two levels of the size of a third, with the same cells
-pub same_level : (frame a b : Grid) → SameSize frame a → SameSize frame b → length a.cells ≡ length b.cells → ((index : ℕ) → index < length a.cells → cell_of a index ≡ cell_of b index) → a ≡ b
-same_level frame a b left right long same =
-    let cells : a.cells ≡ b.cells = ext_get_or [] a.cells b.cells long same in
-    grind (arith, left.width, left.height, left.depth, left.layers, right.width, right.height, right.depth, right.layers, cells)
-
--- the level of a row has the size of the frame, and as many cells
-pub level_there : (frame : Grid) (cells : List CellSeen) (rows : List (List ℕ)) (place : ℕ) (grid : Grid) → All (IsRow frame cells) rows → slice_get (map (level_of frame cells) rows) place ≡ Some grid →
-    SameSize frame grid × (length grid.cells ≡ length frame.cells)
-level_there frame cells rows place grid all is =
-    let level = level_of frame cells in
-    let within : place < length rows = omega (arith, slice_get_within (map level rows) place grid is, length-map rows level) in
-    let row = there rows place within in
-    let its = subst (λ (l : List ℕ). IsRow frame cells l) (get_or_from_slice_get rows place row.0 [] row.1) (All-get_or (IsRow frame cells) rows place [] within all) in
-    let same : level row.0 ≡ grid = same_Some (level row.0) grid (sym (slice_get-map level rows place ∙ ap (option_map level) row.1) ∙ is) in
-    (subst (λ (g : Grid). SameSize frame g) same (record { width = refl; height = refl; depth = refl; layers = refl }), ap (λ (g : Grid). length g.cells) (sym same) ∙ length-map row.0 (cell_at cells) ∙ its.long)
-
-row_still : (frame : Grid) (cells news : List CellSeen) (row : List ℕ) → Extends cells news → IsRow frame cells row → IsRow frame news row
+pub row_still : (frame : Grid) (cells news : List CellSeen) (row : List ℕ) → Extends cells news → IsRow frame cells row → IsRow frame news row
 row_still frame cells news row extends is = record {
   long = is.long;
   known = All-weaker (λ n. n < length cells) (λ n. n < length news) (λ number low. let h = there cells number low in slice_get_within news number h.0 (extends number h.0 h.1)) row is.known;
 }
 
-level_still : (frame : Grid) (cells news : List CellSeen) (row : List ℕ) → Extends cells news → IsRow frame cells row → level_of frame news row ≡ level_of frame cells row
+pub level_still : (frame : Grid) (cells news : List CellSeen) (row : List ℕ) → Extends cells news → IsRow frame cells row → level_of frame news row ≡ level_of frame cells row
 level_still frame cells news row extends is =
     let are = numbers_of_row frame cells row is in
     level_is frame (level_of frame cells row) news row (record { width = refl; height = refl; depth = refl; layers = refl })
@@ -124,15 +107,19 @@ levels_still frame cells news (row ∷ rows) extends all =
     ∙ ap (λ (gs : List Grid). level_of frame cells row ∷ gs) (levels_still frame cells news rows extends (All-tail (IsRow frame cells) row rows all))
 
 -- what levels are stays when more cells get numbers
-pub rows_still : (book news : BookState) (rows : RowsState) → AreRows book rows → news.frame ≡ book.frame → Extends book.cells news.cells →
-    AreRows news rows × (map (level_of news.frame news.cells) rows.rows ≡ map (level_of book.frame book.cells) rows.rows)
-rows_still book news rows are frame extends = (
-  record {
-    long = are.long ∙ ap (λ (g : Grid). length g.cells) (sym frame);
-    each = subst (λ (g : Grid). All (IsRow g news.cells) rows.rows) (sym frame) (All-weaker (IsRow book.frame book.cells) (IsRow book.frame news.cells) (λ row is. row_still book.frame book.cells news.cells row extends is) rows.rows are.each);
-  },
-  ap (λ (g : Grid). map (level_of g news.cells) rows.rows) frame ∙ levels_still book.frame book.cells news.cells rows.rows extends are.each,
-)
+pub rows_still : (book news : BookState) (rows : RowsState) (powers : List ℕ) → AreLevels book rows powers → news.frame ≡ book.frame → Extends book.cells news.cells →
+    AreLevels news rows powers × (map (level_of news.frame news.cells) rows.rows ≡ map (level_of book.frame book.cells) rows.rows)
+rows_still book news rows powers are frame extends =
+    let each = All-weaker (IsRow book.frame book.cells) (IsRow book.frame news.cells) (λ row is. row_still book.frame book.cells news.cells row extends is) rows.rows are.rows.each in (
+      record {
+        rows = record {
+          long = are.rows.long ∙ ap (λ (g : Grid). length g.cells) (sym frame);
+          each = subst (λ (g : Grid). All (IsRow g news.cells) rows.rows) (sym frame) each;
+        };
+        powers = subst (λ (g : Grid). ArePowers (length g.cells) powers) (sym frame) are.powers;
+      },
+      ap (λ (g : Grid). map (level_of g news.cells) rows.rows) frame ∙ levels_still book.frame book.cells news.cells rows.rows extends are.rows.each,
+    )
 
 -- numbers with one more, by a book that may have got more cells
 pub numbers_more : (cells news : List CellSeen) (numbers more : List ℕ) (grid : Grid) (index number : ℕ) → Extends cells news → more ≡ numbers ++ number ∷ [] → length numbers ≡ index →
@@ -143,18 +130,6 @@ numbers_more cells news numbers more grid index number extends is long each last
       | inl was ↦ extends n (cell_of grid i) (each i n was)
       | inr it ↦ ap (λ (m : ℕ). slice_get news m) (sym it.1) ∙ last ∙ ap (λ (m : ℕ). Some (cell_of grid m)) (sym (it.0 ∙ long))
     ]
-
-set_here : (l : List ℕ) (i x : ℕ) → i < length l → slice_get (set l i x) i ≡ Some x
-set_here [] i x within = absurd (omega (arith, within))
-set_here (y ∷ l) zero x within = refl
-set_here (y ∷ l) (suc i) x within = set_here l i x (omega (arith, within))
-
-set_elsewhere : (l : List ℕ) (i j x : ℕ) → (i ≡ j → ⊥) → slice_get (set l i x) j ≡ slice_get l j
-set_elsewhere [] i j x other = refl
-set_elsewhere (y ∷ l) zero zero x other = absurd (other refl)
-set_elsewhere (y ∷ l) zero (suc j) x other = refl
-set_elsewhere (y ∷ l) (suc i) zero x other = refl
-set_elsewhere (y ∷ l) (suc i) (suc j) x other = set_elsewhere l i j x (λ same. other (ap suc same))
 
 -- a cell in which two levels don't differ
 pub same_there : (level before : Grid) (index : ℕ) → differ_in level before index ≡ false → cell_of before index ≡ cell_of level index
@@ -210,12 +185,3 @@ all_numbered cells numbers level before from long same each left = record {
 -- a level of the size of another one, which has that of a third
 pub size_on : (frame before level : Grid) → SameSize frame before → SameSize before level → SameSize frame level
 size_on frame before level left right = record { width = right.width ∙ left.width; height = right.height ∙ left.height; depth = right.depth ∙ left.depth; layers = right.layers ∙ left.layers }
-
--- a row that was copied has the numbers of its level
-pub numbers_of_copied : (frame : Grid) (cells : List CellSeen) (rows : List (List ℕ)) (place : ℕ) (grid : Grid) (row : List ℕ) → All (IsRow frame cells) rows → slice_get (map (level_of frame cells) rows) place ≡ Some grid →
-    slice_get rows place ≡ Some row → AreNumbers cells row grid
-numbers_of_copied frame cells rows place grid row all is copied =
-    let level = level_of frame cells in
-    let its = subst (λ (l : List ℕ). IsRow frame cells l) (get_or_from_slice_get rows place row [] copied) (All-get_or (IsRow frame cells) rows place [] (slice_get_within rows place row copied) all) in
-    let same : level row ≡ grid = same_Some (level row) grid (sym (slice_get-map level rows place ∙ ap (option_map level) copied) ∙ is) in
-    subst (λ (g : Grid). AreNumbers cells row g) same (numbers_of_row frame cells row its)

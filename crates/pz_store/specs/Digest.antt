@@ -1,6 +1,7 @@
 -- The digest of a level: a number that is the same for equal levels. The objects of each cell are the bits of a word, and these words
 -- are mixed in their order. Which levels have one digest matters for speed alone.
-use Rattle.std.specs.Prelude.{ℕ, zero, suc, ◌+◌, ◌*◌, ◌%◌, ◌^◌, Bool, true, false, List, Option, fold, map}
+use Rattle.std.specs.Prelude.{◌≡◌, ℕ, zero, suc, ◌+◌, ◌-◌, ◌*◌, ◌%◌, ◌^◌, Bool, true, false}
+use Rattle.std.specs.Prelude.{List, Option, Some, fold, length, map, slice_get, slice_set}
 use Rattle.pz_cells.specs.declared.piece.Piece.{Piece}
 use Rattle.pz_sheet.specs.Grid.{Grid}
 use Rattle.pz_sheet.specs.Presence.{is_in}
@@ -26,3 +27,18 @@ cell_word (suc objects) cell = with_bit (cell_word objects cell) (is_in cell obj
 -- the digest of a level, by the first objects of its game
 abbrev pub digest_of : ℕ → Grid → ℕ
 digest_of objects grid = fold digest_with 0 (map (cell_word objects) grid.cells)
+
+-- by how much a word counts in a digest that so many words are mixed into from there on
+unfoldable pub power_of : ℕ → ℕ
+power_of count = FACTOR ^ count % 2 ^ 64
+
+-- by how much the word of each of so many cells counts in the digest of their level
+pub record ArePowers (count : ℕ) (powers : List ℕ) : Type 0 where
+  pub long : length powers ≡ count
+  pub each : (index power : ℕ) → slice_get powers index ≡ Some power → power ≡ power_of (count - index)
+
+-- a digest of words is made that of the same words with another one at a place
+abbrev pub IsReplaced : ℕ → ℕ → ℕ → ℕ → ℕ → Type 0
+IsReplaced digest old new power result =
+    (words : List ℕ) (index : ℕ) → slice_get words index ≡ Some old → power ≡ power_of (length words - index) → digest ≡ fold digest_with 0 words →
+    result ≡ fold digest_with 0 (slice_set words index new)

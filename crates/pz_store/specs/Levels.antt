@@ -1,7 +1,9 @@
 -- Levels of one size, as the numbers of their cells.
 use Rattle.std.specs.Prelude.{◌≡◌, ℕ, ◌<◌, List, [], length, map, slice_index_or, All}
+use Rattle.pz_sheet.specs.Changes.{CellChange, changed_cells}
 use Rattle.pz_sheet.specs.Grid.{Grid}
 use Rattle.pz_store.specs.Book.{BookState, CellSeen}
+use Rattle.pz_store.specs.Digest.{ArePowers}
 use Rattle.pz_store.specs.Rows.{RowsState}
 
 -- what levels are to their callers: a level of the size of all, the number of objects by which they are digested, the cells that have
@@ -24,3 +26,12 @@ pub record IsRow (frame : Grid) (cells : List CellSeen) (row : List ℕ) : Type 
 pub record AreRows (book : BookState) (rows : RowsState) : Type 0 where
   pub long : rows.long ≡ length book.frame.cells
   pub each : All (IsRow book.frame book.cells) rows.rows
+
+-- what holds of levels: their rows are those of their cells' numbers, and the powers are those of their cells
+pub record AreLevels (book : BookState) (kept : RowsState) (table : List ℕ) : Type 0 where
+  pub rows : AreRows book kept
+  pub powers : ArePowers (length book.frame.cells) table
+
+-- the numbers of the cells in which another level differs, in order
+abbrev pub changed_places : Grid → Grid → List ℕ
+changed_places grid other = map (λ (change : CellChange). change.number) (changed_cells grid other)

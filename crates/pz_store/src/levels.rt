@@ -1,37 +1,42 @@
 //! Levels, each as the numbers of its cells.
 
-ghost use Rattle.std.specs.Prelude.{◌≡◌, ◌<◌, ◌-◌, ◌↔◌, [], ◌∷◌, ◌++◌, length, take, IsTrue, IfOk, OnOk, OnErr, Some, MatchResult, slice_get};
+ghost use Rattle.std.specs.Prelude.{◌≡◌, ◌<◌, ◌-◌, ◌↔◌, [], ◌∷◌, ◌++◌, All, length, take, slice_get};
+ghost use Rattle.std.specs.Prelude.{IsTrue, IfOk, MatchResult, OnErr, OnOk, Some, option_map};
+ghost use Rattle.pz_sheet.specs.Changes.{with_cell};
 ghost use Rattle.pz_sheet.specs.Grid.{Grid, SameSize};
 ghost use Rattle.pz_store.specs.Book.{AreNumbers, Extends};
 ghost use Rattle.pz_store.specs.Digest.{digest_of};
-ghost use Rattle.pz_store.specs.Levels.{IsRow};
+ghost use Rattle.pz_store.specs.Levels.{IsRow, changed_places};
 
 use crate::book::Book;
-use crate::digest::mixed;
+use crate::digest::{mixed, powers, replaced};
 use crate::rows::Rows;
 use pz_bare::BareLevel;
 use pz_sheet::changes::KnownChanges;
 use std::alloc::{AllocError, Global};
 use std::marker::Model;
 
-/// Levels of one size in order, each a row of the numbers that its cells have in the book.
+/// Levels of one size in order, each a row of the numbers that its cells have in the book. The powers are those by which the words of
+/// cells count in digests.
 pub struct Levels {
     book: Book,
     rows: Rows,
+    powers: Vec<u64>,
 }
 
 /// Written out, so that each place where one goes out of scope is one call.
 impl Drop for Levels {
     fn drop(self) {
-        let Levels { book, rows } = self;
+        let Levels { book, rows, powers } = self;
         drop(book);
         drop(rows);
+        drop(powers);
     }
 }
 
 impl Model for Levels {
     ghost use Rattle.std.specs.Prelude.{map};
-    ghost use Rattle.pz_store.specs.Levels.{LevelsState, level_of, AreRows};
+    ghost use Rattle.pz_store.specs.Levels.{LevelsState, level_of, AreLevels};
 
     ghost Value = { LevelsState };
 
@@ -42,7 +47,7 @@ impl Model for Levels {
       grids = map (level_of l.book.frame l.book.cells) l.rows.rows;
     } };
 
-    ghost invariant = { λ l. AreRows l.book l.rows };
+    ghost invariant = { λ l. AreLevels l.book l.rows l.powers.items };
 }
 
 impl Levels {
@@ -54,14 +59,8 @@ impl Levels {
     {
         let book = Book::new(alloc, level, objects)?;
         let rows = Rows::new(alloc, level.cell_count());
-        Ok(Levels { book, rows })
-    }
-
-    /// How many levels there are.
-    pub fn len(&self) -> usize
-        ensures { result ≡ length self.now.grids }
-    {
-        self.rows.len()
+        let powers = powers(alloc, level.cell_count())?;
+        Ok(Levels { book, rows, powers })
     }
 
     /// The numbers of the cells of a level. Cells that have none get the next ones. Err: memory was refused.
@@ -82,35 +81,62 @@ impl Levels {
         Ok(numbers)
     }
 
-    /// Makes the numbers of the level at a place those of another level, which differs little from it. Err: memory was refused.
+    /// Makes numbers, which are those of a level, those of another that differs little from it. Adds each cell in which they differ to
+    /// `changed`, and gives the digest of the other, where `digest` is that of the first. Err: memory was refused.
     pub fn number(
         &mut self,
-        place: usize,
+        digest: u64,
         before: &BareLevel,
         level: &BareLevel,
         numbers: &mut [u32],
-    ) -> Result<(), AllocError>
-        requires there { slice_get self.old.grids place ≡ Some before.now.grid }
+        changed: &mut Vec<usize>,
+    ) -> Result<u64, AllocError>
+        requires frame { SameSize self.old.frame before.now.grid }
         requires size { SameSize before.now.grid level.now.grid }
-        requires long { length numbers.old ≡ length self.old.frame.cells }
+        requires row { IsRow self.old.frame self.old.cells numbers.old }
+        requires numbers { AreNumbers self.old.cells numbers.old before.now.grid }
+        requires digest { digest ≡ digest_of self.old.objects before.now.grid }
         ensures frame { self.new.frame ≡ self.old.frame }
         ensures objects { self.new.objects ≡ self.old.objects }
         ensures grids { self.new.grids ≡ self.old.grids }
+        ensures extends { Extends self.old.cells self.new.cells }
         ensures size { OnOk result (SameSize self.new.frame level.now.grid) }
         ensures numbers { OnOk result (AreNumbers self.new.cells numbers.new level.now.grid) }
         ensures row { OnOk result (IsRow self.new.frame self.new.cells numbers.new) }
         ensures long { length numbers.new ≡ length numbers.old }
+        ensures digest { IfOk result (λ digest. digest ≡ digest_of self.new.objects level.now.grid) }
+        ensures changed { OnOk result
+            (changed.new.items ≡ changed.old.items ++ changed_places level.now.grid before.now.grid) }
+        ensures within { All (λ index. index < length level.now.grid.cells) changed.old.items →
+            All (λ index. index < length level.now.grid.cells) changed.new.items }
     {
         // (brings the proof the law of both levels)
         let _ = (before.width(), level.width());
-        self.rows.copy_to(place, numbers);
+        let mut digest = digest;
         let mut known = KnownChanges::none();
         let mut from = 0;
         'changes: while let Some(index) = level.next_change_after(before, &mut known, from) {
-            numbers[index] = self.book.number_of(level, index)?;
+            let number = self.book.number_of(level, index)?;
+            changed.push(index)?;
+            let old = self.book.word(numbers[index]);
+            let new = self.book.word(number);
+            digest = replaced(digest, old, new, self.powers[index]);
+            numbers[index] = number;
             from = index + 1;
         }
-        Ok(())
+        Ok(digest)
+    }
+
+    /// Copies the numbers of the level at a place.
+    pub fn numbers_of(&self, place: usize, numbers: &mut [u32])
+        requires within { place < length self.now.grids }
+        requires long { length numbers.old ≡ length self.now.frame.cells }
+        ensures size { (grid : Grid) → slice_get self.now.grids place ≡ Some grid → SameSize self.now.frame grid }
+        ensures numbers { (grid : Grid) → slice_get self.now.grids place ≡ Some grid →
+            AreNumbers self.now.cells numbers.new grid }
+        ensures row { IsRow self.now.frame self.now.cells numbers.new }
+    {
+        self.rows.copy_to(place, numbers);
     }
 
     /// The digest of the level of these numbers.
@@ -164,16 +190,14 @@ impl Levels {
         self.rows.pop();
     }
 
-    /// A copy of the level at a place. Err: memory was refused.
-    pub fn level(&self, place: usize) -> Result<BareLevel, AllocError>
-        requires { place < length self.now.grids }
-        ensures { IfOk result (λ level. slice_get self.now.grids place ≡ Some level.grid) }
+    /// Puts the cell of a number into a level.
+    pub fn put(&self, level: &mut BareLevel, index: usize, number: u32)
+        requires size { SameSize self.now.frame level.old.grid }
+        requires within { index < length self.now.frame.cells }
+        requires number { number < length self.now.cells }
+        ensures { option_map (λ cell. with_cell level.old.grid (record { number = index; cell = cell }))
+            (slice_get self.now.cells number) ≡ Some level.new.grid }
     {
-        let mut level = self.book.frame().copy()?;
-        for index in 0..level.cell_count() {
-            self.book
-                .put(&mut level, index, self.rows.get(place, index));
-        }
-        Ok(level)
+        self.book.put(level, index, number);
     }
 }

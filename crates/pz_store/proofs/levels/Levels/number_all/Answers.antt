@@ -4,28 +4,28 @@ use Rattle.pz_store.proofs.Rowing.{numbers_more, row_of_numbers, rows_still}
 use Rattle.pz_store.proofs.levels.Levels.number_all.Goals as goal
 
 pub invariant_of-self-in_err-number_of : goal.invariant_of-self-in_err-number_of
-invariant_of-self-in_err-number_of c = (rows_still c.loop-index.self-inside.book c.number_of.new.self c.loop-index.self-inside.rows c.loop-index.invariant.rows c.number_of.ensures.frame c.number_of.ensures.extends).0
+invariant_of-self-in_err-number_of c = (rows_still c.loop-index.self-inside.book c.number_of.new.self c.loop-index.self-inside.rows c.loop-index.self-inside.powers.items c.loop-index.invariant.levels c.number_of.ensures.frame c.number_of.ensures.extends).0
 
 pub returns-in_err-number_of-clause-grids : goal.returns-in_err-number_of-clause-grids
-returns-in_err-number_of-clause-grids c = (rows_still c.loop-index.self-inside.book c.number_of.new.self c.loop-index.self-inside.rows c.loop-index.invariant.rows c.number_of.ensures.frame c.number_of.ensures.extends).1 ∙ c.loop-index.invariant.grids
+returns-in_err-number_of-clause-grids c = (rows_still c.loop-index.self-inside.book c.number_of.new.self c.loop-index.self-inside.rows c.loop-index.self-inside.powers.items c.loop-index.invariant.levels c.number_of.ensures.frame c.number_of.ensures.extends).1 ∙ c.loop-index.invariant.grids
 
 pub invariant_of-self-in_err-push : goal.invariant_of-self-in_err-push
-invariant_of-self-in_err-push c = (rows_still c.loop-index.self-inside.book c.number_of.new.self c.loop-index.self-inside.rows c.loop-index.invariant.rows c.number_of.ensures.frame c.number_of.ensures.extends).0
+invariant_of-self-in_err-push c = (rows_still c.loop-index.self-inside.book c.number_of.new.self c.loop-index.self-inside.rows c.loop-index.self-inside.powers.items c.loop-index.invariant.levels c.number_of.ensures.frame c.number_of.ensures.extends).0
 
 pub returns-in_err-push-clause-grids : goal.returns-in_err-push-clause-grids
-returns-in_err-push-clause-grids c = (rows_still c.loop-index.self-inside.book c.number_of.new.self c.loop-index.self-inside.rows c.loop-index.invariant.rows c.number_of.ensures.frame c.number_of.ensures.extends).1 ∙ c.loop-index.invariant.grids
+returns-in_err-push-clause-grids c = (rows_still c.loop-index.self-inside.book c.number_of.new.self c.loop-index.self-inside.rows c.loop-index.self-inside.powers.items c.loop-index.invariant.levels c.number_of.ensures.frame c.number_of.ensures.extends).1 ∙ c.loop-index.invariant.grids
 
 pub loop-index-preserved : goal.loop-index-preserved
 loop-index-preserved c =
     let book = c.loop-index.self-inside.book in
     let new = c.number_of.new.self in
     let frame = c.number_of.ensures.frame in
-    let still = rows_still book new c.loop-index.self-inside.rows c.loop-index.invariant.rows frame c.number_of.ensures.extends in
+    let still = rows_still book new c.loop-index.self-inside.rows c.loop-index.self-inside.powers.items c.loop-index.invariant.levels frame c.number_of.ensures.extends in
     let grid = c.args.level.now.grid in
     let numbers = c.loop-index.numbers.items in
     let number = c.in_ok-number_of.field-0 in
     record {
-      rows = still.0;
+      levels = still.0;
       frame = frame ∙ c.loop-index.invariant.frame;
       objects = c.number_of.ensures.objects ∙ c.loop-index.invariant.objects;
       grids = still.1 ∙ c.loop-index.invariant.grids;
