@@ -2,7 +2,7 @@
 use Rattle.std.proofs.Common.{◌≡◌, ℕ, zero, suc, ◌<◌, Bool, true, List, [], ◌∷◌, ◌++◌, length, Some, refl, ap, sym, ◌∙◌, arith}
 use Rattle.std.specs.Prelude.{option_map, slice_get, slice_index_or}
 use Rattle.std.proofs.lemmas.List.{length-map}
-use Rattle.std.proofs.lemmas.Option.{slice_get-map, slice_get_read, slice_get_within}
+use Rattle.std.proofs.lemmas.Option.{same_Some, slice_get-map, slice_get_read}
 use Rattle.pz_sheet.specs.Grid.{Grid}
 use Rattle.pz_solve.specs.declared.search.Link.{Link}
 use Rattle.pz_solve.specs.Found.{Found}
@@ -73,9 +73,7 @@ pub among : (grids : List Grid) (links : List Link) (found : List Found) (grid :
 among grids links found grid is long view told =
     ap (λ (all : List Grid). is_among all grid) (ap (λ (all : List Found). grids_of all) (sym view) ∙ grids_found grids links long) ∙ told
 
--- the level of a number was found
-pub read_found : (found : List Found) (index : ℕ) (grid : Grid) → option_map (λ (f : Found). f.grid) (slice_get found index) ≡ Some grid → is_found found grid ≡ true
-read_found found index grid is = there_among (grids_of found) index grid (slice_get-map (λ (f : Found). f.grid) found index ∙ is)
-
-pub read_within : (found : List Found) (index : ℕ) (grid : Grid) → option_map (λ (f : Found). f.grid) (slice_get found index) ≡ Some grid → index < length found
-read_within found index grid is = omega (arith, slice_get_within (grids_of found) index grid (slice_get-map (λ (f : Found). f.grid) found index ∙ is), length-map found (λ (f : Found). f.grid))
+-- the level of this number is what was found there
+pub grid_of : (grids : List Grid) (links : List Link) (found : List Found) (index : ℕ) (grid : Grid) (here : Found) → length links ≡ length grids → found_in grids links ≡ found → slice_get grids index ≡ Some grid → slice_get found index ≡ Some here → here.grid ≡ grid
+grid_of grids links found index grid here long view is is_here =
+    same_Some here.grid grid (sym (ap (option_map (λ (f : Found). f.grid)) is_here) ∙ grid_read grids links found index grid long view is)

@@ -13,3 +13,4 @@ pub mod Indexing
 pub mod Knowing
 pub mod WorkedSearches
 pub mod Sessions
+pub mod Turning

@@ -1,6 +1,6 @@
 -- A press that is tried.
-use Rattle.std.proofs.Common.{◌≡◌, ℕ, suc, ◌+◌, ◌≤◌, Bool, true, false, ◌||◌, List, [], ◌∷◌, ◌++◌, length, Some, refl, ap, sym, ◌∙◌, subst, arith}
-use Rattle.std.specs.Prelude.{Option, None, option_map, slice_get}
+use Rattle.std.proofs.Common.{◌≡◌, ℕ, suc, ◌+◌, ◌≤◌, Bool, true, false, ◌||◌, List, [], ◌∷◌, ◌++◌, length, Some, refl, sym, subst, arith}
+use Rattle.std.specs.Prelude.{slice_get}
 use Rattle.pz_game.specs.declared.direction.Dir.{Dir}
 use Rattle.pz_sheet.specs.Grid.{Grid}
 use Rattle.pz_sheet.specs.Sameness.{same_grid}
@@ -14,7 +14,7 @@ use Rattle.pz_solve.specs.Winning.{Moves}
 use Rattle.pz_solve.specs.Found.{Found, IsSearch, IsTried}
 use Rattle.pz_solve.specs.Noted.{IsNotedAs, entry_of, is_found}
 use Rattle.pz_solve.specs.Trying.{Grows, HasTried, tried_by}
-use Rattle.pz_solve.proofs.Listing.{last_there, still_there}
+use Rattle.pz_solve.proofs.Listing.{last_there}
 use Rattle.pz_solve.proofs.Searching.{goes_on, grows_by}
 
 -- where a level is that was found
@@ -70,14 +70,3 @@ module _ (moves : Moves) (start : Grid) (old new : List Found) (index : ℕ) (he
     search = search_still same;
     comes_to = (grid, leads, subst (λ (all : List Found). is_found all grid ≡ false) (sym same) fresh, subst (λ (all : List Found). most ≤ length all) (sym same) full);
   }
-
--- the grid of a level that was found stays when another one is noted
-pub here_still : (old new : List Found) (most : ℕ) (entry : Found) (noted : Noted) → IsNotedAs old new most entry noted → (index : ℕ) (grid : Grid) →
-    option_map (λ (f : Found). f.grid) (slice_get old index) ≡ Some grid → option_map (λ (f : Found). f.grid) (slice_get new index) ≡ Some grid
-here_still old new most entry Known (known, same) index grid is = subst (λ (all : List Found). option_map (λ (f : Found). f.grid) (slice_get all index) ≡ Some grid) (sym same) is
-here_still old new most entry Added (fresh, added, few) index grid is =
-    subst (λ (all : List Found). option_map (λ (f : Found). f.grid) (slice_get all index) ≡ Some grid) (sym added) (by (slice_get old index) refl is) where
-      by : (there : Option Found) → slice_get old index ≡ there → option_map (λ (f : Found). f.grid) there ≡ Some grid → option_map (λ (f : Found). f.grid) (slice_get (old ++ entry ∷ []) index) ≡ Some grid
-      by None at is = absurd cc
-      by (Some here) at is = ap (option_map (λ (f : Found). f.grid)) (still_there old entry index here at) ∙ is
-here_still old new most entry NoRoom (fresh, same, full) index grid is = subst (λ (all : List Found). option_map (λ (f : Found). f.grid) (slice_get all index) ≡ Some grid) (sym same) is

@@ -9,6 +9,7 @@ use Rattle.pz_solve.specs.declared.search.Link.{Link}
 use Rattle.pz_solve.specs.declared.search.Noted.{Noted}
 use Rattle.pz_solve.specs.declared.search.Noted.TheVariants.{Known, Added, NoRoom}
 use Rattle.pz_solve.specs.Found.{Found}
+use Rattle.pz_solve.specs.Here.{HereState, IsAt}
 
 abbrev pub entry_of : Grid → Link → Found
 entry_of grid link = record { grid = grid; depth = link.depth; parent = link.parent; input = link.input }
@@ -42,12 +43,13 @@ abbrev pub digests_of : ℕ → List Grid → List ℕ
 digests_of objects grids = map (digest_of objects) grids
 
 -- what holds of what is stored: each level has its link, the levels are kept, their digests are indexed, and there is room for the numbers
--- of one level more
-pub record IsStored (levels : LevelsState) (links : List Link) (digests numbers : List ℕ) : Type 0 where
+-- of one level more; presses are tried from one of them
+pub record IsStored (levels : LevelsState) (links : List Link) (digests numbers : List ℕ) (here : HereState) : Type 0 where
   pub linked : length links ≡ length levels.grids
   pub kept : IsKept (found_in levels.grids links)
   pub indexed : digests ≡ digests_of levels.objects levels.grids
   pub long : length numbers ≡ length levels.frame.cells
+  pub at : IsAt levels here
 
 -- a level is among others
 abbrev pub is_among : List Grid → Grid → Bool

@@ -52,6 +52,14 @@ impl Index {
         }
     }
 
+    /// The digest of a place.
+    pub(crate) fn digest(&self, place: usize) -> u64
+        requires { place < length self.now }
+        ensures { slice_get self.now place ≡ Some result }
+    {
+        self.digests[place]
+    }
+
     /// The last place of a digest.
     pub(crate) fn newest(&self, digest: u64) -> Option<usize>
         ensures { IsNewest self.now (length self.now) digest result }

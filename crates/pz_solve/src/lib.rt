@@ -2,6 +2,7 @@
 #![tactic(auto)]
 
 mod answer;
+mod here;
 mod index;
 pub mod laws;
 pub mod moves;

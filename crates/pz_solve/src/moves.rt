@@ -16,7 +16,7 @@ use pz_program::commands::Commands;
 use pz_program::instance::Program;
 use pz_session::chain::MOST_TICKS;
 use pz_turn::outcome::StepFault;
-use pz_turn::stepping::{StepEnd, step, step_in};
+use pz_turn::stepping::{StepEnd, step, step_on};
 use pz_turn::win::won;
 use std::alloc::{AllocError, Global};
 
@@ -119,47 +119,49 @@ fn finish(alloc: Global, game: &Game, program: &Program, level: Level) -> Result
     Ok(Move::DeadEnd)
 }
 
-/// Plays the step of a press, in the memory of a spare level if there is one.
+/// Plays the step of a press, in a level that equals the one passed in.
 fn press(
     alloc: Global,
     game: &Game,
     program: &Program,
     level: &Level,
-    spare: Option<Level>,
+    equal: Level,
     input: Dir,
 ) -> Result<Next, AllocError>
     requires level_of { IsOfGame game.now level.now.grid }
     requires program_of { IsProgramOf game.now.layers program.now }
+    requires equal { equal.grid ≡ level.now.grid }
     ensures next { IfOk result
         (λ next. (tick : Grid → Reached) →
         reached_in tick next ≡ reached_by_press tick game.now (step_of game.now program.now level.now.grid (Some input))) }
     ensures game { IfOk result (IsNextIn game.now) }
     ensures size { IfOk result (NextKeepsSize level.now.grid) }
 {
-    match step_in(alloc, game, program, level, spare, Some(input)) {
+    match step_on(alloc, game, program, level, equal, input) {
         Ok(end) => Ok(effect(game, end)),
         Err(StepFault::Memory) => Err(AllocError),
         Err(_) => Ok(Next::End(Move::DeadEnd)),
     }
 }
 
-/// Plays the move of a press, in the memory of a spare level if there is one. Err: memory was refused.
+/// Plays the move of a press, in a level that equals the one passed in. Err: memory was refused.
 #[tactic(auto, unfolding(crate::specs::Moves::move_of))]
 pub(crate) fn play(
     alloc: Global,
     game: &Game,
     program: &Program,
     level: &Level,
-    spare: Option<Level>,
+    equal: Level,
     input: Dir,
 ) -> Result<Move, AllocError>
     requires level_of { IsOfGame game.now level.now.grid }
     requires program_of { IsProgramOf game.now.layers program.now }
+    requires equal { equal.grid ≡ level.now.grid }
     ensures reached { IfOk result (λ end. reached_by end ≡ move_of game.now program.now level.now.grid input) }
     ensures game { IfOk result (IsMoveIn game.now) }
     ensures size { IfOk result (MoveKeepsSize level.now.grid) }
 {
-    match press(alloc, game, program, level, spare, input)? {
+    match press(alloc, game, program, level, equal, input)? {
         Next::Tick(next) => finish(alloc, game, program, next),
         Next::End(end) => Ok(end),
     }

@@ -2,15 +2,25 @@
 
 ghost use Rattle.std.specs.Prelude.{◌≡◌, ◌+◌, ◌-◌, ◌<◌, ◌≤◌, [], ◌∷◌, ◌++◌, length, IfOk, OnOk, OnErr, option_map, Some, slice_get};
 ghost use Rattle.pz_sheet.specs.Grid.{Grid, SameSize};
+ghost use Rattle.pz_bare.specs.Differing.{DifferWithin};
+ghost use Rattle.pz_program.specs.Instance.{IsProgramOf};
 ghost use Rattle.pz_store.specs.Book.{AreNumbers};
+ghost use Rattle.pz_store.specs.Digest.{digest_of};
 ghost use Rattle.pz_store.specs.Levels.{IsRow};
 ghost use Rattle.pz_solve.specs.Found.{Found, start_of};
+ghost use Rattle.pz_solve.specs.Here.{IsAt};
+ghost use Rattle.pz_solve.specs.Leading.{reached_by, IsMoveIn, MoveKeepsSize};
+ghost use Rattle.pz_solve.specs.Moves.{move_of};
+ghost use Rattle.pz_solve.specs.Trying.{AreOfGame};
 ghost use Rattle.pz_solve.specs.Noted.{digest_if_new, digests_of, entry_of, link_of, IsKept, IsNotedAs};
 
+use crate::here::Here;
 use crate::index::Index;
-use pz_bare::BareLevel;
+use crate::moves::{Move, play};
 use pz_game::direction::Dir;
+use pz_game::game::Game;
 use pz_grid::Level;
+use pz_program::instance::Program;
 use pz_store::levels::Levels;
 use std::alloc::{AllocError, Global};
 use std::marker::Model;
@@ -35,13 +45,13 @@ pub enum Noted {
 }
 
 /// The levels that a search has found, each once, in the order of their depths, and how each was found. `index` has their digests.
-/// `numbers` is room for those of a level's cells, and `spare` for the next step.
+/// `numbers` is room for those of a level's cells, and `here` is the one from which presses are tried.
 pub struct Search {
     levels: Levels,
     links: Vec<Link>,
     index: Index,
     numbers: Vec<u32>,
-    spare: Option<Level>,
+    here: Here,
 }
 
 /// Written out, so that each place where one goes out of scope is one call.
@@ -52,12 +62,12 @@ impl Drop for Search {
             links,
             index: _index,
             numbers,
-            spare,
+            here,
         } = self;
         drop(levels);
         drop(links);
         drop(numbers);
-        drop(spare);
+        drop(here);
     }
 }
 
@@ -70,17 +80,27 @@ impl Model for Search {
 
     ghost view = { λ s. found_in s.levels.grids s.links.items };
 
-    ghost invariant = { λ s. IsStored s.levels s.links.items s.index s.numbers.items };
+    ghost invariant = { λ s. IsStored s.levels s.links.items s.index s.numbers.items s.here };
 }
 
-/// The digest of the level whose cells have these numbers, unless it is among the levels.
-fn digest_if_new(levels: &Levels, index: &Index, numbers: &[u32]) -> Option<u64>
+/// The digest of the level whose cells have these numbers, unless it is among the levels. Mostly it is the one before.
+fn digest_if_new(
+    here: &Here,
+    levels: &Levels,
+    index: &Index,
+    numbers: &[u32],
+    digest: u64,
+) -> Option<u64>
+    requires at { IsAt levels.now here.now }
     requires indexed { index.now ≡ digests_of levels.now.objects levels.now.grids }
     requires row { IsRow levels.now.frame levels.now.cells numbers.now }
     ensures { (grid : Grid) → SameSize levels.now.frame grid → AreNumbers levels.now.cells numbers.now grid →
+        digest ≡ digest_of levels.now.objects grid → DifferWithin here.now.changed grid here.now.grid →
         result ≡ digest_if_new levels.now.objects levels.now.grids grid }
 {
-    let digest = levels.digest(numbers);
+    if here.is_unchanged() {
+        return None;
+    }
     let mut at = index.newest(digest);
     'places: while let Some(place) = at {
         if levels.has_at(place, numbers) {
@@ -91,6 +111,28 @@ fn digest_if_new(levels: &Levels, index: &Index, numbers: &[u32]) -> Option<u64>
     Some(digest)
 }
 
+/// Turns to the level of a number, from which a press is tried. Err: memory was refused.
+fn turn_to(
+    here: &mut Here,
+    levels: &Levels,
+    index: &Index,
+    place: usize,
+    numbers: &mut [u32],
+) -> Result<(), AllocError>
+    requires at { IsAt levels.now here.old }
+    requires indexed { index.now ≡ digests_of levels.now.objects levels.now.grids }
+    requires within { place < length levels.now.grids }
+    requires long { length numbers.old ≡ length here.old.numbers }
+    ensures at { IsAt levels.now here.new }
+    ensures place { OnOk result (here.new.place ≡ place) }
+    ensures long { length numbers.new ≡ length numbers.old }
+{
+    if here.place() == place {
+        return Ok(());
+    }
+    here.turn(levels, place, index.digest(place), numbers)
+}
+
 impl Search {
     /// A search that has found one level. Err: memory was refused.
     pub(crate) fn new(alloc: Global, level: &Level, objects: usize) -> Result<Search, AllocError>
@@ -99,8 +141,9 @@ impl Search {
         let level = level.bare();
         let mut levels = Levels::new(alloc, level, objects)?;
         let numbers = levels.number_all(alloc, level)?;
+        let digest = levels.digest(&numbers);
         let mut index = Index::new(alloc);
-        index.push(levels.digest(&numbers))?;
+        index.push(digest)?;
         levels.push(&numbers)?;
         let mut links = Vec::new(alloc);
         links.push(Link {
@@ -108,12 +151,14 @@ impl Search {
             parent: 0,
             input: Dir::Action,
         })?;
+        let room = Vec::from_slice(alloc, &numbers)?;
+        let here = Here::new(alloc, level.copy()?, numbers, digest)?;
         Ok(Search {
             levels,
             links,
             index,
-            numbers,
-            spare: None,
+            numbers: room,
+            here,
         })
     }
 
@@ -123,14 +168,6 @@ impl Search {
         ensures kept { IsKept self.now }
     {
         self.links.len()
-    }
-
-    /// A copy of the level of this number. Err: memory was refused.
-    pub(crate) fn level(&self, index: usize) -> Result<BareLevel, AllocError>
-        requires { index < length self.now }
-        ensures { IfOk result (λ level. option_map (λ found. found.grid) (slice_get self.now index) ≡ Some level.grid) }
-    {
-        self.levels.level(index)
     }
 
     /// How the level of this number was found.
@@ -165,40 +202,62 @@ impl Search {
         })
     }
 
-    /// Memory for a step, if there is some.
-    pub(crate) fn take_spare(&mut self) -> Option<Level>
-        ensures { self.new ≡ self.old }
+    /// Plays a press from the level of this number. Err: memory was refused.
+    pub(crate) fn play(
+        &mut self,
+        alloc: Global,
+        game: &Game,
+        program: &Program,
+        index: usize,
+        input: Dir,
+    ) -> Result<Move, AllocError>
+        requires within { index < length self.old }
+        requires level_of { AreOfGame game.now self.old }
+        requires program_of { IsProgramOf game.now.layers program.now }
+        ensures kept { self.new ≡ self.old }
+        ensures reached { IfOk result (λ end. (here : Found) → slice_get self.old index ≡ Some here →
+            reached_by end ≡ move_of game.now program.now here.grid input) }
+        ensures game { IfOk result (IsMoveIn game.now) }
+        ensures size { IfOk result (λ end. (here : Found) → slice_get self.old index ≡ Some here →
+            MoveKeepsSize here.grid end) }
     {
-        self.spare.take()
-    }
-
-    /// Keeps a level as memory for the next step.
-    pub(crate) fn put_aside(&mut self, level: Level)
-        ensures { self.new ≡ self.old }
-    {
-        self.spare = Some(level);
+        turn_to(
+            &mut self.here,
+            &self.levels,
+            &self.index,
+            index,
+            &mut self.numbers,
+        )?;
+        let equal = self.here.take_equal()?;
+        play(alloc, game, program, self.here.level(), equal, input)
     }
 
     /// Adds a level that another one led to, unless it was found before, or so many levels were found already. Err: memory was refused.
     pub(crate) fn note(
         &mut self,
-        before: &BareLevel,
-        level: &BareLevel,
+        level: Level,
         link: Link,
         most: usize,
     ) -> Result<Noted, AllocError>
-        requires before { option_map (λ found. found.grid) (slice_get self.old link.parent) ≡ Some before.now.grid }
-        requires size { SameSize before.now.grid level.now.grid }
+        requires within { link.parent < length self.old }
+        requires size { (before : Found) → slice_get self.old link.parent ≡ Some before → SameSize before.grid level.grid }
         requires low { link.depth ≤ length self.old }
-        ensures noted { IfOk result (IsNotedAs self.old self.new most (entry_of level.now.grid link)) }
+        ensures noted { IfOk result (IsNotedAs self.old self.new most (entry_of level.grid link)) }
         ensures err { OnErr result (self.new ≡ self.old) }
     {
-        if level.equals(before) {
-            return Ok(Noted::Known);
-        }
-        self.levels
-            .number(link.parent as usize, before, level, &mut self.numbers)?;
-        let Some(digest) = digest_if_new(&self.levels, &self.index, &self.numbers) else {
+        turn_to(
+            &mut self.here,
+            &self.levels,
+            &self.index,
+            link.parent as usize,
+            &mut self.numbers,
+        )?;
+        let digest = self
+            .here
+            .number(&mut self.levels, level.bare(), &mut self.numbers)?;
+        let found = digest_if_new(&self.here, &self.levels, &self.index, &self.numbers, digest);
+        self.here.keep(level);
+        let Some(digest) = found else {
             return Ok(Noted::Known);
         };
         if self.links.len() >= most {

@@ -10,7 +10,7 @@ ghost use Rattle.pz_solve.specs.Moves.{move_of};
 ghost use Rattle.pz_solve.specs.Trying.{AreOfGame, HasExpanded, HasTried, input_of, tried_by};
 
 use crate::answer::{Answer, BYTES_OF_CELL, BYTES_OF_LEVEL, Bounds, SolveFault};
-use crate::moves::{Move, play};
+use crate::moves::Move;
 use crate::path::inputs_to;
 use crate::search::{Noted, Search};
 use pz_game::direction::Dir;
@@ -67,29 +67,23 @@ fn try_press(
     program: &Program,
     search: &mut Search,
     index: usize,
-    level: &Level,
     input: Dir,
     most: usize,
 ) -> Result<Tried, AllocError>
     requires within { index < length search.old }
-    requires here { option_map (λ found. found.grid) (slice_get search.old index) ≡ Some level.now.grid }
     requires level_of { AreOfGame game.now search.old }
     requires program_of { IsProgramOf game.now.layers program.now }
     ensures level_of { OnOk result (AreOfGame game.now search.new) }
-    ensures here { OnOk result (option_map (λ found. found.grid) (slice_get search.new index) ≡ Some level.now.grid) }
     ensures longer { OnOk result (length search.old ≤ length search.new) }
     ensures room { OnOk result (length search.new ≤ max (length search.old) most) }
     ensures tried { IfOk result (λ tried. (start : Grid) (here : Found) →
         IsSearch (move_of game.now program.now) start search.old index → slice_get search.old index ≡ Some here →
         HasTried (move_of game.now program.now) start search.old search.new index here most input tried) }
 {
-    let spare = search.take_spare();
-    match play(alloc, game, program, level, spare, input)? {
+    match search.play(alloc, game, program, index, input)? {
         Move::Stands(next) => {
             let link = search.link_behind(index, input)?;
-            let noted = search.note(level.bare(), next.bare(), link, most)?;
-            search.put_aside(next);
-            Ok(tried_by(noted))
+            Ok(tried_by(search.note(next, link, most)?))
         }
         Move::Wins => Ok(Tried::Wins(input)),
         Move::DeadEnd => Ok(Tried::Nothing),
@@ -115,18 +109,8 @@ fn expand(
         IsSearch (move_of game.now program.now) start search.old index → slice_get search.old index ≡ Some here →
         HasExpanded (move_of game.now program.now) start search.old search.new index here most tried) }
 {
-    let level = Level::marked(alloc, search.level(index)?)?;
     for number in 0..PRESSES {
-        match try_press(
-            alloc,
-            game,
-            program,
-            search,
-            index,
-            &level,
-            input_of(number),
-            most,
-        )? {
+        match try_press(alloc, game, program, search, index, input_of(number), most)? {
             Tried::Nothing => {}
             tried => return Ok(tried),
         }

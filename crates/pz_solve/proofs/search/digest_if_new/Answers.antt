@@ -1,7 +1,11 @@
 use Rattle.std.proofs.Common.{◌≡◌, ℕ, ◌<◌, ◌≤◌, Bool, true, false, Some, None, Option, length, ap, sym, ◌∙◌, subst, arith, List}
 use Rattle.std.specs.Prelude.{IsTrue, slice_get, if◌then◌else◌}
 use Rattle.std.proofs.lemmas.Option.{slice_get_within}
+use Rattle.pz_bare.specs.Differing.{DifferWithin}
+use Rattle.pz_bare.proofs.DifferingLemmas.{same_without}
+use Rattle.pz_grid.proofs.MovementLemmas.{same_size_on}
 use Rattle.pz_sheet.specs.Grid.{Grid}
+use Rattle.pz_sheet.proofs.NewerLemmas.{size_back}
 use Rattle.pz_store.specs.Digest.{digest_of}
 use Rattle.pz_solve.specs.Noted.{digests_of, is_among}
 use Rattle.pz_solve.proofs.Knowing.{IsUpTo, as_many, none_among, place_of, there_among, up_to}
@@ -15,11 +19,11 @@ pub places-init : goal.places-init
 places-init c =
     let levels = c.args.levels.now in
     let index = c.args.index.now in
-    let digest = c.digest-digest.result in
+    let digest = c.args.digest in
     record {
       placed = place_of (length levels.grids) index (length index) digest c.newest-at.result (as_many levels.objects levels.grids index c.requires.indexed) c.newest-at.ensures;
-      left = λ grid size are place is.
-          up_to levels.objects levels.grids index digest (length index) grid c.newest-at.result c.requires.indexed (c.digest-digest.ensures grid are) c.newest-at.ensures
+      left = λ grid size are is_digest place is.
+          up_to levels.objects levels.grids index digest (length index) grid c.newest-at.result c.requires.indexed is_digest c.newest-at.ensures
           place (within levels.objects levels.grids index place grid c.requires.indexed is) is;
     }
 
@@ -33,7 +37,7 @@ pub has_at-requires-clause-within : goal.has_at-requires-clause-within
 has_at-requires-clause-within c = (c.places.invariant.placed c.in-Some.place c.in-Some.is).0
 
 pub returns-then-has_at : goal.returns-then-has_at
-returns-then-has_at c = λ grid size are.
+returns-then-has_at c = λ grid size are is_digest rest.
     let levels = c.args.levels.now in
     let there = (c.has_at.ensures grid size are).0 (is_true c.if-has_at.true) in
     ap (λ (b : Bool). if b then None else Some (digest_of levels.objects grid)) (sym (there_among levels.grids c.in-Some.place grid there))
@@ -50,17 +54,26 @@ places-preserved c =
     let levels = c.args.levels.now in
     let index = c.args.index.now in
     let place = c.in-Some.place in
-    let digest = c.digest-digest.result in
+    let digest = c.args.digest in
     record {
       placed = place_of (length levels.grids) index place digest c.older-at.result (as_many levels.objects levels.grids index c.requires.indexed) c.older-at.ensures;
-      left = λ grid size are i is.
-          let low = others levels.grids grid c.places.at place c.in-Some.is (λ here. is_not c.if-has_at.false ((c.has_at.ensures grid size are).1 here)) i is (c.places.invariant.left grid size are i is) in
-          up_to levels.objects levels.grids index digest place grid c.older-at.result c.requires.indexed (c.digest-digest.ensures grid are) c.older-at.ensures i low is;
+      left = λ grid size are is_digest i is.
+          let low = others levels.grids grid c.places.at place c.in-Some.is (λ here. is_not c.if-has_at.false ((c.has_at.ensures grid size are).1 here)) i is (c.places.invariant.left grid size are is_digest i is) in
+          up_to levels.objects levels.grids index digest place grid c.older-at.result c.requires.indexed is_digest c.older-at.ensures i low is;
     }
 
 pub returns : goal.returns
-returns c = λ grid size are.
+returns c = λ grid size are is_digest rest.
     let levels = c.args.levels.now in
     let none : c.places.at ≡ None = c.in_default.is in
-    let fresh : is_among levels.grids grid ≡ false = none_among levels.grids grid (λ place is. subst (λ (o : Option ℕ). IsUpTo o place) none (c.places.invariant.left grid size are place is)) in
-    ap (λ (d : ℕ). Some d) (c.digest-digest.ensures grid are) ∙ ap (λ (b : Bool). if b then None else Some (digest_of levels.objects grid)) (sym fresh)
+    let fresh : is_among levels.grids grid ≡ false = none_among levels.grids grid (λ place is. subst (λ (o : Option ℕ). IsUpTo o place) none (c.places.invariant.left grid size are is_digest place is)) in
+    ap (λ (d : ℕ). Some d) is_digest ∙ ap (λ (b : Bool). if b then None else Some (digest_of levels.objects grid)) (sym fresh)
+
+pub returns-then-is_unchanged : goal.returns-then-is_unchanged
+returns-then-is_unchanged c = λ grid size are is_digest rest.
+    let levels = c.args.levels.now in
+    let here = c.args.here.now in
+    let at = c.requires.at in
+    let long : length grid.cells ≡ length here.grid.cells = omega (arith, are.long, c.requires.row.long, at.row.long, at.numbers.long) in
+    let same = same_without grid here.grid (same_size_on grid levels.frame here.grid (size_back levels.frame grid size) at.size) long (subst (λ (l : List ℕ). DifferWithin l grid here.grid) (c.is_unchanged.ensures.0 c.if-is_unchanged.true) rest) in
+    ap (λ (b : Bool). if b then None else Some (digest_of levels.objects grid)) (sym (there_among levels.grids here.place grid (at.there ∙ ap (λ (g : Grid). Some g) (sym same))))

@@ -29,7 +29,6 @@ loop-number-preserved c =
     let middle = c.loop-number.search in
     let new = c.try_press.new.search in
     record {
-      here = c.in_ok-tried.ensures.here;
       longer = omega (arith, c.in_ok-tried.ensures.longer, c.loop-number.invariant.longer);
       level_of = c.in_ok-tried.ensures.level_of;
       room = omega (arith, c.in_ok-tried.ensures.room, c.loop-number.invariant.room);

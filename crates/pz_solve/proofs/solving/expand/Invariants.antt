@@ -1,5 +1,5 @@
 use Rattle.std.proofs.Common.{◌≡◌, ◌≤◌, length, max, Some}
-use Rattle.std.specs.Prelude.{option_map, slice_get}
+use Rattle.std.specs.Prelude.{slice_get}
 use Rattle.pz_sheet.specs.Grid.{Grid}
 use Rattle.pz_solve.specs.Found.{Found, IsSearch}
 use Rattle.pz_solve.specs.Moves.{move_of}
@@ -10,7 +10,6 @@ use Rattle.pz_solve.proofs.solving.expand.Given as goal
 -- the presses so far were tried, and none won
 abbrev pub invariant-loop-number : goal.invariant-loop-number
 invariant-loop-number l = record {
-  here : option_map (λ (found : Found). found.grid) (slice_get l.search l.index) ≡ Some l.level.grid;
   longer : length l.fn.search ≤ length l.search;
   level_of : AreOfGame l.game l.search;
   room : length l.search ≤ max (length l.fn.search) l.most;
