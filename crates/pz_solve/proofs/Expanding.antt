@@ -9,16 +9,12 @@ use Rattle.pz_solve.specs.Winning.{Moves}
 use Rattle.pz_solve.specs.Found.{Found, IsSearch, IsTried}
 use Rattle.pz_solve.specs.Trying.{Grows, HasTried, HasExpanded, input_of}
 use Rattle.pz_solve.proofs.Searching.{tried_still}
-use Rattle.pz_solve.proofs.TryingLemmas.{grows_not}
 
 -- the first presses were tried from a level, and none won
 pub record AreTriedBelow (moves : Moves) (start : Grid) (old new : List Found) (index : ℕ) (here : Found) (number : ℕ) : Type 0 where
   pub grows : Grows old new
   pub search : IsSearch moves start new index
   pub each : (k : ℕ) → k < number → IsTried new here.depth (moves here.grid (input_of k))
-
-pub none_tried : (moves : Moves) (start : Grid) (old : List Found) (index : ℕ) (here : Found) → IsSearch moves start old index → AreTriedBelow moves start old old index here 0
-none_tried moves start old index here search = record { grows = grows_not old; search = search; each = λ k low. absurd (omega (arith, low)) }
 
 pub grows_twice : (old middle new : List Found) → Grows old middle → Grows middle new → Grows old new
 grows_twice old middle new first second index here is = second index here (first index here is)

@@ -1,5 +1,5 @@
 -- Digests with one more.
-use Rattle.std.proofs.Common.{◌≡◌, ◌≢◌, ℕ, ◌≤◌, ◌⊎◌, inl, inr, List, [], ◌∷◌, ◌++◌, length, length-append, Option, Some, None, refl, sym, ◌∙◌, subst, arith}
+use Rattle.std.proofs.Common.{◌≡◌, ◌≢◌, ℕ, ◌≤◌, ◌⊎◌, inl, inr, List, [], ◌∷◌, ◌++◌, length, length-append, Option, Some, None, sym, ◌∙◌, subst, arith}
 use Rattle.std.proofs.lemmas.Option.{slice_get_within}
 use Rattle.pz_solve.specs.Indexed.{IsIndexed, IsNewest}
 use Rattle.pz_solve.proofs.Listing.{last_there, still_there, there_before}
@@ -40,13 +40,6 @@ its_own digests more = (
   last_there digests more,
   λ place less is. omega (arith, less, length-append digests (more ∷ [])),
 )
-
-pub none_indexed : (newest : ℕ → Option ℕ) → ((digest : ℕ) → newest digest ≡ None) → IsIndexed [] [] newest
-none_indexed newest none = record {
-  long = refl;
-  last = λ digest. subst (λ (o : Option ℕ). IsNewest [] 0 digest o) (sym (none digest)) (λ place low is. omega (arith, low));
-  before = λ place digest older is there. absurd cc;
-}
 
 pub one_more_indexed : (digests : List ℕ) (olders : List (Option ℕ)) (newest after : ℕ → Option ℕ) (more : ℕ) (older : Option ℕ) → IsIndexed digests olders newest → older ≡ newest more →
     after more ≡ Some (length digests) → ((digest : ℕ) → (digest ≡ more → ⊥) → after digest ≡ newest digest) → IsIndexed (digests ++ more ∷ []) (olders ++ older ∷ []) after

@@ -10,7 +10,7 @@ use Rattle.pz_bare.specs.Differing.{DifferWithin}
 use Rattle.pz_bare.proofs.DifferingLemmas.{same_without}
 use Rattle.pz_cells.proofs.SameLemmas.{same_cell_is}
 use Rattle.pz_sheet.specs.Changes.{CellChange, changed_from, with_cell, cell_there}
-use Rattle.pz_sheet.specs.Grid.{Grid, IsLawful, LevelState, SameSize}
+use Rattle.pz_sheet.specs.Grid.{Grid, LevelState, SameSize}
 use Rattle.pz_sheet.specs.Presence.{cell_of}
 use Rattle.pz_store.specs.Book.{AreNumbers, CellSeen, Extends}
 use Rattle.pz_store.specs.Digest.{digest_of}
@@ -57,10 +57,6 @@ put_keeps frame grid new place None put size = absurd cc
 put_keeps frame grid new place (Some cell) put size =
     let is = same_Some (with_cell grid (record { number = place; cell = cell })) new put in
     (rw (← is) (record { width = size.width; height = size.height; depth = size.depth; layers = size.layers }), rw (← is) (length-set grid.cells place cell))
-
--- levels of one size have as many cells
-pub as_many : (grid other : Grid) → IsLawful grid → IsLawful other → SameSize grid other → length grid.cells ≡ length other.cells
-as_many grid other lawful lawful_other size = grind (arith, lawful.covers, lawful_other.covers, size.width, size.height)
 
 -- the cells that changed are those in which two levels differ at most
 in_changed : (number : ℕ) (cells older : List CellSeen) (k : ℕ) → length cells ≡ length older → list_any (nat_eq (number + k)) (map (λ (change : CellChange). change.number) (changed_from number cells older)) ≡ false → get_or cells k [] ≡ get_or older k []

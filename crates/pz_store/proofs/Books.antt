@@ -1,14 +1,12 @@
 -- Books of cells.
 use Rattle.std.proofs.Common.{◌≡◌, ℕ, ◌*◌, ◌<◌, inl, inr, List, [], ◌∷◌, ◌++◌, length, length-append, map, Option, Some, refl, ap, sym, ◌∙◌, subst, arith, All}
-use Rattle.std.specs.Prelude.{slice_get}
 use Rattle.std.proofs.lemmas.List.{map-append}
 use Rattle.std.proofs.lemmas.List.Elements.{All-append, All-cons, All-head, All-nil, All-tail, All-weaker}
 use Rattle.pz_sheet.specs.Grid.{Grid, BareState, IsLawful, SameSize}
-use Rattle.pz_sheet.specs.Presence.{cell_of}
 use Rattle.pz_store.specs.declared.book.Place.{Place}
 use Rattle.pz_store.specs.Book.{AreDistinctCells, CellSeen, HasMore, IsBook, IsFramed, IsPlaceIn, IsUnknown, cell_from, cell_in}
 use Rattle.pz_store.specs.Digest.{cell_word}
-use Rattle.pz_store.proofs.Listing.{last_there, still_there, there, there_before}
+use Rattle.pz_store.proofs.Listing.{still_there, there, there_before}
 
 -- two levels of the size of a third
 pub size_across : (frame a b : Grid) → SameSize frame a → SameSize frame b → SameSize a b
@@ -58,11 +56,6 @@ distinct_more cells new distinct unknown number other cell is is_other = elim (t
     | inr too ↦ last.0 ∙ sym too.0
   ]
 ]
-
--- where a cell stands in the level that was added last
-pub in_last : (levels : List BareState) (more : BareState) (place : Place) → place.level ≡ length levels → cell_in (levels ++ more ∷ []) place ≡ cell_of more.grid place.index
-in_last levels more place last =
-    ap (λ (n : ℕ). cell_from (slice_get (levels ++ more ∷ []) n) place.index) last ∙ ap (λ (o : Option BareState). cell_from o place.index) (last_there levels more)
 
 module _ (frame : Grid) (levels : List BareState) (places : List Place) (objects : ℕ) (place : Place) (cell : CellSeen) (book : IsBook frame levels places objects) (there_is : cell_in levels place ≡ cell) where
   -- the cells of a book that got one more of a level that it keeps

@@ -2,9 +2,9 @@ use Rattle.std.proofs.Common.{◌≡◌, ◌++◌, ℕ, List, Result, Ok, Err, a
 use Rattle.std.specs.Prelude.{OnOk}
 use Rattle.pz_bare.specs.Differing.{DifferWithin}
 use Rattle.pz_sheet.specs.Grid.{Grid, SameSize}
-use Rattle.pz_sheet.proofs.NewerLemmas.{size_back}
 use Rattle.pz_store.specs.Levels.{changed_places}
-use Rattle.pz_solve.proofs.Turning.{at_still, within_changed, as_many}
+use Rattle.pz_store.proofs.Books.{as_many}
+use Rattle.pz_solve.proofs.Turning.{at_still, within_changed}
 use Rattle.pz_solve.proofs.here.Here.number.Goals as goal
 
 pub returns-clause-at : goal.returns-clause-at
@@ -24,8 +24,8 @@ returns-clause-rest c =
     let here = c.self.inside.bare.grid in
     let changed = c.number.new.changed.items in
     let cleared = c.clear.new.self.items in
-    let size : SameSize level here = subst (λ (g : Grid). SameSize level g) (sym (c.self.invariant.same ∙ ap (λ h. h.grid) c.self.view_is)) (size_back c.args.self.now.grid level c.requires.size) in
+    let size : SameSize here level = subst (λ (g : Grid). SameSize g level) (sym (c.self.invariant.same ∙ ap (λ h. h.grid) c.self.view_is)) c.requires.size in
     so c.number.result (changed ≡ cleared ++ changed_places level here) (DifferWithin changed level c.self.inside.level.grid)
     (λ is. subst (λ (g : Grid). DifferWithin changed level g) c.self.invariant.same
-    (subst (λ (l : List ℕ). DifferWithin l level here) (sym (is ∙ ap (λ (l : List ℕ). l ++ changed_places level here) c.clear.ensures.items)) (within_changed level here (as_many level here c.width-2.ensures.lawful c.width.ensures.lawful size))))
+    (subst (λ (l : List ℕ). DifferWithin l level here) (sym (is ∙ ap (λ (l : List ℕ). l ++ changed_places level here) c.clear.ensures.items)) (within_changed level here (as_many here level c.width.ensures.lawful c.width-2.ensures.lawful size))))
     c.number.ensures.changed
