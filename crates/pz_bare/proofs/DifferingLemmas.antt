@@ -1,5 +1,5 @@
 -- Cells taken one after another leave fewer in which two levels may differ.
-use Rattle.std.proofs.Common.{◌≡◌, ℕ, ◌+◌, ◌<◌, List, [], ◌∷◌, length, get_or, drop, drop-cons, suc, add-one, ap, sym, ◌∙◌, subst, arith, refl, ext_get_or, get_or-set_same, get_or-set_other}
+use Rattle.std.proofs.Common.{◌≡◌, ℕ, ◌+◌, ◌<◌, List, [], ◌∷◌, length, get_or, drop, drop-cons, add-one, ap, sym, ◌∙◌, subst, arith, refl, ext_get_or, get_or-set_same, get_or-set_other}
 use Rattle.std.proofs.lemmas.Grind.{common_steps}
 use Rattle.pz_sheet.specs.Changes.{with_cell, cell_there}
 use Rattle.pz_sheet.specs.Grid.{Grid, SameSize}

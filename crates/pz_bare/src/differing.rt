@@ -63,17 +63,17 @@ impl BareLevel {
         }
     }
 
-    /// Makes this level equal to another of the same size, from which it differs at most in the cells of these numbers.
-    pub fn take_cells_of(&mut self, other: &BareLevel, numbers: &[usize])
+    /// Makes this level equal to another of the same size by copying some of its cells. Before, they differ at most in these.
+    pub fn take_cells_of(&mut self, other: &BareLevel, cells: &[usize])
         requires size { SameSize self.old.grid other.now.grid }
-        requires within { All (λ number. number < length self.old.grid.cells) numbers.now }
-        requires rest { DifferWithin numbers.now self.old.grid other.now.grid }
+        requires within { All (λ index. index < length self.old.grid.cells) cells.now }
+        requires rest { DifferWithin cells.now self.old.grid other.now.grid }
         ensures { self.new.grid ≡ other.now.grid }
     {
         // (brings the proof the law of both levels)
         let _ = (self.width(), other.width());
-        for number in numbers {
-            self.take_cell_of(*number, other, *number);
+        for cell in cells {
+            self.take_cell_of(*cell, other, *cell);
         }
     }
 

@@ -4,6 +4,7 @@ pub mod Rewriting
 pub mod Marks
 pub mod Staying
 pub mod Admitted
+pub use Rattle.pz_bare.specs.Differing
 pub use Rattle.pz_bare.specs.Loading
 pub use Rattle.pz_game.specs.Pattern
 pub use Rattle.pz_program.specs.Instance

@@ -20,10 +20,11 @@ pub record IsMarked (state : LevelState) : Type 0 where
   pub columns : (line object : ℕ) → line < state.grid.width → in_column state.grid line object ≡ true → is_marked state.column_marks line object ≡ true
   pub all : (line object : ℕ) → line < state.grid.height → is_marked state.row_marks line object ≡ true → member state.level_marks object ≡ true
 
--- each set holds exactly the objects in its line
+-- each set holds exactly the objects in its line, and the level's own set exactly what the rows' sets do
 pub record IsExact (state : LevelState) : Type 0 where
   pub rows : (line object : ℕ) → line < state.grid.height → is_marked state.row_marks line object ≡ in_row state.grid line object
   pub columns : (line object : ℕ) → line < state.grid.width → is_marked state.column_marks line object ≡ in_column state.grid line object
+  pub all : (object : ℕ) → member state.level_marks object ≡ list_any (λ row. member row object) state.row_marks
 
 -- the sets of the lines hold only what they held before, and objects that pass the test for their line
 pub record IsWidened (old new : LevelState) (row_has column_has : ℕ → ℕ → Bool) : Type 0 where

@@ -1,6 +1,7 @@
 //! The marks of a level: the objects that each row, each column and the whole may have.
 
 ghost use Rattle.std.specs.Prelude.{◌≡◌, ℕ, ◌<◌, ◌&&◌, All, IfOk, OnOk, OnErr, true, length, nat_eq, []};
+ghost use Rattle.std.specs.List.{list_any};
 ghost use Rattle.pz_sets.specs.Sets.{member};
 ghost use Rattle.pz_sets.specs.declared.set.TheConstants.{CAPACITY};
 ghost use Rattle.pz_sheet.specs.Grid.{IsOnMap, IsLawful};
@@ -139,22 +140,20 @@ pub(crate) fn mark_lines(
         is_marked row_marks.new.items line object ≡ in_row bare.now.grid line object }
     ensures columns { (line object : ℕ) → line < bare.now.grid.width →
         is_marked column_marks.new.items line object ≡ in_column bare.now.grid line object }
-    ensures all { (line object : ℕ) → line < bare.now.grid.height → is_marked row_marks.new.items line object ≡ true →
-        member result object ≡ true }
+    ensures all { (object : ℕ) → member result object ≡ list_any (λ row. member row object) row_marks.new.items }
 {
     bare.mark_lines(Axis::Horizontal, row_marks.as_mut_slice());
     bare.mark_lines(Axis::Vertical, column_marks.as_mut_slice());
     all_of(row_marks)
 }
 
-/// A set with at least the objects of these sets.
+/// The objects of these sets together.
 fn all_of(marks: &[NumberSet]) -> NumberSet
-    ensures { (line object : ℕ) → line < length marks.now → is_marked marks.now line object ≡ true →
-        member result object ≡ true }
+    ensures { (object : ℕ) → member result object ≡ list_any (λ set. member set object) marks.now }
 {
     let mut set = NumberSet::empty();
-    for line in 0..marks.len() {
-        set = set.union(&marks[line]);
+    for line in marks {
+        set = set.union(line);
     }
     set
 }

@@ -6,6 +6,7 @@ use pz_grid::Level;
 use pz_rules::Flags;
 use pz_sample_game::{expect_level, game_of, loaded, program_of};
 use pz_source::{Dir, Game};
+use pz_turn::stepping::step_on;
 use pz_turn::{StepEnd, StepFault, step, won};
 use std::alloc::Global;
 use std::test::Fail;
@@ -39,6 +40,17 @@ fn step_in(alloc: Global, game: &Game, input: Option<Dir>, text: &str) -> Result
     step_from(alloc, game, &level, input, text)
 }
 
+/// Plays a press to the right in a copy of the level.
+fn press_in_copy(alloc: Global, game: &Game, text: &str) -> Result<Stepped, Fail> {
+    let level = loaded(alloc, game)?;
+    let copy = level.copy().map_err(|_| Fail::new("no memory"))?;
+    let program = program_of(alloc, game)?;
+    match step_on(alloc, game, &program, &level, copy, Dir::Right) {
+        Ok(end) => told(alloc, game, end, text),
+        Err(fault) => Ok(Err(fault)),
+    }
+}
+
 /// Fails a test if a step gives another answer, or ends with another level.
 fn expect_step(
     alloc: Global,
@@ -67,6 +79,19 @@ fn pushes_a_crate(rt: HostRuntime) -> Result<(), Fail> {
         "background:0,background player:1,background crate:2,\n",
         Ok((0, true)),
     )
+}
+
+#[test]
+fn plays_a_press_in_a_copy(rt: HostRuntime) -> Result<(), Fail> {
+    let rules = "[ > Player | Crate ] -> [ > Player | > Crate ]\n";
+    let game = game_of(rt.alloc(), rules, "", "pc.\n")?;
+    let found = press_in_copy(
+        rt.alloc(),
+        &game,
+        "background:0,background player:1,background crate:2,\n",
+    )?;
+    assert_eq!(rt; found, Ok((0, true)));
+    Ok(())
 }
 
 #[test]

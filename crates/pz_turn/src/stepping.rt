@@ -187,7 +187,7 @@ fn end_of(before: &Level, after: Level, commands: Commands) -> Result<StepEnd, A
     })
 }
 
-/// Plays a step in a copy of the level that has been given the press.
+/// Plays a step from a level. `pressed` is a copy of it to play in, in which a press has given its direction to the player already.
 fn step_pressed(
     alloc: Global,
     game: &Game,
@@ -199,7 +199,7 @@ fn step_pressed(
     requires level_of { IsOfGame game.now level.now.grid }
     requires program_of { IsProgramOf game.now.layers program.now }
     requires given { pressed.grid ≡ given_input (players_of game.now) input level.now.grid }
-    requires same_size { SameSize level.now.grid pressed.grid }
+    requires size { SameSize level.now.grid pressed.grid }
     ensures end { IfOk result
         (λ end. step_of game.now program.now level.now.grid input ≡
         Ok (record { level = end.level.grid; commands = end.commands; changed = end.changed })) }
@@ -238,18 +238,18 @@ pub fn step_in(
     step_pressed(alloc, game, program, level, pressed, input)
 }
 
-/// Plays the step of a press as `step` does, in a level that equals the one passed in.
+/// Plays the step of a press as `step` does, in a copy of the level.
 pub fn step_on(
     alloc: Global,
     game: &Game,
     program: &Program,
     level: &Level,
-    equal: Level,
+    copy: Level,
     press: Dir,
 ) -> Result<StepEnd, StepFault>
     requires level_of { IsOfGame game.now level.now.grid }
     requires program_of { IsProgramOf game.now.layers program.now }
-    requires equal { equal.grid ≡ level.now.grid }
+    requires copy { copy.grid ≡ level.now.grid }
     ensures end { IfOk result
         (λ end. step_of game.now program.now level.now.grid (Some press) ≡
         Ok (record { level = end.level.grid; commands = end.commands; changed = end.changed })) }
@@ -258,7 +258,7 @@ pub fn step_on(
     ensures fault { IfErr result
         (λ fault. fault ≢ Memory → step_of game.now program.now level.now.grid (Some press) ≡ Err fault) }
 {
-    let mut pressed = equal;
+    let mut pressed = copy;
     push_players(game, &mut pressed, press);
     step_pressed(alloc, game, program, level, pressed, Some(press))
 }

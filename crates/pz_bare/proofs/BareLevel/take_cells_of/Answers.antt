@@ -6,24 +6,24 @@ use Rattle.pz_bare.specs.Differing.{DifferWithin}
 use Rattle.pz_bare.proofs.DifferingLemmas.{with_one_taken, same_without}
 use Rattle.pz_bare.proofs.BareLevel.take_cells_of.Goals as goal
 
-pub loop-number-preserved : goal.loop-number-preserved
-loop-number-preserved c =
-    let grid = c.loop-number.self.grid in
+pub loop-cell-preserved : goal.loop-cell-preserved
+loop-cell-preserved c =
+    let grid = c.loop-cell.self.grid in
     let other = c.args.other.now.grid in
-    let numbers = c.args.numbers.now in
-    let at = c.loop-number.number-index in
-    let size = c.loop-number.invariant.size in
+    let cells = c.args.cells.now in
+    let at = c.loop-cell.cell-index in
+    let size = c.loop-cell.invariant.size in
     let is = c.take_cell_of.ensures in
-    let within = subst (λ (n : ℕ). get_or numbers at 0 < n) (sym c.loop-number.invariant.long) (All-get_or (λ (n : ℕ). n < length c.args.self.now.grid.cells) numbers at 0 c.loop-number-test.true c.requires.within) in
+    let within = subst (λ (n : ℕ). get_or cells at 0 < n) (sym c.loop-cell.invariant.long) (All-get_or (λ (n : ℕ). n < length c.args.self.now.grid.cells) cells at 0 c.loop-cell-test.true c.requires.within) in
     record {
       size = rw is (record { width = size.width; height = size.height; depth = size.depth; layers = size.layers });
-      long = ap (λ (level : Grid). length level.cells) is ∙ length-set grid.cells (get_or numbers at 0) (cell_of other (get_or numbers at 0)) ∙ c.loop-number.invariant.long;
-      rest = λ index none. rw is (with_one_taken grid other numbers at c.loop-number-test.true within c.loop-number.invariant.rest index none);
+      long = ap (λ (level : Grid). length level.cells) is ∙ length-set grid.cells (get_or cells at 0) (cell_of other (get_or cells at 0)) ∙ c.loop-cell.invariant.long;
+      rest = λ index none. rw is (with_one_taken grid other cells at c.loop-cell-test.true within c.loop-cell.invariant.rest index none);
     }
 
 pub returns : goal.returns
 returns c =
-    let grid = c.loop-number.self.grid in
+    let grid = c.loop-cell.self.grid in
     let other = c.args.other.now.grid in
-    let long : length grid.cells ≡ length other.cells = grind (arith, c.loop-number.invariant.long, c.width.ensures.lawful.covers, c.width-2.ensures.lawful.covers, c.requires.size.width, c.requires.size.height) in
-    same_without grid other c.loop-number.invariant.size long (subst (λ (l : List ℕ). DifferWithin l grid other) (drop_of_length-le c.args.numbers.now c.loop-number-test.false) c.loop-number.invariant.rest)
+    let long : length grid.cells ≡ length other.cells = grind (arith, c.loop-cell.invariant.long, c.width.ensures.lawful.covers, c.width-2.ensures.lawful.covers, c.requires.size.width, c.requires.size.height) in
+    same_without grid other c.loop-cell.invariant.size long (subst (λ (l : List ℕ). DifferWithin l grid other) (drop_of_length-le c.args.cells.now c.loop-cell-test.false) c.loop-cell.invariant.rest)
