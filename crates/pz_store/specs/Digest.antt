@@ -28,7 +28,7 @@ cell_word (suc objects) cell = with_bit (cell_word objects cell) (is_in cell obj
 abbrev pub digest_of : ℕ → Grid → ℕ
 digest_of objects grid = fold digest_with 0 (map (cell_word objects) grid.cells)
 
--- by how much a word counts in a digest that so many words are mixed into from there on
+-- by how much a word counts in a digest, where so many words are mixed in from it on, itself included
 unfoldable pub power_of : ℕ → ℕ
 power_of count = FACTOR ^ count % 2 ^ 64
 
@@ -37,7 +37,7 @@ pub record ArePowers (count : ℕ) (powers : List ℕ) : Type 0 where
   pub long : length powers ≡ count
   pub each : (index power : ℕ) → slice_get powers index ≡ Some power → power ≡ power_of (count - index)
 
--- a digest of words is made that of the same words with another one at a place
+-- if `digest` is that of some words, `result` is that of the same words with `new` in place of `old`
 abbrev pub IsReplaced : ℕ → ℕ → ℕ → ℕ → ℕ → Type 0
 IsReplaced digest old new power result =
     (words : List ℕ) (index : ℕ) → slice_get words index ≡ Some old → power ≡ power_of (length words - index) → digest ≡ fold digest_with 0 words →

@@ -27,7 +27,7 @@ pub record AreRows (book : BookState) (rows : RowsState) : Type 0 where
   pub long : rows.long ≡ length book.frame.cells
   pub each : All (IsRow book.frame book.cells) rows.rows
 
--- what holds of levels: their rows are those of their cells' numbers, and the powers are those of their cells
+-- what holds of levels: each row has a number for each cell, and each cell has its power
 pub record AreLevels (book : BookState) (kept : RowsState) (table : List ℕ) : Type 0 where
   pub rows : AreRows book kept
   pub powers : ArePowers (length book.frame.cells) table

@@ -27,7 +27,7 @@ pub(crate) fn mixed(digest: u64, word: u64) -> u64
     digest.wrapping_add(word).wrapping_mul(FACTOR)
 }
 
-/// A digest of words, of which one is replaced, by the power of its place.
+/// The digest after one word is replaced; `power` is that of its place.
 pub(crate) fn replaced(digest: u64, old: u64, new: u64, power: u64) -> u64
     ensures { IsReplaced digest old new power result }
 {

@@ -16,8 +16,8 @@ use pz_sheet::changes::KnownChanges;
 use std::alloc::{AllocError, Global};
 use std::marker::Model;
 
-/// Levels of one size in order, each a row of the numbers that its cells have in the book. The powers are those by which the words of
-/// cells count in digests.
+/// Levels of one size in order, each a row of the numbers that its cells have in the book. `powers` says by how much the word of each
+/// cell counts in a digest.
 pub struct Levels {
     book: Book,
     rows: Rows,
@@ -81,8 +81,8 @@ impl Levels {
         Ok(numbers)
     }
 
-    /// Makes numbers, which are those of a level, those of another that differs little from it. Adds each cell in which they differ to
-    /// `changed`, and gives the digest of the other, where `digest` is that of the first. Err: memory was refused.
+    /// Turns the numbers and the digest of level `before` into those of `level`. Looks up only the cells in which they differ, and appends
+    /// these to `changed`. Err: memory was refused; `numbers` may then be those of neither level, and `changed` may have grown.
     pub fn number(
         &mut self,
         digest: u64,
@@ -127,8 +127,8 @@ impl Levels {
         Ok(digest)
     }
 
-    /// Copies the numbers of the level at a place.
-    pub fn numbers_of(&self, place: usize, numbers: &mut [u32])
+    /// Copies the numbers of the cells of the level at a place into `numbers`.
+    pub fn copy_to(&self, place: usize, numbers: &mut [u32])
         requires within { place < length self.now.grids }
         requires long { length numbers.old ≡ length self.now.frame.cells }
         ensures size { (grid : Grid) → slice_get self.now.grids place ≡ Some grid → SameSize self.now.frame grid }

@@ -49,13 +49,6 @@ impl Rows {
         }
     }
 
-    /// How many rows there are.
-    pub(crate) fn len(&self) -> usize
-        ensures { result ≡ length self.now.rows }
-    {
-        self.count
-    }
-
     /// Whether the row at a place has these numbers.
     pub(crate) fn has_at(&self, place: usize, row: &[u32]) -> bool
         requires within { place < length self.now.rows }
