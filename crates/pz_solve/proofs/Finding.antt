@@ -1,14 +1,12 @@
 -- Levels and how each was found, side by side.
-use Rattle.std.proofs.Common.{◌≡◌, ℕ, zero, suc, ◌<◌, Bool, true, List, [], ◌∷◌, ◌++◌, length, Some, refl, ap, sym, ◌∙◌, arith}
+use Rattle.std.proofs.Common.{◌≡◌, ℕ, zero, suc, ◌<◌, Bool, List, [], ◌∷◌, ◌++◌, length, Some, refl, ap, sym, ◌∙◌, arith}
 use Rattle.std.specs.Prelude.{option_map, slice_get, slice_index_or}
-use Rattle.std.proofs.lemmas.List.{length-map}
 use Rattle.std.proofs.lemmas.Option.{same_Some, slice_get-map, slice_get_read}
 use Rattle.pz_sheet.specs.Grid.{Grid}
 use Rattle.pz_solve.specs.declared.search.Link.{Link}
 use Rattle.pz_solve.specs.Found.{Found}
 use Rattle.pz_solve.specs.Noted.{entry_of, found_in, grids_of, is_among, is_found}
-use Rattle.pz_solve.proofs.Knowing.{there_among}
-use Rattle.pz_solve.proofs.Listing.{there}
+use Rattle.pz_store.proofs.Listing.{there}
 
 -- as many as there are levels
 pub length_found : (grids : List Grid) (links : List Link) → length links ≡ length grids → length (found_in grids links) ≡ length grids

@@ -2,7 +2,7 @@
 use Rattle.std.proofs.Common.{◌≡◌, ◌≢◌, ℕ, ◌≤◌, ◌⊎◌, inl, inr, List, [], ◌∷◌, ◌++◌, length, length-append, Option, Some, None, sym, ◌∙◌, subst, arith}
 use Rattle.std.proofs.lemmas.Option.{slice_get_within}
 use Rattle.pz_solve.specs.Indexed.{IsIndexed, IsNewest}
-use Rattle.pz_solve.proofs.Listing.{last_there, still_there, there_before}
+use Rattle.pz_store.proofs.Listing.{last_there, still_there, there_before}
 
 -- below the places that there were, nothing changes
 newest_still : (digests : List ℕ) (more below digest : ℕ) (newest : Option ℕ) → below ≤ length digests → IsNewest digests below digest newest → IsNewest (digests ++ more ∷ []) below digest newest

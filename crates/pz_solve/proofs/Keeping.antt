@@ -10,7 +10,7 @@ use Rattle.pz_sheet.specs.Sameness.{same_grid}
 use Rattle.pz_grid.proofs.SameLemmas.{same_grid_is, same_grid_self}
 use Rattle.pz_solve.specs.Found.{Found, start_of}
 use Rattle.pz_solve.specs.Noted.{AreDistinct, IsKept, IsPlaced, grids_of, is_found}
-use Rattle.pz_solve.proofs.Listing.{there_before}
+use Rattle.pz_store.proofs.Listing.{there_before}
 
 pub same_grid_equivalence : IsEquivalence same_grid
 same_grid_equivalence = record {

@@ -1,4 +1,3 @@
-pub mod Listing
 pub mod Searching
 pub mod Ticking
 pub mod Sizes

@@ -9,7 +9,7 @@ unfoldable use Rattle.pz_solve.specs.Winning.{wins}
 use Rattle.pz_solve.specs.Winning.{Moves, wins_behind, NoneWins, NoneWinsWithin}
 use Rattle.pz_solve.specs.Found.{Found, IsLed, IsSearch, IsTried, start_of}
 use Rattle.pz_solve.specs.Trying.{Grows}
-use Rattle.pz_solve.proofs.Listing.{still_there, there_before}
+use Rattle.pz_store.proofs.Listing.{still_there, there_before}
 
 -- two that are there under one number are one
 pub one : {X : Type 0} (xs : List X) (i : ℕ) (a b : X) → slice_get xs i ≡ Some a → slice_get xs i ≡ Some b → a ≡ b

@@ -14,7 +14,7 @@ use Rattle.pz_solve.specs.Winning.{Moves}
 use Rattle.pz_solve.specs.Found.{Found, IsSearch, IsTried}
 use Rattle.pz_solve.specs.Noted.{IsNotedAs, entry_of, is_found}
 use Rattle.pz_solve.specs.Trying.{Grows, HasTried, tried_by}
-use Rattle.pz_solve.proofs.Listing.{last_there}
+use Rattle.pz_store.proofs.Listing.{last_there}
 use Rattle.pz_solve.proofs.Searching.{goes_on, grows_by}
 
 -- where a level is that was found

@@ -16,47 +16,47 @@ use Rattle.pz_store.specs.Book.{AreNumbers, CellSeen, Extends}
 use Rattle.pz_store.specs.Digest.{digest_of}
 use Rattle.pz_store.specs.Levels.{LevelsState, changed_places}
 use Rattle.pz_store.proofs.Rowing.{row_still}
-use Rattle.pz_solve.proofs.Listing.{still_there}
-use Rattle.pz_solve.specs.Here.{AreSameBut, HereState, IsAt, IsPlayedFrom}
+use Rattle.pz_store.proofs.Listing.{still_there}
+use Rattle.pz_solve.specs.Origin.{AreSameBut, OriginState, IsAt, IsPlayedFrom}
 
--- rows are the same in the first places, but in these
+-- rows are the same in the first cells, but in these
 abbrev pub AreSameBelow : ℕ → List ℕ → List ℕ → List ℕ → Type 0
-AreSameBelow end places old new = (index : ℕ) → index < end → list_any (nat_eq index) places ≡ false → slice_get old index ≡ slice_get new index
+AreSameBelow end cells old new = (index : ℕ) → index < end → list_any (nat_eq index) cells ≡ false → slice_get old index ≡ slice_get new index
 
--- one place more, that is noted or in which they are the same
-pub one_noted : (end : ℕ) (places old new : List ℕ) → AreSameBelow end places old new → AreSameBelow (end + 1) (places ++ end ∷ []) old new
-one_noted end places old new same index below none = grind (arith, common_steps, list_any-append (nat_eq index) places (end ∷ []), same index, none, below)
+-- one cell more, that is noted or in which they are the same
+pub one_noted : (end : ℕ) (cells old new : List ℕ) → AreSameBelow end cells old new → AreSameBelow (end + 1) (cells ++ end ∷ []) old new
+one_noted end cells old new same index below none = grind (arith, common_steps, list_any-append (nat_eq index) cells (end ∷ []), same index, none, below)
 
-pub one_passed : (end : ℕ) (places old new : List ℕ) → end < length old → length new ≡ length old → get_or old end 0 ≡ get_or new end 0 → AreSameBelow end places old new → AreSameBelow (end + 1) places old new
-one_passed end places old new low long is same index below none = grind (arith, same index, none, below, is, slice_get-get_or old end 0, slice_get-get_or new end 0, low, long)
+pub one_passed : (end : ℕ) (cells old new : List ℕ) → end < length old → length new ≡ length old → get_or old end 0 ≡ get_or new end 0 → AreSameBelow end cells old new → AreSameBelow (end + 1) cells old new
+one_passed end cells old new low long is same index below none = grind (arith, same index, none, below, is, slice_get-get_or old end 0, slice_get-get_or new end 0, low, long)
 
 -- they are the same behind their ends
-pub all_same : (end : ℕ) (places old new : List ℕ) → length old ≤ end → length new ≡ length old → AreSameBelow end places old new → AreSameBut places old new
-all_same end places old new high long same index none = elim (slice_get_cases old index).1 [
+pub all_same : (end : ℕ) (cells old new : List ℕ) → length old ≤ end → length new ≡ length old → AreSameBelow end cells old new → AreSameBut cells old new
+all_same end cells old new high long same index none = elim (slice_get_cases old index).1 [
   | inl is ↦ same index (omega (arith, is.1, high)) none
   | inr past ↦ past.1 ∙ sym (slice_get_past new index (omega (arith, past.0, long)))
 ]
 
--- levels whose numbers are the same but in some places differ in these cells at most
-pub differ_within : (cells : List CellSeen) (numbers others places : List ℕ) (grid there : Grid) → AreNumbers cells numbers grid → AreNumbers cells others there → length grid.cells ≡ length there.cells → AreSameBut places numbers others → DifferWithin places grid there
-differ_within cells numbers others places grid there are are_there long same index none = elim (slice_get_cases numbers index).1 [
+-- levels whose numbers are the same but in some cells differ in these at most
+pub differ_within : (cells : List CellSeen) (numbers others changed : List ℕ) (grid there : Grid) → AreNumbers cells numbers grid → AreNumbers cells others there → length grid.cells ≡ length there.cells → AreSameBut changed numbers others → DifferWithin changed grid there
+differ_within cells numbers others changed grid there are are_there long same index none = elim (slice_get_cases numbers index).1 [
   | inl is ↦ same_Some (cell_of grid index) (cell_of there index) (sym (are.each index is.0 is.2) ∙ are_there.each index is.0 (sym (same index none) ∙ is.2))
   | inr past ↦ get_or_past grid.cells index [] (omega (arith, past.0, are.long)) ∙ sym (get_or_past there.cells index [] (omega (arith, past.0, are.long, long)))
 ]
 
 -- the level in which the cell of a number was put has that cell of the level whose number it is
-pub put_is : (cells : List CellSeen) (numbers : List ℕ) (grid new there : Grid) (place number : ℕ) → AreNumbers cells numbers there → slice_get numbers place ≡ Some number
-    → option_map (λ (cell : CellSeen). with_cell grid (record { number = place; cell = cell })) (slice_get cells number) ≡ Some new → new ≡ with_cell grid (cell_there there place)
-put_is cells numbers grid new there place number are is put =
-    let set = λ (cell : CellSeen). with_cell grid (record { number = place; cell = cell }) in
-    same_Some new (with_cell grid (cell_there there place)) (sym put ∙ ap (λ (cell : Option CellSeen). option_map set cell) (are.each place number is))
+pub put_is : (cells : List CellSeen) (numbers : List ℕ) (grid new there : Grid) (index number : ℕ) → AreNumbers cells numbers there → slice_get numbers index ≡ Some number
+    → option_map (λ (cell : CellSeen). with_cell grid (record { number = index; cell = cell })) (slice_get cells number) ≡ Some new → new ≡ with_cell grid (cell_there there index)
+put_is cells numbers grid new there index number are is put =
+    let set = λ (cell : CellSeen). with_cell grid (record { number = index; cell = cell }) in
+    same_Some new (with_cell grid (cell_there there index)) (sym put ∙ ap (λ (cell : Option CellSeen). option_map set cell) (are.each index number is))
 
 -- it keeps its size
-pub put_keeps : (frame grid new : Grid) (place : ℕ) (cell : Option CellSeen) → option_map (λ (cell : CellSeen). with_cell grid (record { number = place; cell = cell })) cell ≡ Some new → SameSize frame grid → SameSize frame new × (length new.cells ≡ length grid.cells)
-put_keeps frame grid new place None put size = absurd cc
-put_keeps frame grid new place (Some cell) put size =
-    let is = same_Some (with_cell grid (record { number = place; cell = cell })) new put in
-    (rw (← is) (record { width = size.width; height = size.height; depth = size.depth; layers = size.layers }), rw (← is) (length-set grid.cells place cell))
+pub put_keeps : (frame grid new : Grid) (index : ℕ) (cell : Option CellSeen) → option_map (λ (cell : CellSeen). with_cell grid (record { number = index; cell = cell })) cell ≡ Some new → SameSize frame grid → SameSize frame new × (length new.cells ≡ length grid.cells)
+put_keeps frame grid new index None put size = absurd cc
+put_keeps frame grid new index (Some cell) put size =
+    let is = same_Some (with_cell grid (record { number = index; cell = cell })) new put in
+    (rw (← is) (record { width = size.width; height = size.height; depth = size.depth; layers = size.layers }), rw (← is) (length-set grid.cells index cell))
 
 -- the cells that changed are those in which two levels differ at most
 in_changed : (number : ℕ) (cells older : List CellSeen) (k : ℕ) → length cells ≡ length older → list_any (nat_eq (number + k)) (map (λ (change : CellChange). change.number) (changed_from number cells older)) ≡ false → get_or cells k [] ≡ get_or older k []
@@ -72,38 +72,38 @@ within_changed grid other long index none =
     in_changed 0 grid.cells other.cells index long (subst (λ (k : ℕ). list_any (nat_eq k) (changed_places grid other) ≡ false) (sym same) none)
 
 -- with more cells that have numbers a level is still where it was
-pub at_still : (old new : LevelsState) (here turned : HereState) → new.frame ≡ old.frame → new.objects ≡ old.objects → new.grids ≡ old.grids → Extends old.cells new.cells →
-    turned.place ≡ here.place → turned.grid ≡ here.grid → turned.numbers ≡ here.numbers → turned.digest ≡ here.digest → IsAt old here → IsAt new turned
-at_still old new here turned frame objects grids extends place grid numbers digest at = record {
-  there = ap (λ (all : List Grid). slice_get all turned.place) grids ∙ ap (λ (n : ℕ). slice_get old.grids n) place ∙ at.there ∙ ap (λ (g : Grid). Some g) (sym grid);
+pub at_still : (old new : LevelsState) (origin after : OriginState) → new.frame ≡ old.frame → new.objects ≡ old.objects → new.grids ≡ old.grids → Extends old.cells new.cells →
+    after.place ≡ origin.place → after.grid ≡ origin.grid → after.numbers ≡ origin.numbers → after.digest ≡ origin.digest → IsAt old origin → IsAt new after
+at_still old new origin after frame objects grids extends place grid numbers digest at = record {
+  there = ap (λ (all : List Grid). slice_get all after.place) grids ∙ ap (λ (n : ℕ). slice_get old.grids n) place ∙ at.there ∙ ap (λ (g : Grid). Some g) (sym grid);
   size = rw frame (rw grid at.size);
-  numbers = rw numbers (rw grid (record { long = at.numbers.long; each = λ index number is. extends number (cell_of here.grid index) (at.numbers.each index number is) }));
-  row = rw frame (rw numbers (row_still old.frame old.cells new.cells here.numbers extends at.row));
-  digest = digest ∙ at.digest ∙ ap (λ (n : ℕ). digest_of n here.grid) (sym objects) ∙ ap (λ (g : Grid). digest_of new.objects g) (sym grid);
+  numbers = rw numbers (rw grid (record { long = at.numbers.long; each = λ index number is. extends number (cell_of origin.grid index) (at.numbers.each index number is) }));
+  row = rw frame (rw numbers (row_still old.frame old.cells new.cells origin.numbers extends at.row));
+  digest = digest ∙ at.digest ∙ ap (λ (n : ℕ). digest_of n origin.grid) (sym objects) ∙ ap (λ (g : Grid). digest_of new.objects g) (sym grid);
 }
 
 -- a level to play in that equals the one from which presses are tried differs from the next one where that does
-pub played_from : (grid next : Grid) (work : LevelState) (places : List ℕ) → IsPlayedFrom grid [] work → SameSize grid next → length grid.cells ≡ length next.cells → DifferWithin places grid next → IsPlayedFrom next places work
-played_from grid next work places was size long differ =
+pub played_from : (grid next : Grid) (work : LevelState) (cells : List ℕ) → IsPlayedFrom grid [] work → SameSize grid next → length grid.cells ≡ length next.cells → DifferWithin cells grid next → IsPlayedFrom next cells work
+played_from grid next work cells was size long differ =
     let is = same_without work.grid grid was.size was.long was.rest in
     record { size = rw is size; long = rw is long; rest = rw is differ }
 
 -- with one level more it is still where it was
-pub at_more : (old new : LevelsState) (here turned : HereState) (grid : Grid) → new.frame ≡ old.frame → new.objects ≡ old.objects → new.cells ≡ old.cells → new.grids ≡ old.grids ++ grid ∷ [] → turned ≡ here → IsAt old here → IsAt new turned
-at_more old new here turned grid frame objects cells grids same at = rw same (record {
-  there = ap (λ (all : List Grid). slice_get all here.place) grids ∙ still_there old.grids grid here.place here.grid at.there;
+pub at_more : (old new : LevelsState) (origin after : OriginState) (grid : Grid) → new.frame ≡ old.frame → new.objects ≡ old.objects → new.cells ≡ old.cells → new.grids ≡ old.grids ++ grid ∷ [] → after ≡ origin → IsAt old origin → IsAt new after
+at_more old new origin after grid frame objects cells grids same at = rw same (record {
+  there = ap (λ (all : List Grid). slice_get all origin.place) grids ∙ still_there old.grids grid origin.place origin.grid at.there;
   size = rw frame at.size;
   numbers = rw cells at.numbers;
   row = rw (frame, cells) at.row;
-  digest = at.digest ∙ ap (λ (n : ℕ). digest_of n here.grid) (sym objects);
+  digest = at.digest ∙ ap (λ (n : ℕ). digest_of n origin.grid) (sym objects);
 })
 
 -- with the same levels it is still where it was
-pub at_same : (old new : LevelsState) (here turned : HereState) → new.frame ≡ old.frame → new.objects ≡ old.objects → new.cells ≡ old.cells → new.grids ≡ old.grids → turned ≡ here → IsAt old here → IsAt new turned
-at_same old new here turned frame objects cells grids same at = rw same (record {
-  there = ap (λ (all : List Grid). slice_get all here.place) grids ∙ at.there;
+pub at_same : (old new : LevelsState) (origin after : OriginState) → new.frame ≡ old.frame → new.objects ≡ old.objects → new.cells ≡ old.cells → new.grids ≡ old.grids → after ≡ origin → IsAt old origin → IsAt new after
+at_same old new origin after frame objects cells grids same at = rw same (record {
+  there = ap (λ (all : List Grid). slice_get all origin.place) grids ∙ at.there;
   size = rw frame at.size;
   numbers = rw cells at.numbers;
   row = rw (frame, cells) at.row;
-  digest = at.digest ∙ ap (λ (n : ℕ). digest_of n here.grid) (sym objects);
+  digest = at.digest ∙ ap (λ (n : ℕ). digest_of n origin.grid) (sym objects);
 })

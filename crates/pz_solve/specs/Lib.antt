@@ -2,7 +2,7 @@ pub mod Moves
 pub mod Leading
 pub mod Winning
 pub mod Found
-pub mod Here
+pub mod Origin
 pub mod Noted
 pub mod Trying
 pub mod Indexed

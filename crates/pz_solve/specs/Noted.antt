@@ -1,5 +1,5 @@
 -- What a search keeps.
-use Rattle.std.specs.Prelude.{◌≡◌, ℕ, ◌≤◌, ◌<◌, Bool, true, false, List, [], ◌∷◌, ◌++◌, length, map, Option, Some, None, if◌then◌else◌, slice_get}
+use Rattle.std.specs.Prelude.{◌≡◌, ℕ, ◌≤◌, ◌<◌, Bool, true, false, List, [], ◌∷◌, ◌++◌, length, map, Some, slice_get}
 use Rattle.std.specs.List.{IsDistinct, list_any, zip}
 use Rattle.pz_sheet.specs.Grid.{Grid}
 use Rattle.pz_sheet.specs.Sameness.{same_grid}
@@ -9,7 +9,7 @@ use Rattle.pz_solve.specs.declared.search.Link.{Link}
 use Rattle.pz_solve.specs.declared.search.Noted.{Noted}
 use Rattle.pz_solve.specs.declared.search.Noted.TheVariants.{Known, Added, NoRoom}
 use Rattle.pz_solve.specs.Found.{Found}
-use Rattle.pz_solve.specs.Here.{HereState, IsAt}
+use Rattle.pz_solve.specs.Origin.{OriginState, IsAt}
 
 abbrev pub entry_of : Grid → Link → Found
 entry_of grid link = record { grid = grid; depth = link.depth; parent = link.parent; input = link.input }
@@ -42,14 +42,14 @@ pub record IsKept (found : List Found) : Type 0 where
 abbrev pub digests_of : ℕ → List Grid → List ℕ
 digests_of objects grids = map (digest_of objects) grids
 
--- what holds of what is stored: each level has its link, the levels are kept, their digests are indexed, and there is room for the numbers
--- of one level more; presses are tried from one of them
-pub record IsStored (levels : LevelsState) (links : List Link) (digests numbers : List ℕ) (here : HereState) : Type 0 where
+-- what holds of a search: each level has its link, the levels are kept, their digests are indexed, there is room for the numbers of one
+-- level more; and `origin` is one of the levels
+pub record IsStored (levels : LevelsState) (links : List Link) (digests numbers : List ℕ) (origin : OriginState) : Type 0 where
   pub linked : length links ≡ length levels.grids
   pub kept : IsKept (found_in levels.grids links)
   pub indexed : digests ≡ digests_of levels.objects levels.grids
   pub long : length numbers ≡ length levels.frame.cells
-  pub at : IsAt levels here
+  pub at : IsAt levels origin
 
 -- a level is among others
 abbrev pub is_among : List Grid → Grid → Bool
@@ -57,10 +57,6 @@ is_among grids grid = list_any (same_grid grid) grids
 
 abbrev pub is_found : List Found → Grid → Bool
 is_found found grid = is_among (grids_of found) grid
-
--- the digest of a level that is not among others
-abbrev pub digest_if_new : ℕ → List Grid → Grid → Option ℕ
-digest_if_new objects grids grid = if is_among grids grid then None else Some (digest_of objects grid)
 
 -- a level was known, and nothing changed; or it wasn't, and was added, or there was no room for it
 abbrev pub IsNotedAs : List Found → List Found → ℕ → Found → Noted → Type 0

@@ -2,10 +2,10 @@
 #![tactic(auto)]
 
 mod answer;
-mod here;
 mod index;
 pub mod laws;
 pub mod moves;
+mod origin;
 mod path;
 mod search;
 mod solving;

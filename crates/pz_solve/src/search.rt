@@ -1,6 +1,6 @@
 //! The levels that a search has found.
 
-ghost use Rattle.std.specs.Prelude.{◌≡◌, ◌+◌, ◌-◌, ◌<◌, ◌≤◌, [], ◌∷◌, ◌++◌, length, IfOk, OnOk, OnErr, option_map, Some, slice_get};
+ghost use Rattle.std.specs.Prelude.{◌≡◌, ◌+◌, ◌-◌, ◌<◌, ◌≤◌, [], ◌∷◌, ◌++◌, length, IfOk, OnOk, OnErr, not, option_map, Some, slice_get};
 ghost use Rattle.pz_sheet.specs.Grid.{Grid, SameSize};
 ghost use Rattle.pz_bare.specs.Differing.{DifferWithin};
 ghost use Rattle.pz_program.specs.Instance.{IsProgramOf};
@@ -8,15 +8,15 @@ ghost use Rattle.pz_store.specs.Book.{AreNumbers};
 ghost use Rattle.pz_store.specs.Digest.{digest_of};
 ghost use Rattle.pz_store.specs.Levels.{IsRow};
 ghost use Rattle.pz_solve.specs.Found.{Found, start_of};
-ghost use Rattle.pz_solve.specs.Here.{IsAt};
+ghost use Rattle.pz_solve.specs.Origin.{IsAt};
 ghost use Rattle.pz_solve.specs.Leading.{reached_by, IsMoveIn, MoveKeepsSize};
 ghost use Rattle.pz_solve.specs.Moves.{move_of};
 ghost use Rattle.pz_solve.specs.Trying.{AreOfGame};
-ghost use Rattle.pz_solve.specs.Noted.{digest_if_new, digests_of, entry_of, link_of, IsKept, IsNotedAs};
+ghost use Rattle.pz_solve.specs.Noted.{digests_of, entry_of, is_among, link_of, IsKept, IsNotedAs};
 
-use crate::here::Here;
 use crate::index::Index;
 use crate::moves::{Move, play};
+use crate::origin::Origin;
 use pz_game::direction::Dir;
 use pz_game::game::Game;
 use pz_grid::Level;
@@ -45,13 +45,13 @@ pub enum Noted {
 }
 
 /// The levels that a search has found, each once, in the order of their depths, and how each was found. `index` has their digests.
-/// `numbers` is room for those of a level's cells, and `here` is the one from which presses are tried.
+/// `numbers` is room for those of a level's cells, and `origin` is the level from which presses are tried.
 pub struct Search {
     levels: Levels,
     links: Vec<Link>,
     index: Index,
     numbers: Vec<u32>,
-    here: Here,
+    origin: Origin,
 }
 
 /// Written out, so that each place where one goes out of scope is one call.
@@ -62,12 +62,12 @@ impl Drop for Search {
             links,
             index: _index,
             numbers,
-            here,
+            origin,
         } = self;
         drop(levels);
         drop(links);
         drop(numbers);
-        drop(here);
+        drop(origin);
     }
 }
 
@@ -80,57 +80,51 @@ impl Model for Search {
 
     ghost view = { λ s. found_in s.levels.grids s.links.items };
 
-    ghost invariant = { λ s. IsStored s.levels s.links.items s.index s.numbers.items s.here };
+    ghost invariant = { λ s. IsStored s.levels s.links.items s.index s.numbers.items s.origin };
 }
 
-/// The digest of the level whose cells have these numbers, unless it is among the levels. Mostly it is the one before.
-fn digest_if_new(
-    here: &Here,
-    levels: &Levels,
-    index: &Index,
-    numbers: &[u32],
-    digest: u64,
-) -> Option<u64>
-    requires at { IsAt levels.now here.now }
+/// Whether the level of these numbers, which has this digest, isn't among the levels. Mostly it is the one at the origin.
+fn is_new(origin: &Origin, levels: &Levels, index: &Index, numbers: &[u32], digest: u64) -> bool
+    requires at { IsAt levels.now origin.now }
     requires indexed { index.now ≡ digests_of levels.now.objects levels.now.grids }
     requires row { IsRow levels.now.frame levels.now.cells numbers.now }
     ensures { (grid : Grid) → SameSize levels.now.frame grid → AreNumbers levels.now.cells numbers.now grid →
-        digest ≡ digest_of levels.now.objects grid → DifferWithin here.now.changed grid here.now.grid →
-        result ≡ digest_if_new levels.now.objects levels.now.grids grid }
+        digest ≡ digest_of levels.now.objects grid → DifferWithin origin.now.changed grid origin.now.grid →
+        result ≡ not (is_among levels.now.grids grid) }
 {
-    if here.is_unchanged() {
-        return None;
+    if origin.has_no_change() {
+        return false;
     }
     let mut at = index.newest(digest);
     'places: while let Some(place) = at {
         if levels.has_at(place, numbers) {
-            return None;
+            return false;
         }
         at = index.older(place, digest);
     }
-    Some(digest)
+    true
 }
 
-/// Turns to the level of a number, from which a press is tried. Err: memory was refused.
-fn turn_to(
-    here: &mut Here,
+/// Goes to the level of this number, if it isn't there. `numbers` is room. Err: memory was refused.
+fn go_to(
+    origin: &mut Origin,
     levels: &Levels,
     index: &Index,
     place: usize,
     numbers: &mut [u32],
 ) -> Result<(), AllocError>
-    requires at { IsAt levels.now here.old }
+    requires at { IsAt levels.now origin.old }
     requires indexed { index.now ≡ digests_of levels.now.objects levels.now.grids }
     requires within { place < length levels.now.grids }
-    requires long { length numbers.old ≡ length here.old.numbers }
-    ensures at { IsAt levels.now here.new }
-    ensures place { OnOk result (here.new.place ≡ place) }
+    requires long { length numbers.old ≡ length origin.old.numbers }
+    ensures at { IsAt levels.now origin.new }
+    ensures place { OnOk result (origin.new.place ≡ place) }
     ensures long { length numbers.new ≡ length numbers.old }
 {
-    if here.place() == place {
+    if origin.place() == place {
         return Ok(());
     }
-    here.turn(levels, place, index.digest(place), numbers)
+    origin.go_to(levels, place, index.digest(place), numbers)
 }
 
 impl Search {
@@ -152,13 +146,13 @@ impl Search {
             input: Dir::Action,
         })?;
         let room = Vec::from_slice(alloc, &numbers)?;
-        let here = Here::new(alloc, level.copy()?, numbers, digest)?;
+        let origin = Origin::new(alloc, level.copy()?, numbers, digest)?;
         Ok(Search {
             levels,
             links,
             index,
             numbers: room,
-            here,
+            origin,
         })
     }
 
@@ -221,15 +215,15 @@ impl Search {
         ensures size { IfOk result (λ end. (here : Found) → slice_get self.old index ≡ Some here →
             MoveKeepsSize here.grid end) }
     {
-        turn_to(
-            &mut self.here,
+        go_to(
+            &mut self.origin,
             &self.levels,
             &self.index,
             index,
             &mut self.numbers,
         )?;
-        let equal = self.here.take_equal()?;
-        play(alloc, game, program, self.here.level(), equal, input)
+        let equal = self.origin.take_equal()?;
+        play(alloc, game, program, self.origin.level(), equal, input)
     }
 
     /// Adds a level that another one led to, unless it was found before, or so many levels were found already. Err: memory was refused.
@@ -245,21 +239,27 @@ impl Search {
         ensures noted { IfOk result (IsNotedAs self.old self.new most (entry_of level.grid link)) }
         ensures err { OnErr result (self.new ≡ self.old) }
     {
-        turn_to(
-            &mut self.here,
+        go_to(
+            &mut self.origin,
             &self.levels,
             &self.index,
             link.parent as usize,
             &mut self.numbers,
         )?;
         let digest = self
-            .here
+            .origin
             .number(&mut self.levels, level.bare(), &mut self.numbers)?;
-        let found = digest_if_new(&self.here, &self.levels, &self.index, &self.numbers, digest);
-        self.here.keep(level);
-        let Some(digest) = found else {
+        let is_new = is_new(
+            &self.origin,
+            &self.levels,
+            &self.index,
+            &self.numbers,
+            digest,
+        );
+        self.origin.keep(level);
+        if !is_new {
             return Ok(Noted::Known);
-        };
+        }
         if self.links.len() >= most {
             return Ok(Noted::NoRoom);
         }

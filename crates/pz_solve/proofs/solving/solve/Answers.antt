@@ -5,7 +5,7 @@ use Rattle.pz_solve.specs.Moves.{move_of}
 use Rattle.pz_solve.specs.Noted.{link_of}
 use Rattle.pz_solve.specs.Trying.{HasExpanded}
 use Rattle.pz_solve.proofs.Answering.{out_of_bounds, shortest}
-use Rattle.pz_solve.proofs.Listing.{there}
+use Rattle.pz_store.proofs.Listing.{there}
 use Rattle.pz_solve.proofs.Searching.{next_turn, none_wins, none_within}
 use Rattle.pz_solve.proofs.solving.solve.Goals as goal
 

@@ -4,7 +4,7 @@ use Rattle.pz_game.specs.declared.direction.Dir.TheVariants.{Action}
 use Rattle.pz_sheet.specs.Grid.{Grid, SameSize}
 use Rattle.pz_store.specs.Book.{AreNumbers}
 use Rattle.pz_store.specs.Digest.{digest_of}
-use Rattle.pz_solve.specs.Here.{IsAt}
+use Rattle.pz_solve.specs.Origin.{IsAt}
 use Rattle.pz_solve.proofs.Sizes.{same_size}
 use Rattle.pz_solve.proofs.Storing.{stored_one}
 use Rattle.pz_solve.proofs.search.Search.new.Goals as goal
@@ -21,7 +21,7 @@ invariant_of-result c =
     let links : c.push-3.new.self.items ≡ (record { depth = 0; parent = 0; input = Action }) ∷ [] = grind (arith, c.in_ok-push-3.ensures.items, c.new-links.ensures.items) in
     let digests : c.push.new.self ≡ digest_of levels.objects grid ∷ [] = c.in_ok-push.ensures.ok ∙ ap (λ (all : List ℕ). all ++ c.digest-digest.result ∷ []) c.new-index.ensures ∙ ap (λ (d : ℕ). d ∷ []) (c.digest-digest.ensures grid are_digested) in
     let pushed = c.in_ok-push-2.ensures in
-    let at : IsAt c.push-2.new.self c.in_ok-here.here = rw c.in_ok-here.ensures (rw c.in_ok-copy.ensures.copied (record {
+    let at : IsAt c.push-2.new.self c.in_ok-origin.origin = rw c.in_ok-origin.ensures (rw c.in_ok-copy.ensures.copied (record {
       there = ap (λ (all : List Grid). slice_get all 0) grids;
       size = rw pushed.frame size;
       numbers = rw pushed.cells c.in_ok-numbers.ensures.numbers;
@@ -29,5 +29,5 @@ invariant_of-result c =
       digest = c.digest-digest.ensures grid are_digested ∙ ap (λ (n : ℕ). digest_of n grid) (sym pushed.objects);
     })) in
     let long = ap (λ (l : List ℕ). length l) (c.in_ok-room.ensures.items ∙ c.deref-3.ensures.value) ∙ c.in_ok-numbers.ensures.row.long ∙ ap (λ (g : Grid). length g.cells) (sym pushed.frame) in
-    stored_one c.push-2.new.self c.push-3.new.self.items c.push.new.self c.in_ok-room.room.items c.in_ok-here.here grid (record { depth = 0; parent = 0; input = Action }) grids links refl
+    stored_one c.push-2.new.self c.push-3.new.self.items c.push.new.self c.in_ok-room.room.items c.in_ok-origin.origin grid (record { depth = 0; parent = 0; input = Action }) grids links refl
     (digests ∙ ap (λ (n : ℕ). digest_of n grid ∷ []) (sym pushed.objects)) long at

@@ -1,4 +1,4 @@
-use Rattle.std.proofs.Common.{◌≡◌, ℕ, ◌<◌, ◌≤◌, true, false, List, [], ◌∷◌, ◌++◌, length, length-append, Vec, Global, Result, Ok, Err, Some, subst, sym, ap, ◌∙◌, arith, refl}
+use Rattle.std.proofs.Common.{◌≡◌, ℕ, ◌<◌, ◌≤◌, true, false, not, List, [], ◌∷◌, ◌++◌, length, length-append, Vec, Global, Result, Ok, Err, Some, subst, sym, ap, ◌∙◌, arith, refl}
 use Rattle.std.specs.Prelude.{slice_get, OnErr, OnOk, is_err, is_ok, if◌then◌else◌}
 use Rattle.std.specs.Vec.{with_items}
 use Rattle.std.proofs.lemmas.List.{with_items_is}
@@ -8,11 +8,11 @@ use Rattle.pz_store.specs.Book.{AreNumbers}
 use Rattle.pz_store.specs.Digest.{digest_of}
 use Rattle.pz_solve.specs.declared.search.Link.{Link}
 use Rattle.pz_solve.specs.Found.{Found}
-use Rattle.pz_solve.specs.Noted.{digest_if_new, entry_of, found_in}
+use Rattle.pz_solve.specs.Noted.{entry_of, found_in, is_among}
 use Rattle.pz_solve.proofs.Finding.{among, found_more, grid_of, length_links}
-use Rattle.pz_solve.proofs.Listing.{there}
+use Rattle.pz_store.proofs.Listing.{there}
 use Rattle.pz_solve.proofs.Turning.{at_more, at_same}
-use Rattle.pz_solve.proofs.Storing.{dropped, fresh, known, stored_more, stored_still}
+use Rattle.pz_solve.proofs.Storing.{dropped, stored_more, stored_still}
 use Rattle.pz_solve.proofs.search.Search.note.Goals as goal
 use Rattle.pz_solve.proofs.search.Search.note.Goals.{After-keep}
 
@@ -25,8 +25,8 @@ pushed_links : {T E : Type 0} (result : Result T E) (items more old : List Link)
 pushed_links (Ok value) items more old fine is = is
 pushed_links (Err fault) items more old fine is = absurd cc
 
-pub turn_to-requires-clause-within : goal.turn_to-requires-clause-within
-turn_to-requires-clause-within c = omega (arith, c.requires.within, c.self.invariant.linked, length_links c.self.inside.levels.grids c.self.inside.links.items c.args.self.now c.self.invariant.linked c.self.view_is)
+pub go_to-requires-clause-within : goal.go_to-requires-clause-within
+go_to-requires-clause-within c = omega (arith, c.requires.within, c.self.invariant.linked, length_links c.self.inside.levels.grids c.self.inside.links.items c.args.self.now c.self.invariant.linked c.self.view_is)
 
 pub number-requires-clause-size : goal.number-requires-clause-size
 number-requires-clause-size c =
@@ -34,23 +34,23 @@ number-requires-clause-size c =
     let found = c.args.self.now in
     let parent = c.args.link.parent in
     let h = there found parent c.requires.within in
-    let at : slice_get levels.grids parent ≡ Some c.turn_to.new.here.grid = ap (λ (n : ℕ). slice_get levels.grids n) (sym c.in_ok-turn_to.ensures.place) ∙ c.turn_to.ensures.at.there in
-    let is = grid_of levels.grids c.self.inside.links.items found parent c.turn_to.new.here.grid h.0 c.self.invariant.linked c.self.view_is at h.1 in
+    let at : slice_get levels.grids parent ≡ Some c.go_to.new.origin.grid = ap (λ (n : ℕ). slice_get levels.grids n) (sym c.in_ok-go_to.ensures.place) ∙ c.go_to.ensures.at.there in
+    let is = grid_of levels.grids c.self.inside.links.items found parent c.go_to.new.origin.grid h.0 c.self.invariant.linked c.self.view_is at h.1 in
     rw c.bare.ensures (subst (λ (g : Grid). SameSize g c.args.level.grid) is (c.requires.size h.0 h.1))
 
--- the room for numbers, once the level that leads there was turned to
+-- the room for numbers, once the level that leads there was gone to
 abbrev room : After-keep → Vec ℕ Global
-room c = with_items c.self.inside.numbers c.turn_to.new.numbers
+room c = with_items c.self.inside.numbers c.go_to.new.numbers
 
-room_is : (c : After-keep) → (room c).items ≡ c.turn_to.new.numbers
-room_is c = with_items_is c.self.inside.numbers c.turn_to.new.numbers (c.turn_to.ensures.long ∙ ap (λ (l : List ℕ). length l) c.deref_mut.ensures.value ∙ sym c.self.inside.numbers.ok.0)
+room_is : (c : After-keep) → (room c).items ≡ c.go_to.new.numbers
+room_is c = with_items_is c.self.inside.numbers c.go_to.new.numbers (c.go_to.ensures.long ∙ ap (λ (l : List ℕ). length l) c.deref_mut.ensures.value ∙ sym c.self.inside.numbers.ok.0)
 
 -- the numbers are those of the level
 items : (c : After-keep) → (with_items (room c) c.number.new.numbers).items ≡ c.number.new.numbers
 items c = with_items_is (room c) c.number.new.numbers (c.number.ensures.long ∙ ap (λ (l : List ℕ). length l) c.deref_mut-2.ensures.value ∙ sym (room c).ok.0)
 
 long : (c : After-keep) → length (with_items (room c) c.number.new.numbers).items ≡ length c.self.inside.numbers.items
-long c = ap (λ (l : List ℕ). length l) (items c) ∙ c.number.ensures.long ∙ ap (λ (l : List ℕ). length l) (c.deref_mut-2.ensures.value ∙ room_is c) ∙ c.turn_to.ensures.long ∙ ap (λ (l : List ℕ). length l) c.deref_mut.ensures.value
+long c = ap (λ (l : List ℕ). length l) (items c) ∙ c.number.ensures.long ∙ ap (λ (l : List ℕ). length l) (c.deref_mut-2.ensures.value ∙ room_is c) ∙ c.go_to.ensures.long ∙ ap (λ (l : List ℕ). length l) c.deref_mut.ensures.value
 
 are : (c : After-keep) (numbers : List ℕ) → numbers ≡ (with_items (room c) c.number.new.numbers).items → AreNumbers c.number.new.levels.cells numbers c.args.level.grid
 are c numbers is = subst (λ (l : List ℕ). AreNumbers c.number.new.levels.cells l c.args.level.grid) (sym (is ∙ items c)) (subst (λ (g : Grid). AreNumbers c.number.new.levels.cells c.number.new.numbers g) c.bare.ensures c.in_ok-digest.ensures.numbers)
@@ -61,28 +61,32 @@ sized c = subst (λ (g : Grid). SameSize c.number.new.levels.frame g) c.bare.ens
 is_digest : (c : After-keep) → c.in_ok-digest.digest ≡ digest_of c.number.new.levels.objects c.args.level.grid
 is_digest c = c.in_ok-digest.ensures.digest ∙ ap (λ (g : Grid). digest_of c.number.new.levels.objects g) c.bare.ensures
 
--- the digest, if the level is not among those that were there
-told : (c : After-keep) → c.digest_if_new-found.result ≡ digest_if_new c.self.inside.levels.objects c.self.inside.levels.grids c.args.level.grid
+-- whether the level is not among those that were there
+told : (c : After-keep) → c.is_new-is_new.result ≡ not (is_among c.self.inside.levels.grids c.args.level.grid)
 told c =
     let grid = c.args.level.grid in
-    c.digest_if_new-found.ensures grid (sized c) (are c c.deref.result.now c.deref.ensures.value) (is_digest c) (subst (λ (g : Grid). DifferWithin c.number.new.self.changed g c.number.new.self.grid) c.bare.ensures c.in_ok-digest.ensures.rest) ∙ ap (λ (n : ℕ). digest_if_new n c.number.new.levels.grids grid) c.number.ensures.objects ∙ ap (λ (all : List Grid). digest_if_new c.self.inside.levels.objects all grid) c.number.ensures.grids
+    c.is_new-is_new.ensures grid (sized c) (are c c.deref.result.now c.deref.ensures.value) (is_digest c) (subst (λ (g : Grid). DifferWithin c.number.new.self.changed g c.number.new.self.grid) c.bare.ensures c.in_ok-digest.ensures.rest) ∙ ap (λ (all : List Grid). not (is_among all grid)) c.number.ensures.grids
+
+-- it is not, if that is true
+fresh : (c : After-keep) → c.is_new-is_new.result ≡ true → is_among c.self.inside.levels.grids c.args.level.grid ≡ false
+fresh c is = grind (arith, sym is ∙ told c)
 
 still : (c : After-keep) → found_in c.number.new.levels.grids c.self.inside.links.items ≡ c.args.self.now
 still c = ap (λ (all : List Grid). found_in all c.self.inside.links.items) c.number.ensures.grids ∙ c.self.view_is
 
-pub returns-in_default-clause-noted : goal.returns-in_default-clause-noted
-returns-in_default-clause-noted c =
-    let before = (goal.at.returns-in_default-clause-noted c).After-keep in
+pub returns-then-not-is_new-clause-noted : goal.returns-then-not-is_new-clause-noted
+returns-then-not-is_new-clause-noted c =
+    let before = (goal.at.returns-then-not-is_new-clause-noted c).After-keep in
     let levels = c.self.inside.levels in
-    let is_there = known levels.objects levels.grids c.args.level.grid (sym c.in_default.is ∙ told before) in
+    let is_there : is_among levels.grids c.args.level.grid ≡ true = grind (arith, c.if-not-is_new.true, told before) in
     (among levels.grids c.self.inside.links.items c.args.self.now c.args.level.grid true c.self.invariant.linked c.self.view_is is_there, still before)
 
 pub returns-then-len-most-clause-noted : goal.returns-then-len-most-clause-noted
 returns-then-len-most-clause-noted c =
     let before = (goal.at.returns-then-len-most-clause-noted c).After-keep in
     let levels = c.self.inside.levels in
-    let new = fresh levels.objects levels.grids c.args.level.grid c.in-Some.digest (sym c.in-Some.is ∙ told before) in (
-      among levels.grids c.self.inside.links.items c.args.self.now c.args.level.grid false c.self.invariant.linked c.self.view_is new.0,
+    let new = fresh before c.if-not-is_new.false in (
+      among levels.grids c.self.inside.links.items c.args.self.now c.args.level.grid false c.self.invariant.linked c.self.view_is new,
       still before,
       omega (arith, c.if-len-most.true, c.len.ensures, c.self.inside.links.ok.0, length_links levels.grids c.self.inside.links.items c.args.self.now c.self.invariant.linked c.self.view_is),
     )
@@ -98,11 +102,11 @@ invariant_of-self-else-is_err-2 c =
     c.in_ok-push.ensures.pushed grid (sized before) (are before c.deref-2.result.now c.deref-2.ensures.value) ∙ ap (λ (all : List Grid). all ++ grid ∷ []) c.number.ensures.grids in
     let are_links = pushed_links c.push-2.result c.push-2.new.self.items (links ++ link ∷ []) links (sym c.is_err.ensures.value ∙ c.if-is_err.false) c.push-2.ensures.items in
     let digests = so c.push-3.result _ (sym c.is_err-2.ensures.value ∙ c.if-is_err-2.false) c.push-3.ensures.ok in
-    let new = fresh levels.objects levels.grids grid c.in-Some.digest (sym c.in-Some.is ∙ told before) in
+    let new = fresh before c.if-not-is_new.false in
     let many = length_links levels.grids links c.args.self.now c.self.invariant.linked c.self.view_is in
     let low : link.depth ≤ length links = omega (arith, c.requires.low, many) in
     let behind : link.parent < length links = omega (arith, c.requires.within, many) in
-    stored_more levels c.push.new.self links c.push-2.new.self.items c.self.inside.index c.push-3.new.self c.self.inside.numbers.items _ c.self.inside.here c.keep.new.self grid link c.in-Some.digest c.self.invariant new.0 low behind new.1
+    stored_more levels c.push.new.self links c.push-2.new.self.items c.self.inside.index c.push-3.new.self c.self.inside.numbers.items _ c.self.inside.origin c.keep.new.self grid link c.in_ok-digest.digest c.self.invariant new low behind (is_digest before ∙ ap (λ (n : ℕ). digest_of n grid) c.number.ensures.objects)
     (c.in_ok-push.ensures.frame ∙ c.number.ensures.frame) (c.in_ok-push.ensures.objects ∙ c.number.ensures.objects) grids are_links digests (long before)
     (at_more c.number.new.levels c.push.new.self c.number.new.self c.keep.new.self grid c.in_ok-push.ensures.frame c.in_ok-push.ensures.objects c.in_ok-push.ensures.cells (c.in_ok-push.ensures.pushed grid (sized before) (are before c.deref-2.result.now c.deref-2.ensures.value)) c.keep.ensures c.number.ensures.at)
 
@@ -116,8 +120,8 @@ returns-clause-noted c =
     let grids : c.push.new.self.grids ≡ levels.grids ++ grid ∷ [] =
     c.in_ok-push.ensures.pushed grid (sized before) (are before c.deref-2.result.now c.deref-2.ensures.value) ∙ ap (λ (all : List Grid). all ++ grid ∷ []) c.number.ensures.grids in
     let are_links = pushed_links c.push-2.result c.push-2.new.self.items (links ++ link ∷ []) links (sym c.is_err.ensures.value ∙ c.if-is_err.false) c.push-2.ensures.items in
-    let new = fresh levels.objects levels.grids grid c.in-Some.digest (sym c.in-Some.is ∙ told before) in (
-      among levels.grids links c.args.self.now grid false c.self.invariant.linked c.self.view_is new.0,
+    let new = fresh before c.if-not-is_new.false in (
+      among levels.grids links c.args.self.now grid false c.self.invariant.linked c.self.view_is new,
       ap (λ (all : List Grid). found_in all c.push-2.new.self.items) grids ∙ ap (λ (all : List Link). found_in (levels.grids ++ grid ∷ []) all) are_links ∙ found_more levels.grids links grid link c.self.invariant.linked
           ∙ ap (λ (all : List Found). all ++ entry_of grid link ∷ []) c.self.view_is,
       omega (arith, c.if-len-most.false, c.len.ensures, c.self.inside.links.ok.0, length_links levels.grids links c.args.self.now c.self.invariant.linked c.self.view_is),
@@ -149,7 +153,7 @@ invariant_of-self-then-is_err c =
     let same = refused c.push-2.result c.push-2.new.self.items (links ++ c.args.link ∷ []) links (sym c.is_err.ensures.value ∙ c.if-is_err.true) c.push-2.ensures.items in
     let frame = c.pop.ensures.frame ∙ c.in_ok-push.ensures.frame in
     let objects = c.pop.ensures.objects ∙ c.in_ok-push.ensures.objects in
-    rw same (stored_still c.self.inside.levels c.pop.new.self links c.self.inside.index c.self.inside.numbers.items _ c.self.inside.here c.keep.new.self c.self.invariant (frame ∙ c.number.ensures.frame) (objects ∙ c.number.ensures.objects) (grids ∙ c.number.ensures.grids) (long before)
+    rw same (stored_still c.self.inside.levels c.pop.new.self links c.self.inside.index c.self.inside.numbers.items _ c.self.inside.origin c.keep.new.self c.self.invariant (frame ∙ c.number.ensures.frame) (objects ∙ c.number.ensures.objects) (grids ∙ c.number.ensures.grids) (long before)
     (at_same levels c.pop.new.self c.number.new.self c.keep.new.self frame objects (c.pop.ensures.cells ∙ c.in_ok-push.ensures.cells) grids c.keep.ensures c.number.ensures.at))
 
 pub returns-then-is_err-clause-err : goal.returns-then-is_err-clause-err
@@ -177,7 +181,7 @@ invariant_of-self-then-is_err-2 c =
     let digests = not_so c.push-3.result _ (sym c.is_err-2.ensures.value ∙ c.if-is_err-2.true) c.push-3.ensures.err in
     let frame = popped.frame ∙ c.in_ok-push.ensures.frame in
     let objects = popped.objects ∙ c.in_ok-push.ensures.objects in
-    rw same (rw digests (stored_still c.self.inside.levels c.pop-then-is_err-2.new.self links c.self.inside.index c.self.inside.numbers.items _ c.self.inside.here c.keep.new.self c.self.invariant (frame ∙ c.number.ensures.frame) (objects ∙ c.number.ensures.objects) (grids ∙ c.number.ensures.grids) (long before)
+    rw same (rw digests (stored_still c.self.inside.levels c.pop-then-is_err-2.new.self links c.self.inside.index c.self.inside.numbers.items _ c.self.inside.origin c.keep.new.self c.self.invariant (frame ∙ c.number.ensures.frame) (objects ∙ c.number.ensures.objects) (grids ∙ c.number.ensures.grids) (long before)
     (at_same levels c.pop-then-is_err-2.new.self c.number.new.self c.keep.new.self frame objects (popped.cells ∙ c.in_ok-push.ensures.cells) grids c.keep.ensures c.number.ensures.at)))
 
 pub returns-then-is_err-2-clause-err : goal.returns-then-is_err-2-clause-err

@@ -5,23 +5,23 @@ use Rattle.std.proofs.lemmas.Option.{same_Some, slice_get-get_or}
 use Rattle.pz_sheet.specs.Grid.{Grid, IsOfGame}
 use Rattle.pz_solve.specs.declared.moves.Move.{Move}
 use Rattle.pz_solve.specs.Found.{Found}
-use Rattle.pz_solve.specs.Here.{HereState}
+use Rattle.pz_solve.specs.Origin.{OriginState}
 use Rattle.pz_solve.specs.Leading.{reached_by, MoveKeepsSize}
 use Rattle.pz_solve.specs.Moves.{move_of}
 use Rattle.pz_solve.proofs.Finding.{grid_of, length_links}
-use Rattle.pz_solve.proofs.Listing.{there}
+use Rattle.pz_store.proofs.Listing.{there}
 use Rattle.pz_solve.proofs.search.Search.play.Goals as goal
 use Rattle.pz_solve.proofs.search.Search.play.Goals.{After-level}
 
-pub turn_to-requires-clause-within : goal.turn_to-requires-clause-within
-turn_to-requires-clause-within c = omega (arith, c.requires.within, c.self.invariant.linked, length_links c.self.inside.levels.grids c.self.inside.links.items c.args.self.now c.self.invariant.linked c.self.view_is)
+pub go_to-requires-clause-within : goal.go_to-requires-clause-within
+go_to-requires-clause-within c = omega (arith, c.requires.within, c.self.invariant.linked, length_links c.self.inside.levels.grids c.self.inside.links.items c.args.self.now c.self.invariant.linked c.self.view_is)
 
 -- the press is played from the level of the number
 is_here : (c : After-level) (here : Found) → slice_get c.args.self.now c.args.index ≡ Some here → here.grid ≡ c.level.result.now.grid
 is_here c here is =
     let levels = c.self.inside.levels in
-    let at : slice_get levels.grids c.args.index ≡ Some c.turn_to.new.here.grid = ap (λ (n : ℕ). slice_get levels.grids n) (sym c.in_ok-turn_to.ensures.place) ∙ c.turn_to.ensures.at.there in
-    grid_of levels.grids c.self.inside.links.items c.args.self.now c.args.index c.turn_to.new.here.grid here c.self.invariant.linked c.self.view_is at is ∙ sym (c.level.ensures ∙ ap (λ (h : HereState). h.grid) c.in_ok-equal.ensures.kept)
+    let at : slice_get levels.grids c.args.index ≡ Some c.go_to.new.origin.grid = ap (λ (n : ℕ). slice_get levels.grids n) (sym c.in_ok-go_to.ensures.place) ∙ c.go_to.ensures.at.there in
+    grid_of levels.grids c.self.inside.links.items c.args.self.now c.args.index c.go_to.new.origin.grid here c.self.invariant.linked c.self.view_is at is ∙ sym (c.level.ensures ∙ ap (λ (h : OriginState). h.grid) c.in_ok-equal.ensures.kept)
 
 pub play-requires-clause-level_of : goal.play-requires-clause-level_of
 play-requires-clause-level_of c =

@@ -1,15 +1,14 @@
-use Rattle.std.proofs.Common.{◌≡◌, ℕ, ◌<◌, ◌≤◌, Bool, true, false, Some, None, Option, length, ap, sym, ◌∙◌, subst, arith, List}
-use Rattle.std.specs.Prelude.{IsTrue, slice_get, if◌then◌else◌}
+use Rattle.std.proofs.Common.{◌≡◌, ℕ, ◌<◌, ◌≤◌, Bool, true, false, not, Some, None, Option, length, ap, sym, ◌∙◌, subst, arith, List}
+use Rattle.std.specs.Prelude.{IsTrue, slice_get}
 use Rattle.std.proofs.lemmas.Option.{slice_get_within}
 use Rattle.pz_bare.specs.Differing.{DifferWithin}
 use Rattle.pz_bare.proofs.DifferingLemmas.{same_without}
 use Rattle.pz_grid.proofs.MovementLemmas.{same_size_on}
 use Rattle.pz_sheet.specs.Grid.{Grid}
 use Rattle.pz_sheet.proofs.NewerLemmas.{size_back}
-use Rattle.pz_store.specs.Digest.{digest_of}
 use Rattle.pz_solve.specs.Noted.{digests_of, is_among}
 use Rattle.pz_solve.proofs.Knowing.{IsUpTo, as_many, none_among, place_of, there_among, up_to}
-use Rattle.pz_solve.proofs.search.digest_if_new.Goals as goal
+use Rattle.pz_solve.proofs.search.is_new.Goals as goal
 
 -- a level that is there has a digest at its place
 within : (objects : ℕ) (grids : List Grid) (digests : List ℕ) (place : ℕ) (grid : Grid) → digests ≡ digests_of objects grids → slice_get grids place ≡ Some grid → place < length digests
@@ -40,7 +39,7 @@ pub returns-then-has_at : goal.returns-then-has_at
 returns-then-has_at c = λ grid size are is_digest rest.
     let levels = c.args.levels.now in
     let there = (c.has_at.ensures grid size are).0 (is_true c.if-has_at.true) in
-    ap (λ (b : Bool). if b then None else Some (digest_of levels.objects grid)) (sym (there_among levels.grids c.in-Some.place grid there))
+    ap not (sym (there_among levels.grids c.in-Some.place grid there))
 
 -- a level is behind no other place, if it isn't the one there
 others : (grids : List Grid) (grid : Grid) (at : Option ℕ) (place : ℕ) → at ≡ Some place → (slice_get grids place ≡ Some grid → ⊥) → (i : ℕ) → slice_get grids i ≡ Some grid → IsUpTo at i → i < place
@@ -67,13 +66,13 @@ returns c = λ grid size are is_digest rest.
     let levels = c.args.levels.now in
     let none : c.places.at ≡ None = c.in_default.is in
     let fresh : is_among levels.grids grid ≡ false = none_among levels.grids grid (λ place is. subst (λ (o : Option ℕ). IsUpTo o place) none (c.places.invariant.left grid size are is_digest place is)) in
-    ap (λ (d : ℕ). Some d) is_digest ∙ ap (λ (b : Bool). if b then None else Some (digest_of levels.objects grid)) (sym fresh)
+    ap not (sym fresh)
 
-pub returns-then-is_unchanged : goal.returns-then-is_unchanged
-returns-then-is_unchanged c = λ grid size are is_digest rest.
+pub returns-then-has_no_change : goal.returns-then-has_no_change
+returns-then-has_no_change c = λ grid size are is_digest rest.
     let levels = c.args.levels.now in
-    let here = c.args.here.now in
+    let origin = c.args.origin.now in
     let at = c.requires.at in
-    let long : length grid.cells ≡ length here.grid.cells = omega (arith, are.long, c.requires.row.long, at.row.long, at.numbers.long) in
-    let same = same_without grid here.grid (same_size_on grid levels.frame here.grid (size_back levels.frame grid size) at.size) long (subst (λ (l : List ℕ). DifferWithin l grid here.grid) (c.is_unchanged.ensures.0 c.if-is_unchanged.true) rest) in
-    ap (λ (b : Bool). if b then None else Some (digest_of levels.objects grid)) (sym (there_among levels.grids here.place grid (at.there ∙ ap (λ (g : Grid). Some g) (sym same))))
+    let long : length grid.cells ≡ length origin.grid.cells = omega (arith, are.long, c.requires.row.long, at.row.long, at.numbers.long) in
+    let same = same_without grid origin.grid (same_size_on grid levels.frame origin.grid (size_back levels.frame grid size) at.size) long (subst (λ (l : List ℕ). DifferWithin l grid origin.grid) (c.has_no_change.ensures.0 c.if-has_no_change.true) rest) in
+    ap not (sym (there_among levels.grids origin.place grid (at.there ∙ ap (λ (g : Grid). Some g) (sym same))))

@@ -4,7 +4,7 @@ use Rattle.pz_sheet.specs.Grid.{Grid, SameSize}
 use Rattle.pz_store.specs.Book.{AreNumbers}
 use Rattle.pz_store.specs.Digest.{digest_of}
 use Rattle.pz_solve.proofs.Knowing.{IsPlaceOf, IsUpTo, rank}
-use Rattle.pz_solve.proofs.search.digest_if_new.Given as goal
+use Rattle.pz_solve.proofs.search.is_new.Given as goal
 
 -- the level is behind no place that is left
 abbrev pub invariant-places : goal.invariant-places

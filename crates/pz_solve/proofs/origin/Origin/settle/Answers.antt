@@ -1,4 +1,4 @@
-use Rattle.pz_solve.proofs.here.Here.settle.Goals as goal
+use Rattle.pz_solve.proofs.origin.Origin.settle.Goals as goal
 
 pub return_to-requires-clause-within : goal.return_to-requires-clause-within
 return_to-requires-clause-within c =

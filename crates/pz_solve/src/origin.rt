@@ -6,7 +6,7 @@ ghost use Rattle.pz_sheet.specs.Grid.{Grid, SameSize};
 ghost use Rattle.pz_store.specs.Book.{AreNumbers};
 ghost use Rattle.pz_store.specs.Digest.{digest_of};
 ghost use Rattle.pz_store.specs.Levels.{IsRow};
-ghost use Rattle.pz_solve.specs.Here.{AreSameBut, IsAt};
+ghost use Rattle.pz_solve.specs.Origin.{AreSameBut, IsAt};
 
 use pz_bare::BareLevel;
 use pz_grid::Level;
@@ -14,9 +14,9 @@ use pz_store::levels::Levels;
 use std::alloc::{AllocError, Global};
 use std::marker::Model;
 
-/// A level that was found, by its number, with the numbers of its cells and its digest. A level to play presses in is kept beside it, and
-/// the cells in which that may differ: it is made equal again by them alone.
-pub(crate) struct Here {
+/// A level that was found: its number, the level without marks and with them, the numbers of its cells, and its digest. `work` is a level
+/// to play presses in. It differs at most in the cells `changed`, so copying these makes it equal again.
+pub(crate) struct Origin {
     place: usize,
     bare: BareLevel,
     level: Level,
@@ -27,9 +27,9 @@ pub(crate) struct Here {
 }
 
 /// Written out, so that each place where one goes out of scope is one call.
-impl Drop for Here {
+impl Drop for Origin {
     fn drop(self) {
-        let Here {
+        let Origin {
             place: _,
             bare,
             level,
@@ -46,66 +46,66 @@ impl Drop for Here {
     }
 }
 
-impl Model for Here {
-    ghost use Rattle.pz_solve.specs.Here.{HereState, IsHere};
+impl Model for Origin {
+    ghost use Rattle.pz_solve.specs.Origin.{OriginState, IsOrigin};
 
-    ghost Value = { HereState };
+    ghost Value = { OriginState };
 
-    ghost view = { λ h. record {
-      place = h.place;
-      grid = h.level.grid;
-      numbers = h.numbers.items;
-      digest = h.digest;
-      changed = h.changed.items;
+    ghost view = { λ o. record {
+      place = o.place;
+      grid = o.level.grid;
+      numbers = o.numbers.items;
+      digest = o.digest;
+      changed = o.changed.items;
     } };
 
-    ghost invariant = { λ h. IsHere h.bare h.level h.work h.changed.items };
+    ghost invariant = { λ o. IsOrigin o.bare o.level o.work o.changed.items };
 }
 
-/// Puts the places into a list at which alone two rows of numbers may differ.
-fn note_places(old: &[u32], new: &[u32], places: &mut Vec<usize>) -> Result<(), AllocError>
+/// Lists the cells in which two rows of numbers may differ. Err: memory was refused.
+fn note_cells(old: &[u32], new: &[u32], cells: &mut Vec<usize>) -> Result<(), AllocError>
     requires long { length new.now ≡ length old.now }
-    requires none { places.old.items ≡ [] }
-    ensures within { All (λ place. place < length old.now) places.new.items }
-    ensures rest { OnOk result (AreSameBut places.new.items old.now new.now) }
+    requires none { cells.old.items ≡ [] }
+    ensures within { All (λ cell. cell < length old.now) cells.new.items }
+    ensures rest { OnOk result (AreSameBut cells.new.items old.now new.now) }
 {
     for index in 0..old.len() {
         if old[index] != new[index] {
-            places.push(index)?;
+            cells.push(index)?;
         }
     }
     Ok(())
 }
 
-/// Puts the cells of numbers into a level at these places. At the others it has them already.
-fn put_cells(levels: &Levels, bare: &mut BareLevel, numbers: &[u32], places: &[usize])
+/// Puts the cells of these numbers into a level at `cells`; elsewhere it has them already.
+fn put_cells(levels: &Levels, bare: &mut BareLevel, numbers: &[u32], cells: &[usize])
     requires size { SameSize levels.now.frame bare.old.grid }
-    requires within { All (λ place. place < length bare.old.grid.cells) places.now }
+    requires within { All (λ cell. cell < length bare.old.grid.cells) cells.now }
     requires row { IsRow levels.now.frame levels.now.cells numbers.now }
     requires long { length numbers.now ≡ length bare.old.grid.cells }
     ensures { (there : Grid) → SameSize levels.now.frame there → AreNumbers levels.now.cells numbers.now there →
-        DifferWithin places.now bare.old.grid there → bare.new.grid ≡ there }
+        DifferWithin cells.now bare.old.grid there → bare.new.grid ≡ there }
 {
     // (brings the proof the law of the level)
     let _ = bare.width();
-    for place in places {
-        levels.put(bare, *place, numbers[*place]);
+    for cell in cells {
+        levels.put(bare, *cell, numbers[*cell]);
     }
 }
 
-impl Here {
+impl Origin {
     /// The first level, with the numbers of its cells and its digest. Err: memory was refused.
     pub(crate) fn new(
         alloc: Global,
         bare: BareLevel,
         numbers: Vec<u32>,
         digest: u64,
-    ) -> Result<Here, AllocError>
-        ensures { IfOk result (λ here. here ≡
+    ) -> Result<Origin, AllocError>
+        ensures { IfOk result (λ origin. origin ≡
             record { place = 0; grid = bare.grid; numbers = numbers.items; digest = digest; changed = [] }) }
     {
         let level = Level::marked(alloc, bare.copy()?)?;
-        Ok(Here {
+        Ok(Origin {
             place: 0,
             bare,
             level,
@@ -152,7 +152,8 @@ impl Here {
         }
     }
 
-    /// Makes numbers those of a level that a move from this one led to, and gives the digest of that level. Err: memory was refused.
+    /// Makes numbers those of a level that a move from this one led to, and gives the digest of that level. Forgets the level to play in.
+    /// Err: memory was refused.
     pub(crate) fn number(
         &mut self,
         levels: &mut Levels,
@@ -182,8 +183,8 @@ impl Here {
         levels.number(self.digest, &self.bare, level, numbers, &mut self.changed)
     }
 
-    /// Whether no cell was noted, so that a level that was numbered is this one.
-    pub(crate) fn is_unchanged(&self) -> bool
+    /// Whether the level numbered last equals this one.
+    pub(crate) fn has_no_change(&self) -> bool
         ensures { (result ≡ true) ↔ (self.now.changed ≡ []) }
     {
         self.changed.is_empty()
@@ -200,8 +201,8 @@ impl Here {
         self.work = Some(level);
     }
 
-    /// Turns to another level that was found, which has this digest. Err: memory was refused, and it is where it was.
-    pub(crate) fn turn(
+    /// Goes to another level that was found, which has this digest. `numbers` is room. Err: memory was refused, and it stays at its level.
+    pub(crate) fn go_to(
         &mut self,
         levels: &Levels,
         place: usize,
@@ -220,9 +221,9 @@ impl Here {
     {
         // (brings the proof the law of the level)
         let _ = self.level.width();
-        levels.numbers_of(place, numbers);
+        levels.copy_to(place, numbers);
         self.settle();
-        note_places(&self.numbers, numbers, &mut self.changed)?;
+        note_cells(&self.numbers, numbers, &mut self.changed)?;
         put_cells(levels, &mut self.bare, numbers, &self.changed);
         self.level.follow(&self.bare, &self.changed);
         self.settle();

@@ -5,7 +5,7 @@ use Rattle.pz_sheet.specs.Grid.{Grid, SameSize}
 use Rattle.pz_store.specs.Levels.{changed_places}
 use Rattle.pz_store.proofs.Books.{as_many}
 use Rattle.pz_solve.proofs.Turning.{at_still, within_changed}
-use Rattle.pz_solve.proofs.here.Here.number.Goals as goal
+use Rattle.pz_solve.proofs.origin.Origin.number.Goals as goal
 
 pub returns-clause-at : goal.returns-clause-at
 returns-clause-at c =
@@ -21,11 +21,11 @@ so (Err fault) P Q follows holds = tt
 pub returns-clause-rest : goal.returns-clause-rest
 returns-clause-rest c =
     let level = c.args.level.now.grid in
-    let here = c.self.inside.bare.grid in
+    let origin = c.self.inside.bare.grid in
     let changed = c.number.new.changed.items in
     let cleared = c.clear.new.self.items in
-    let size : SameSize here level = subst (λ (g : Grid). SameSize g level) (sym (c.self.invariant.same ∙ ap (λ h. h.grid) c.self.view_is)) c.requires.size in
-    so c.number.result (changed ≡ cleared ++ changed_places level here) (DifferWithin changed level c.self.inside.level.grid)
+    let size : SameSize origin level = subst (λ (g : Grid). SameSize g level) (sym (c.self.invariant.same ∙ ap (λ h. h.grid) c.self.view_is)) c.requires.size in
+    so c.number.result (changed ≡ cleared ++ changed_places level origin) (DifferWithin changed level c.self.inside.level.grid)
     (λ is. subst (λ (g : Grid). DifferWithin changed level g) c.self.invariant.same
-    (subst (λ (l : List ℕ). DifferWithin l level here) (sym (is ∙ ap (λ (l : List ℕ). l ++ changed_places level here) c.clear.ensures.items)) (within_changed level here (as_many here level c.width.ensures.lawful c.width-2.ensures.lawful size))))
+    (subst (λ (l : List ℕ). DifferWithin l level origin) (sym (is ∙ ap (λ (l : List ℕ). l ++ changed_places level origin) c.clear.ensures.items)) (within_changed level origin (as_many origin level c.width.ensures.lawful c.width-2.ensures.lawful size))))
     c.number.ensures.changed

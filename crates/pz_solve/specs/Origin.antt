@@ -8,9 +8,9 @@ use Rattle.pz_store.specs.Book.{AreNumbers}
 use Rattle.pz_store.specs.Digest.{digest_of}
 use Rattle.pz_store.specs.Levels.{IsRow, LevelsState}
 
--- what it is to its callers: its number among those found, the level, the numbers of its cells, its digest, and the cells in which a level
--- to play in may differ from it
-pub record HereState : Type 0 where
+-- what an origin is to its callers: its number among those found, the level, the numbers of its cells, its digest, and the cells in which
+-- a level to play in may differ from it
+pub record OriginState : Type 0 where
   pub place : ℕ
   pub grid : Grid
   pub numbers : List ℕ
@@ -23,20 +23,20 @@ pub record IsPlayedFrom (grid : Grid) (changed : List ℕ) (work : LevelState) :
   pub long : length work.grid.cells ≡ length grid.cells
   pub rest : DifferWithin changed work.grid grid
 
--- what holds of it: the level stands there twice, with marks and without them
-pub record IsHere (bare : BareState) (level : LevelState) (work : Option LevelState) (changed : List ℕ) : Type 0 where
+-- what holds of an origin: the level stands there twice, with marks and without them
+pub record IsOrigin (bare : BareState) (level : LevelState) (work : Option LevelState) (changed : List ℕ) : Type 0 where
   pub same : bare.grid ≡ level.grid
   pub within : All (λ index. index < length level.grid.cells) changed
   pub played : ForSome work (IsPlayedFrom level.grid changed)
 
--- it is the level of its number
-pub record IsAt (levels : LevelsState) (here : HereState) : Type 0 where
-  pub there : slice_get levels.grids here.place ≡ Some here.grid
-  pub size : SameSize levels.frame here.grid
-  pub numbers : AreNumbers levels.cells here.numbers here.grid
-  pub row : IsRow levels.frame levels.cells here.numbers
-  pub digest : here.digest ≡ digest_of levels.objects here.grid
+-- the level is the one of its number, with its numbers and its digest
+pub record IsAt (levels : LevelsState) (origin : OriginState) : Type 0 where
+  pub there : slice_get levels.grids origin.place ≡ Some origin.grid
+  pub size : SameSize levels.frame origin.grid
+  pub numbers : AreNumbers levels.cells origin.numbers origin.grid
+  pub row : IsRow levels.frame levels.cells origin.numbers
+  pub digest : origin.digest ≡ digest_of levels.objects origin.grid
 
--- the numbers of two rows are the same but in these places
+-- the numbers of two rows are the same but in these cells
 abbrev pub AreSameBut : List ℕ → List ℕ → List ℕ → Type 0
-AreSameBut places numbers others = (index : ℕ) → list_any (nat_eq index) places ≡ false → slice_get numbers index ≡ slice_get others index
+AreSameBut cells numbers others = (index : ℕ) → list_any (nat_eq index) cells ≡ false → slice_get numbers index ≡ slice_get others index
