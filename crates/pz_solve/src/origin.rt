@@ -135,7 +135,7 @@ impl Origin {
         ensures { self.new ≡ record self.old { changed = [] } }
     {
         if let Some(work) = &mut self.work {
-            work.return_to(&self.level, &self.changed);
+            work.take_cells_of(&self.level, &self.changed);
         }
         self.changed.clear();
     }
@@ -225,7 +225,7 @@ impl Origin {
         self.settle();
         note_cells(&self.numbers, numbers, &mut self.changed)?;
         put_cells(levels, &mut self.bare, numbers, &self.changed);
-        self.level.follow(&self.bare, &self.changed);
+        self.level.take_bare_cells_of(&self.bare, &self.changed);
         self.settle();
         self.numbers.copy_from_slice(numbers);
         self.place = place;

@@ -37,11 +37,11 @@ is_next c =
 size : (c : After-deref-3) → SameSize c.args.self.now.grid (next c).0
 size c = same_size_on c.args.self.now.grid c.args.levels.now.frame (next c).0 (size_back c.args.levels.now.frame c.args.self.now.grid c.requires.at.size) (c.copy_to.ensures.size (next c).0 (next c).1)
 
-pub follow-requires-clause-size : goal.follow-requires-clause-size
-follow-requires-clause-size c = rw (is_at c) (rw (is_next c) (size c))
+pub take_bare_cells_of-requires-clause-size : goal.take_bare_cells_of-requires-clause-size
+take_bare_cells_of-requires-clause-size c = rw (is_at c) (rw (is_next c) (size c))
 
-pub follow-requires-clause-rest : goal.follow-requires-clause-rest
-follow-requires-clause-rest c = rw c.deref-3.ensures.value (rw (is_at c) (rw (is_next c) (differ c)))
+pub take_bare_cells_of-requires-clause-rest : goal.take_bare_cells_of-requires-clause-rest
+take_bare_cells_of-requires-clause-rest c = rw c.deref-3.ensures.value (rw (is_at c) (rw (is_next c) (differ c)))
 
 pub invariant_of-self : goal.invariant_of-self
 invariant_of-self c =
@@ -64,10 +64,10 @@ invariant_of-self-2 c =
     let cells = c.note_cells.new.cells.items in
     let there = (next before).0 in
     let at = sym (is_at before) in
-    let new : c.follow.new.self.grid ≡ there = c.follow.ensures.grid ∙ is_next before in
-    let long : length c.follow.new.self.grid.cells ≡ length c.deref.result.now = ap (λ (g : Grid). length g.cells) new ∙ sym (are_as_many before) ∙ sym c.requires.at.numbers.long ∙ sym (ap (λ (l : List ℕ). length l) (c.deref.ensures.value ∙ ap (λ (h : OriginState). h.numbers) is)) in
+    let new : c.take_bare_cells_of.new.self.grid ≡ there = c.take_bare_cells_of.ensures.grid ∙ is_next before in
+    let long : length c.take_bare_cells_of.new.self.grid.cells ≡ length c.deref.result.now = ap (λ (g : Grid). length g.cells) new ∙ sym (are_as_many before) ∙ sym c.requires.at.numbers.long ∙ sym (ap (λ (l : List ℕ). length l) (c.deref.ensures.value ∙ ap (λ (h : OriginState). h.numbers) is)) in
     record {
-      same = sym c.follow.ensures.grid;
+      same = sym c.take_bare_cells_of.ensures.grid;
       within = rw long c.note_cells.ensures.within;
       played = λ work there_is. rw new
           (played_from grid there work cells (subst (λ (l : List ℕ). IsPlayedFrom grid l work) (ap (λ (h : OriginState). h.changed) is) (c.self-2.invariant.played work there_is))
@@ -78,7 +78,7 @@ pub returns-clause-at : goal.returns-clause-at
 returns-clause-at c =
     let before = (goal.at.returns-clause-at c).After-deref-3 in
     let grid = (next before).0 in
-    let is : c.self-3.inside.level.grid ≡ grid = ap (λ (h : OriginState). h.grid) (c.self-3.view_is ∙ c.settle-2.ensures) ∙ c.follow.ensures.grid ∙ is_next before in
+    let is : c.self-3.inside.level.grid ≡ grid = ap (λ (h : OriginState). h.grid) (c.self-3.view_is ∙ c.settle-2.ensures) ∙ c.take_bare_cells_of.ensures.grid ∙ is_next before in
     let items = c.copy_from_slice.ensures.items in
     record {
       there = (next before).1 ∙ ap (λ (g : Grid). Some g) (sym is);
