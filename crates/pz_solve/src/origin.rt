@@ -180,7 +180,7 @@ impl Origin {
         self.work = None;
         self.changed.clear();
         numbers.copy_from_slice(&self.numbers);
-        levels.number(self.digest, &self.bare, level, numbers, &mut self.changed)
+        levels.number(&self.bare, level, numbers, self.digest, &mut self.changed)
     }
 
     /// Whether the level numbered last equals this one.

@@ -85,10 +85,10 @@ impl Levels {
     /// these to `changed`. Err: memory was refused; `numbers` may then be those of neither level, and `changed` may have grown.
     pub fn number(
         &mut self,
-        digest: u64,
         before: &BareLevel,
         level: &BareLevel,
         numbers: &mut [u32],
+        digest: u64,
         changed: &mut Vec<usize>,
     ) -> Result<u64, AllocError>
         requires frame { SameSize self.old.frame before.now.grid }
