@@ -1,8 +1,8 @@
 -- A move: the step of a press and the ticks of its `again` chain, as a session plays them. It leads to a level in which play goes on,
 -- it wins, or it is a dead end. A dead end is a chain that stops (`loop-limit`, `match-limit`, or `again-limit` after the ticks that a
--- session allows), and also a step that gives `restart`: what was played before it adds nothing, since the level begins again. So
--- `checkpoint`, which only a restart would show, changes nothing here. Messages are no part of a level. There is no chance in a move:
--- `random` is refused when a source is read.
+-- session allows), and also a step that gives `restart`: the level begins again, and a search follows no restart. So `checkpoint`, which
+-- only a restart would show, changes nothing here. From a level's own beginning that leaves nothing out, unless a checkpoint was kept or
+-- rules run at the start. Messages are no part of a level. There is no chance in a move: `random` is refused when a source is read.
 use Rattle.std.specs.Prelude.{ℕ, zero, suc, ◌&&◌, ◌||◌, Some, None, Result, Ok, Err, if◌then◌else◌}
 use Rattle.pz_game.specs.declared.direction.Dir.{Dir}
 use Rattle.pz_game.specs.declared.game.GameParts.{GameParts}

@@ -1,5 +1,5 @@
--- What lists of presses do to a level. `undo` and `restart` are no part of them: each leads to a level where play was before, so a list
--- with one is no shorter than one without.
+-- What lists of presses do to a level. `undo` and `restart` are no part of them: each leads to a level where play was before, so from a
+-- level's own beginning a list with one is no shorter than one without.
 use Rattle.std.specs.Prelude.{◌≡◌, ℕ, ◌≤◌, Bool, true, false, List, [], ◌∷◌, length, Option, Some, None}
 use Rattle.pz_game.specs.declared.direction.Dir.{Dir}
 use Rattle.pz_sheet.specs.Grid.{Grid}

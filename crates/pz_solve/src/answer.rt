@@ -17,7 +17,7 @@ pub struct Bounds {
     pub bytes: usize,
 }
 
-/// The answer of a search.
+/// The answer of a search. It is about presses by which no rule restarts the level: one that does so counts as lost.
 #[derive(Drop)]
 pub enum Answer {
     /// These presses win, and no shorter list of presses does.
