@@ -471,6 +471,75 @@ p.
         self.assertIn("session 0, slow: unanswered: not mended: it is not played: not answered in 15 s\n", answer.out)
 
 
+@plays
+class DayOfStarts(OfAGame):
+    """Games whose rules run as a level loads, which may win it."""
+
+    GAME = """title starts
+run_rules_on_level_start
+OBJECTS
+Background .
+black
+Player p
+white
+Crate c
+brown
+Target o
+blue
+Wall #
+grey
+Mark m
+pink
+Ghost g
+yellow
+LEGEND
+COLLISIONLAYERS
+Background
+Target
+Player, Crate, Wall
+Mark
+Ghost
+RULES
+[ Mark ] -> [ Ghost ]
+[ > Player | Crate ] -> [ > Player | > Crate ]
+WINCONDITIONS
+All Target on Crate
+No Mark
+LEVELS
+"""
+    AT_ONCE, LOST = "pm", "####\n#pc#\n#o.#\n####"
+
+    def with_levels(self, *levels: str) -> Path:
+        return self.write("game.txt", self.GAME + "\n\n".join(levels) + "\n")
+
+    def test_a_level_that_is_won_as_it_loads_has_no_answer_of_another(self) -> None:
+        at_once = "level 1: won as it loads, without a press\n"
+        for levels, status, said in (
+            ((self.AT_ONCE, self.LOST), 1, f"{at_once}level 2: can't be won: no presses win it\n1 solved, 1 can't be won, 0 not known\n"),
+            ((self.AT_ONCE, "p.co."), 0, f"{at_once}level 2: solved in 2 presses, and in no fewer\n    right right\n2 solved, 0 can't be won, 0 not known\n"),
+            ((self.AT_ONCE,), 0, f"{at_once}1 solved, 0 can't be won, 0 not known\n"),
+        ):
+            answer = run("solve", self.with_levels(*levels))
+            self.assertEqual((answer.status, answer.out), (status, said))
+
+    def test_it_is_saved_without_an_input_and_is_solvable(self) -> None:
+        game, saved = self.with_levels(self.AT_ONCE), self.room / "saved.json"
+        self.assertEqual(run("solve", game, "--save", saved).status, 0)
+        ((name, body),) = json.loads(saved.read_text(encoding="utf-8"))
+        self.assertEqual((name, body[1], body[3]), ("level 1, won as it loads", [], 0))
+        answer = run("test", game, saved, "--solved", "*", "--solvable")
+        self.assertEqual(answer.status, 0, answer.out)
+
+    def test_levels_that_are_won_as_they_load_are_counted_where_others_are_mended(self) -> None:
+        game = self.with_levels("p.co.", self.AT_ONCE, "p.c.o")
+        recordings = self.write_entries([["three", ["", [3], "", 0], "solved"], ["two", ["", [3], "background mark:0,background:1,", 0]]])
+        answer = run("mend", game, recordings, "--in-place")
+        self.assertIn("session 0, three: ", answer.out)
+        self.assertIn("    right right right right\n", answer.out)
+        self.assertEqual([body[1] for _, body, *_ in json.loads(recordings.read_text(encoding="utf-8"))][0], [3] * 5)
+        self.assertEqual(run("test", game, recordings, "--filter", "three").status, 0)
+
+
 class AnswersOfASolver(unittest.TestCase):
     def test_a_line_is_an_answer(self) -> None:
         for text, wanted in (
@@ -522,7 +591,7 @@ class AnswersOfASolver(unittest.TestCase):
         """Of each level it isn't known then."""
         source = (Path(__file__).parent.parent / "examples/day/game.txt").read_text(encoding="utf-8")
         with mock.patch.object(solving, "solver_words", lambda: ["/bin/sh", "-c", "exit 3"]):
-            levels = levels_not_won(GameText("game.txt", source), Bounds(1))
+            levels = levels_not_won(GameText("game.txt", source), Bounds(1), Engine())
         self.assertEqual([(it.name, it.close, it.sentence) for it in levels], [(f"game.txt: level {it}", "not known", "the engine can't be asked for a solution: it ended with status 3") for it in (1, 2)])
 
     def test_no_beginning_is_written_out_once_the_time_is_over(self) -> None:

@@ -62,8 +62,15 @@ def guard_game(game: GameText, engine: Engine, seconds: float) -> None:
         raise Refused(f"{game.path} is not played: {sentence}" + (f": {below[0]}" if below else ""))
 
 
-def won(entry: Entry, level: int, of: Sessions, engine: Engine) -> Entry:
-    """A session that wins the level of this number last, with the level that it reaches as its recorded one. Refused where the program that plays doesn't win."""
+class Reached(NamedTuple):
+    """What a session shows that wins a level, and where it stands then."""
+
+    run: Run
+    standing: Standing
+
+
+def reached_of(entry: Entry, level: int, of: Sessions, engine: Engine) -> Reached:
+    """What a session shows that wins the level of this number. Refused where the program that plays doesn't win."""
     run = runs_of([entry], of, engine)[0]
     end = solved_of([entry], [run], of, engine).get(0)
     if run.close == UNANSWERED or end == NOT_ANSWERED:
@@ -71,10 +78,21 @@ def won(entry: Entry, level: int, of: Sessions, engine: Engine) -> Entry:
     standing = standing_of(entry, run, end == SOLVED)
     if standing is None or run.close not in PLAYED or first_level(entry) + standing.won <= level:
         raise Refused(f"level {level} of {cut(of.path)} is not won by the presses that were found, as the program plays: it is another one than the engine that was asked")
-    reached = run.frames[-1].level
-    if read_cells(reached, Labels()) is None:
-        raise Refused(f"level {level} of {cut(of.path)} is won, but its last level can't be recorded: a name of an object holds a comma")
-    return entry._replace(level=reached)
+    return Reached(run, standing)
+
+
+def recorded(entry: Entry, reached: Reached, of: Sessions) -> Entry:
+    """A session with the level that it reaches as its recorded one."""
+    level = reached.run.frames[-1].level
+    if read_cells(level, Labels()) is None:
+        number = first_level(entry) + reached.standing.won - 1
+        raise Refused(f"level {number} of {cut(of.path)} is won, but its last level can't be recorded: a name of an object holds a comma")
+    return entry._replace(level=level)
+
+
+def won(entry: Entry, level: int, of: Sessions, engine: Engine) -> Entry:
+    """A session that wins the level of this number, with the level that it reaches as its recorded one."""
+    return recorded(entry, reached_of(entry, level, of, engine), of)
 
 
 def wins_wanted(entry: Entry, before: Optional[int]) -> Optional[int]:
@@ -135,22 +153,28 @@ class Mender:
             return Left(entry, f"level {first_level(entry) + standing.won}, from its beginning, {told(answer)}")
         return Mended(entry._replace(inputs=[*entry.inputs[:kept], *answer.inputs]), kept, answer.inputs)
 
+    def reached(self, entry: Entry, won: int) -> Union[Reached, Left]:
+        """Where a session stands that wins one level more than so many, at least: others may be won while they load."""
+        if len(entry.inputs) >= MOST_INPUTS:
+            return Left(entry, f"it would have {plural(len(entry.inputs), 'input')}, which are too many")
+        return reached_of(entry, first_level(entry) + won, self.of, self.engine)
+
     def mended(self, entry: Entry, standing: Standing, wanted: int) -> Union[Mended, Left]:
         """The session, which then wins so many levels."""
         first = self.way_on(entry, standing)
         if isinstance(first, Left):
             return first
-        longer, wins = first.entry, standing.won + 1
-        while wins < wanted:
+        longer, reached = first.entry, self.reached(first.entry, standing.won)
+        while isinstance(reached, Reached) and reached.standing.won < wanted:
+            wins = reached.standing.won
             answer = self.ask(longer, len(longer.inputs))
             if not isinstance(answer, Solved):
                 return Left(entry, f"level {first_level(entry) + wins}, which it is to win too, {told(answer)}")
             longer = longer._replace(inputs=[*longer.inputs, *answer.inputs])
-            wins += 1
-        if len(longer.inputs) >= MOST_INPUTS:
-            return Left(entry, f"it would have {plural(len(longer.inputs), 'input')}, which are too many")
-        level = first_level(entry) + wins - 1
-        return Mended(won(longer, level, self.of, self.engine), first.kept, longer.inputs[first.kept :])
+            reached = self.reached(longer, wins)
+        if isinstance(reached, Left):
+            return reached._replace(entry=entry)
+        return Mended(recorded(longer, reached, self.of), first.kept, longer.inputs[first.kept :])
 
 
 def wins_over(entries: Sequence[Entry], text: Optional[str], of: Sessions, engine: Engine) -> Dict[int, int]:

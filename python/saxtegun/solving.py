@@ -10,7 +10,6 @@ from typing import Any, List, NamedTuple, Optional, Sequence, Tuple, Union
 
 from saxtegun.commands import Refused, add_ticks, cut, plural, seconds_in
 from saxtegun.games import game_of
-from saxtegun.levelsets import places_of_levels
 from saxtegun.processes import Unanswered, watched
 from saxtegun.programs import solver_words
 from saxtegun.sessions import Entry, Input, is_number, written_entry
@@ -28,7 +27,7 @@ NO_LEVEL = {"over": "all levels are won", "stopped": "the session was stopped be
 
 
 class Solved(NamedTuple):
-    """These presses win, and no shorter list does."""
+    """These presses win, and no shorter list does; none are needed where a level is won as it loads."""
 
     inputs: List[Input]
 
@@ -89,11 +88,6 @@ def add_bounds(words: ArgumentParser) -> None:
 
 def bounds_of(given: Namespace) -> Bounds:
     return Bounds(given.levels, has_ticks=given.ticks_as_recorded, end=monotonic() + given.within)
-
-
-def begin_of(source: str, level: int) -> Entry:
-    """The session that begins in the level of this number, without an input."""
-    return Entry(0, f"level {level}", source, [], "", places_of_levels(source)[level - 1], {}, False)
 
 
 # That no time is left for a search.
@@ -180,6 +174,8 @@ def unknown_told(answer: Answer) -> str:
 
 def told(answer: Answer) -> str:
     """What an answer says of a level, in words."""
+    if isinstance(answer, Solved) and not answer.inputs:
+        return "won as it loads, without a press"
     if isinstance(answer, Solved):
         return f"solved in {plural(len(answer.inputs), 'press', 'presses')}, and in no fewer"
     if isinstance(answer, Unsolvable):

@@ -2,10 +2,10 @@
 none.
 
 A line a level says how it is: solved in so many presses, and no fewer win it;
-or no presses win it; or nothing is known, since more levels of play were reached
-than are kept, or time was over. The presses stand below it. --level N looks at
-the N-th level alone; messages don't count. Of a game with a clock presses alone
-are tried, and no tick between them.
+or won as it loads, without a press; or no presses win it; or nothing is known,
+since more levels of play were reached than are kept, or time was over. The
+presses stand below it. --level N looks at the N-th level alone; messages don't
+count. Of a game with a clock presses alone are tried, and no tick between them.
 
 With --save each solution is added to SESSIONS.json as a recording of its level,
 with the empty text in place of the game's: `saxtegun test GAME.txt SESSIONS.json`
@@ -21,6 +21,7 @@ import sys
 from argparse import ArgumentParser, ArgumentTypeError, Namespace
 from typing import List, NamedTuple, Optional
 
+from saxtegun.beginnings import answer_of, begin_of
 from saxtegun.commands import Refused, cut, plural, printable, say
 from saxtegun.files import guard_output, guard_places, locked, write_whole
 from saxtegun.levelsets import count_of_levels
@@ -28,7 +29,7 @@ from saxtegun.playing import Engine
 from saxtegun.recordings import Known, Names
 from saxtegun.sessions import Entry, Sessions, guard_size, read_or_new, with_more
 from saxtegun.mending import guard_game, won
-from saxtegun.solving import SECONDS, Answer, Bounds, Solved, Unsolvable, add_bounds, begin_of, bounds_of, presses_told, solution_of, told
+from saxtegun.solving import SECONDS, Answer, Bounds, Solved, Unsolvable, add_bounds, bounds_of, presses_told, told
 from saxtegun.texts import GameText, over, read_named
 
 USAGE = "solve GAME.txt [--level N|all] [--levels N] [--within SECONDS] [--save SESSIONS.json]"
@@ -70,18 +71,17 @@ def wanted_levels(game: GameText, level: Optional[int]) -> List[int]:
     return [level] if level is not None else list(range(1, count + 1))
 
 
-def solve(game: GameText, level: int, bounds: Bounds) -> Found:
+def solve(game: GameText, level: int, bounds: Bounds, engine: Engine) -> Found:
     """Looks for a solution of a level."""
-    entry = begin_of(game.source, level)
     if sys.stderr.isatty():
         say(f"solve: level {level} ..")
-    return Found(level, entry, solution_of(entry, bounds))
+    return Found(level, begin_of(game.source, level), answer_of(game, level, bounds, engine))
 
 
 def show(found: Found) -> None:
     """Says what is known of a level."""
     print(printable(f"level {found.level}: {told(found.answer)}"))
-    if isinstance(found.answer, Solved):
+    if isinstance(found.answer, Solved) and found.answer.inputs:
         print(f"    {presses_told(found.answer.inputs)}")
     sys.stdout.flush()
 
@@ -90,7 +90,8 @@ def recording_of(found: Found, game: GameText, engine: Engine) -> Entry:
     """A solution as a recording: played, with the level that is reached. Refused where the program that plays doesn't win by it."""
     assert isinstance(found.answer, Solved)
     entry = found.entry._replace(inputs=found.answer.inputs)
-    name = f"level {found.level}, solved in {plural(len(entry.inputs), 'press', 'presses')}"
+    how = f"solved in {plural(len(entry.inputs), 'press', 'presses')}" if entry.inputs else "won as it loads"
+    name = f"level {found.level}, {how}"
     return won(entry._replace(name=name), found.level, Sessions(game.path, "", []), engine)
 
 
@@ -133,7 +134,7 @@ def main(given: Namespace) -> int:
     found: List[Found] = []
     unsaved = 0
     for level in levels:
-        it = solve(game, level, bounds)
+        it = solve(game, level, bounds, engine)
         found.append(it)
         try:
             show(it)

@@ -268,7 +268,7 @@ def test(given: Namespace) -> int:
     suite.unanswered.extend(it for it, why in unsolved.items() if why == UNKNOWN_END)
     though_passed = {**unsolved, **suite.elsewhere}
     failures = once(failures_of(suite, though_passed, given, hung))
-    levels = levels_not_won(suite.game, bounds_of(given)) if given.solvable and suite.game else []
+    levels = levels_not_won(suite.game, bounds_of(given), engine_of(given)) if given.solvable and suite.game else []
     failures += levels
     write_files(suite, failures, though_passed, tell(suite, failures, unsolved, given), given, hung, levels)
     return 2 if any(it.close == UNKNOWN for it in levels) or suite.unanswered or any(it.close == UNANSWERED for it in suite.runs) else 1 if failures else 0
