@@ -540,6 +540,35 @@ LEVELS
         self.assertEqual(run("test", game, recordings, "--filter", "three").status, 0)
 
 
+@plays
+class DayOfRestarts(OfAGame):
+    """Games with a rule that restarts the level."""
+
+    SPIKED = DayOfStarts.GAME.replace("RULES\n", "RULES\n[ > Player | Wall ] -> restart\n")
+
+    def test_of_a_level_that_a_restart_by_a_rule_may_win_it_is_not_known(self) -> None:
+        said = "no presses win it without a restart by a rule"
+        game = self.write("game.txt", self.SPIKED + DayOfStarts.LOST + "\n")
+        answer = run("solve", game)
+        self.assertEqual((answer.status, answer.out), (2, f"level 1: not known: {said}\n0 solved, 0 can't be won, 1 not known\n"))
+        recordings = self.write_entries([["lost", ["", [3], "", 0], "solved"]])
+        answer = run("test", game, recordings, "--solvable", "--quiet")
+        self.assertEqual(answer.status, 2)
+        self.assertIn(f"level 1: not known: {said}\n", answer.out)
+        self.assertIn(said, run("mend", game, recordings).out)
+
+    def test_what_is_said_of_presses_is_said_of_those_without_a_restart(self) -> None:
+        game = self.write("game.txt", f"{self.SPIKED}p.co.#\n")
+        self.assertIn("level 1: solved in 2 presses, and in no fewer without a restart by a rule\n", run("solve", game).out)
+        self.assertRegex(run("solve", game, "--levels", 1).out, "presse?s? wins it without a restart by a rule, and longer ones")
+
+
+class RulesThatRestart(unittest.TestCase):
+    def test_a_command_of_a_rule_is_known_from_other_words(self) -> None:
+        for rule, wanted in (("[ Player ] -> restart", True), ("[ Player ] -> [ Player ] again RESTART", True), ("[ Player ] -> [ Player ] message restart", False), ("[ Player ] -> [ Player ] (restart)", False), ("[ Player | Restart ] -> [ Player | Restart ]", False)):
+            self.assertIs(solving.has_restarts(DayOfStarts.GAME.replace("[ Mark ] -> [ Ghost ]", rule)), wanted, rule)
+
+
 class AnswersOfASolver(unittest.TestCase):
     def test_a_line_is_an_answer(self) -> None:
         for text, wanted in (

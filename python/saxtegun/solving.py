@@ -9,6 +9,7 @@ from time import monotonic
 from typing import Any, List, NamedTuple, Optional, Sequence, Tuple, Union
 
 from saxtegun.commands import Refused, add_ticks, cut, plural, seconds_in
+from saxtegun.descriptions import before, description_of
 from saxtegun.games import game_of
 from saxtegun.processes import Unanswered, watched
 from saxtegun.programs import solver_words
@@ -27,20 +28,27 @@ NO_LEVEL = {"over": "all levels are won", "stopped": "the session was stopped be
 
 
 class Solved(NamedTuple):
-    """These presses win, and no shorter list does; none are needed where a level is won as it loads."""
+    """These presses win, and no shorter list does; none are needed where a level is won as it loads. Where rules restart, a
+    shorter one may by such a restart."""
 
     inputs: List[Input]
+    has_restarts: bool = False
 
 
 class Unsolvable(NamedTuple):
     """No list of presses wins."""
 
 
+class OnlyByRestart(NamedTuple):
+    """No list of presses wins without a restart by a rule. What one leads to isn't searched."""
+
+
 class OutOfBounds(NamedTuple):
-    """No list of so many presses wins; behind that there are more levels than were kept."""
+    """No list of so many presses wins; behind that there are more levels than were kept. Where rules restart, one may by such a restart."""
 
     levels: int
     inputs: int
+    has_restarts: bool = False
 
 
 class Unasked(NamedTuple):
@@ -49,7 +57,7 @@ class Unasked(NamedTuple):
     why: str
 
 
-Answer = Union[Solved, Unsolvable, OutOfBounds, Unasked]
+Answer = Union[Solved, Unsolvable, OnlyByRestart, OutOfBounds, Unasked]
 
 
 class Bounds(NamedTuple):
@@ -128,8 +136,28 @@ def solution_of(entry: Entry, bounds: Bounds) -> Answer:
     except OSError as why:
         # also where no room is left for what is asked: what was found before is told
         raise Refused(f"{CANT_ASK}{why.strerror}") from None
-    switch = switched_off(entry.source, answer.inputs) if isinstance(answer, Solved) else None
-    return answer if switch is None else Unasked(f"the fewest presses that win have one that the game switches off by `{switch}`")
+    return as_known(answer, entry.source)
+
+
+def as_known(answer: Answer, source: str) -> Answer:
+    """What an answer says of a game that may switch keys off, or have rules that restart a level."""
+    switch = switched_off(source, answer.inputs) if isinstance(answer, Solved) else None
+    if switch is not None:
+        return Unasked(f"the fewest presses that win have one that the game switches off by `{switch}`")
+    if isinstance(answer, Unasked) or not has_restarts(source):
+        return answer
+    return answer._replace(has_restarts=True) if isinstance(answer, (Solved, OutOfBounds)) else OnlyByRestart()
+
+
+def has_restarts(source: str) -> bool:
+    """Whether a rule of a game may give `restart`. A search takes such a press as lost, though the level that comes back may be none that it has seen."""
+    return any("restart" in commands_of(it.words) for it in description_of(source).rules)
+
+
+def commands_of(words: Sequence[str]) -> Sequence[str]:
+    """The words of a rule behind its cells, without those of a message."""
+    heard = [*before("message", words)]
+    return heard[len(heard) - heard[::-1].index("]") :] if "]" in heard else heard
 
 
 def switched_off(source: str, inputs: Sequence[Input]) -> Optional[str]:
@@ -164,11 +192,18 @@ def presses_told(inputs: Sequence[Input]) -> str:
     return " ".join(WORDS[it] if isinstance(it, int) else it for it in inputs)
 
 
+def apart(has_restarts: bool) -> str:
+    """Of which presses alone something is known, behind what is told of presses."""
+    return " without a restart by a rule" if has_restarts else ""
+
+
 def unknown_told(answer: Answer) -> str:
     """Why an answer doesn't say whether a level can be won."""
     if isinstance(answer, OutOfBounds):
         presses, levels = plural(answer.inputs, "press", "presses"), plural(answer.levels, "level")
-        return f"no list of up to {presses} wins it, and longer ones lead to more than {levels} of play, as many as are kept (--levels)"
+        return f"no list of up to {presses} wins it{apart(answer.has_restarts)}, and longer ones lead to more than {levels} of play, as many as are kept (--levels)"
+    if isinstance(answer, OnlyByRestart):
+        return f"no presses win it{apart(True)}"
     return answer.why if isinstance(answer, Unasked) else ""
 
 
@@ -177,7 +212,7 @@ def told(answer: Answer) -> str:
     if isinstance(answer, Solved) and not answer.inputs:
         return "won as it loads, without a press"
     if isinstance(answer, Solved):
-        return f"solved in {plural(len(answer.inputs), 'press', 'presses')}, and in no fewer"
+        return f"solved in {plural(len(answer.inputs), 'press', 'presses')}, and in no fewer{apart(answer.has_restarts)}"
     if isinstance(answer, Unsolvable):
         return "can't be won: no presses win it"
     return f"not known: {unknown_told(answer)}"

@@ -1,6 +1,7 @@
 """Mends recordings that no longer solve their levels, as when a game was edited: it
 keeps the longest beginning of each from which its level can still be won, and
-goes on with as few presses as win it.
+goes on with as few presses as win it. Where a rule gives `restart`, what such a
+restart leads to isn't searched, and isn't known.
 
 A recording over GAME.txt is mended that doesn't pass and wins fewer levels than
 it is to: all, if its entry says \"solved\"; or as many as it won over the

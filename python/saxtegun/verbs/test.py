@@ -14,12 +14,12 @@ session also says whether it is solved (all levels), solved up to a level, or
 not. A session that --solved names must be solved, and so must an entry with a
 further element, [name, [..], "solved"]; otherwise it fails. With --solvable a
 level of game.txt fails too that no presses win; where it isn't known within
---levels and --within there is no whole answer. If game.txt lies in
-a git folder, a session that broke since the last commit says at which input its
-frames first part from those of the committed text, and by which rule. With
---watch all is played again at each save of a file that was read, until you stop
-it. With --timeout N a session that isn't answered in N seconds is stopped and
-named, and the others are told as ever.
+--levels and --within, or none win without a restart by a rule, there is no whole
+answer. If game.txt lies in a git folder, a session that broke since the last
+commit says at which input its frames first part from those of the committed
+text, and by which rule. With --watch all is played again at each save of a file
+that was read, until you stop it. With --timeout N a session that isn't answered
+in N seconds is stopped and named, and the others are told as ever.
 
 Exit status: 0 all passed, 1 some session did not, 2 there is no whole answer."""
 from __future__ import annotations
