@@ -21,6 +21,7 @@ from test_test import OfAGame
 from tool import TOP, Answer, environment, plays, run
 from saxtegun import mending, solving
 from saxtegun.commands import Refused
+from saxtegun.keeping import Kept
 from saxtegun.lines import UNANSWERED, Run
 from saxtegun.mending import Mender, Standing
 from saxtegun.playing import Engine
@@ -448,7 +449,7 @@ p.
         self.assertEqual((answer.status, answer.out, saved.exists()), (2, f"level 1: {said}\n0 solved, 0 can't be won, 1 not known\n", False))
         answer = run("mend", game, recordings, "--in-place")
         self.assertEqual((answer.status, json.loads(recordings.read_text(encoding="utf-8"))), (1, [["none", ["", [], "", 0], "solved"]]))
-        self.assertIn(f"not mended: level 1, from its beginning, {said}\n", answer.out)
+        self.assertIn(f"not mended: of level 1, from its beginning, it isn't known whether it can be won: {said.partition(': ')[2]}\n", answer.out)
         answer = run("test", game, recordings, "--solvable", "--quiet")
         self.assertEqual(answer.status, 2)
         self.assertIn(f"level 1: {said}\n", answer.out)
@@ -596,7 +597,7 @@ class AnswersOfASolver(unittest.TestCase):
             self.assertEqual(solving.solution_of(entry, Bounds(1)), Unasked("there is not enough memory: let it keep fewer (--levels)"))
         self.assertEqual(solving.solution_of(entry, Bounds(1, end=0)), Unasked(solving.LATE))
         with mock.patch.object(solving, "solver_words", lambda: ["/bin/sh", "-c", "sleep 60"]):
-            self.assertEqual(solving.solution_of(entry, Bounds(1, 0.2)), Unasked("not answered in 0.2 s"))
+            self.assertEqual(solving.solution_of(entry, Bounds(1, 0.2)), Unasked("not answered in 0.2 s, as long as a level has: let it keep fewer (--levels)"))
 
     def test_a_solver_that_there_is_no_room_to_ask_is_told(self) -> None:
         with mock.patch.object(solving.tempfile, "TemporaryFile", side_effect=OSError(28, "No space left on device")):
@@ -629,10 +630,10 @@ class AnswersOfASolver(unittest.TestCase):
         mender = Mender(Sessions("a", "", [entry]), Engine(), Bounds(1, end=0))
         asked: List[int] = []
 
-        def unasked(entry: Entry, bounds: Bounds) -> Unasked:
-            asked.append(len(entry.inputs))
-            return Unasked(solving.LATE)
+        def unasked(entries: Sequence[Entry], bounds: Bounds) -> List[Unasked]:
+            asked.append(len(entries))
+            return [Unasked(solving.LATE)]
 
-        with mock.patch.object(mending, "solution_of", unasked):
-            answer = mender.longest(entry, Standing(0, 0, 60_000, False))
-        self.assertEqual((answer, asked), ((Unasked(solving.LATE), 0), [60_000]))
+        with mock.patch.object(mending, "solutions_of", unasked):
+            kept = mender.kept(entry, Standing(0, 0, 60_000, False))
+        self.assertEqual((kept, asked), (Kept(Unasked(f"{solving.LATE} before the beginnings up to its 60,000th input were asked about"), None), []))

@@ -6,17 +6,20 @@ from typing import Dict, List, NamedTuple, Optional, Sequence, Tuple, Union
 from saxtegun.budget import EXPLAINING, UsedUp
 from saxtegun.commands import Refused, cut, plural
 from saxtegun.explanations import told as told_of_run
+from saxtegun.keeping import Beginnings, Kept, longest, longest_of_all
 from saxtegun.levels import Labels, read_cells
 from saxtegun.levelsets import count_of_levels, first_level, level_of_recorded, wins_of
 from saxtegun.lines import PLAYED, UNANSWERED, Run
 from saxtegun.playing import Engine, runs_of
 from saxtegun.sessions import Entry, Input, Sessions
 from saxtegun.solutions import MOST_INPUTS, NOT_ANSWERED, SOLVED, solved_of
-from saxtegun.solving import LATE, Answer, Bounds, Solved, Unasked, solution_of, told
+from saxtegun.solving import LATE, Answer, Bounds, Solved, Unasked, Unsolvable, has_restarts, solution_of, solutions_of, told, unknown_told
 from saxtegun.texts import GameText
 
 # The inputs that lead back to an earlier level.
 TAKING_BACK = ("undo", "restart")
+# So many levels are kept where it is first asked about beginnings.
+FEW_LEVELS = 20_000
 
 
 class Standing(NamedTuple):
@@ -30,11 +33,12 @@ class Standing(NamedTuple):
 
 
 class Mended(NamedTuple):
-    """A session that wins again: with how many of its inputs it begins, and what follows these."""
+    """A session that wins again: with how many of its inputs it begins, what follows these, and what is known of longer beginnings, if they aren't lost."""
 
     entry: Entry
     kept: int
     presses: List[Input]
+    longer: Optional[Answer] = None
 
 
 class Left(NamedTuple):
@@ -110,6 +114,13 @@ def wins_recorded(entry: Entry, order: str) -> int:
     return max(0, recorded.level - first_level(entry)) if recorded is not None else 0
 
 
+def not_won_told(level: int, which: str, answer: Answer) -> str:
+    """That a level can't be won, or that it isn't known whether it can."""
+    if isinstance(answer, Unsolvable):
+        return f"level {level}{which} {told(answer)}"
+    return f"of level {level}{which} it isn't known whether it can be won: {unknown_told(answer)}"
+
+
 class Mender:
     """Mends sessions over the text at hand."""
 
@@ -120,38 +131,26 @@ class Mender:
         """Whether the level can be won in which a session stands behind its first inputs."""
         return solution_of(entry._replace(inputs=entry.inputs[:count]), self.bounds)
 
-    def longest(self, entry: Entry, standing: Standing) -> Tuple[Answer, int]:
-        """What is known of the level behind the longest beginning of a session from which it can be won, and how many inputs that has; where there is none, what is
-        known of the level's own beginning. Where a level can be won, so it can before: the inputs that lie between come next. Only what takes back leads out
-        of a level that is lost, and then each beginning is asked about."""
-        kept, behind = standing.begin, standing.played
-        answer = self.ask(entry, behind)
-        if any(it in TAKING_BACK for it in entry.inputs[kept:behind]):
-            while not isinstance(answer, Solved) and behind > kept:
-                if self.bounds.seconds_left <= 0:
-                    # there may be as many beginnings as a session has inputs, and each is written out
-                    return Unasked(LATE), kept
-                behind -= 1
-                answer = self.ask(entry, behind)
-            return answer, behind
-        if isinstance(answer, Solved) or behind == kept:
-            return answer, behind
-        answer = self.ask(entry, kept)
-        while isinstance(answer, Solved) and kept + 1 < behind:
-            middle = (kept + behind) // 2
-            between = self.ask(entry, middle)
-            if isinstance(between, Solved):
-                answer, kept = between, middle
-            else:
-                behind = middle
-        return answer, kept
+    def ask_all(self, entry: Entry, counts: Sequence[int], is_full: bool) -> List[Answer]:
+        """Whether the level can be won in which a session stands behind so many of its inputs. No beginning is written out where time is over."""
+        if self.bounds.seconds_left <= 0:
+            return [Unasked(LATE)]
+        return solutions_of([entry._replace(inputs=entry.inputs[:it]) for it in counts], self.bounds if is_full else self.bounds.at_most(FEW_LEVELS))
+
+    def kept(self, entry: Entry, standing: Standing) -> Kept:
+        """The longest beginning of a session from which the level can be won in which it stands. Only what takes back leads out of a level that is lost."""
+        has_more = self.bounds.levels is None or self.bounds.levels > FEW_LEVELS
+        of = Beginnings(lambda counts, is_full: self.ask_all(entry, counts, is_full), standing.begin, standing.played, has_more)
+        takes_back = any(it in TAKING_BACK for it in entry.inputs[standing.begin : standing.played]) or has_restarts(entry.source)
+        return longest_of_all(of) if takes_back else longest(of)
 
     def way_on(self, entry: Entry, standing: Standing) -> Union[Mended, Left]:
         """The longest beginning of a session from which the level can be won in which it stands, and a shortest way on."""
-        answer, kept = self.longest(entry, standing)
-        if not isinstance(answer, Solved):
-            return Left(entry, f"level {first_level(entry) + standing.won}, from its beginning, {told(answer)}")
-        return Mended(entry._replace(inputs=[*entry.inputs[:kept], *answer.inputs]), kept, answer.inputs)
+        it = self.kept(entry, standing)
+        if it.length is None or not isinstance(it.answer, Solved):
+            return Left(entry, not_won_told(first_level(entry) + standing.won, "" if it.length is None else ", from its beginning,", it.answer))
+        presses = it.answer.inputs
+        return Mended(entry._replace(inputs=[*entry.inputs[: it.length], *presses]), it.length, presses, it.longer)
 
     def reached(self, entry: Entry, won: int) -> Union[Reached, Left]:
         """Where a session stands that wins one level more than so many, at least: others may be won while they load."""
@@ -169,12 +168,12 @@ class Mender:
             wins = reached.standing.won
             answer = self.ask(longer, len(longer.inputs))
             if not isinstance(answer, Solved):
-                return Left(entry, f"level {first_level(entry) + wins}, which it is to win too, {told(answer)}")
+                return Left(entry, not_won_told(first_level(entry) + wins, ", which it is to win too,", answer))
             longer = longer._replace(inputs=[*longer.inputs, *answer.inputs])
             reached = self.reached(longer, wins)
         if isinstance(reached, Left):
             return reached._replace(entry=entry)
-        return Mended(recorded(longer, reached, self.of), first.kept, longer.inputs[first.kept :])
+        return Mended(recorded(longer, reached, self.of), first.kept, longer.inputs[first.kept :], first.longer)
 
 
 def wins_over(entries: Sequence[Entry], text: Optional[str], of: Sessions, engine: Engine) -> Dict[int, int]:

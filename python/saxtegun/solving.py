@@ -69,6 +69,10 @@ class Bounds(NamedTuple):
     has_ticks: bool = False
     end: float = inf
 
+    def at_most(self, levels: int) -> Bounds:
+        """These, with so many levels at most."""
+        return self._replace(levels=min(levels, self.levels or levels))
+
     @property
     def seconds_left(self) -> float:
         """How many seconds the next search has."""
@@ -127,16 +131,23 @@ def answer_in(line: bytes) -> Answer:
 
 def solution_of(entry: Entry, bounds: Bounds) -> Answer:
     """What the engine says of the level in which a session stands behind its inputs, or that it had no answer in time."""
+    return solutions_of([entry], bounds)[0]
+
+
+def solutions_of(entries: Sequence[Entry], bounds: Bounds) -> List[Answer]:
+    """What the engine says of the levels in which sessions stand; of the first one alone where it has no time or memory for all."""
     if bounds.seconds_left <= 0:
-        return Unasked(LATE)
+        return [Unasked(LATE)]
     try:
-        answer = asked(entry, bounds)
-    except Unanswered as why:
-        return Unasked(str(why))
+        answers = asked(entries, bounds)
+    except Unanswered:
+        answers = [Unasked(LATE if bounds.seconds_left <= 0 else f"not answered in {bounds.seconds:g} s, as long as a level has: let it keep fewer (--levels)")]
     except OSError as why:
         # also where no room is left for what is asked: what was found before is told
         raise Refused(f"{CANT_ASK}{why.strerror}") from None
-    return as_known(answer, entry.source)
+    if len(answers) < len(entries):
+        return solutions_of(entries[:1], bounds) if len(entries) > 1 else answers
+    return [as_known(answer, it.source) for answer, it in zip(answers, entries)]
 
 
 def as_known(answer: Answer, source: str) -> Answer:
@@ -166,25 +177,25 @@ def switched_off(source: str, inputs: Sequence[Input]) -> Optional[str]:
     return next((switches[it] for it in inputs if it in switches), None)
 
 
-def asked(entry: Entry, bounds: Bounds) -> Answer:
-    """What the engine says of the level in which a session stands. Unanswered where that takes too long."""
-    played = without_ticking(entry) if bounds.has_ticks else entry
+def asked(entries: Sequence[Entry], bounds: Bounds) -> List[Answer]:
+    """What the engine says of the levels in which sessions stand, or one answer that tells of none. Unanswered where that takes too long."""
+    played = [without_ticking(it) if bounds.has_ticks else it for it in entries]
     with tempfile.TemporaryFile() as given, tempfile.TemporaryFile() as told:
-        given.write(f"[{written_entry(played._replace(level=''))}]".encode())
+        given.write(f"[{','.join(written_entry(it._replace(level='')) for it in played)}]".encode())
         given.seek(0)
         seconds = bounds.seconds_left
         if seconds <= 0:
-            return Unasked(LATE)
+            return [Unasked(LATE)]
         ran = watched([*solver_words(), *bounds.words], told, given, seconds)
         if ran.status != 0 and ran.said == "memory":
-            return Unasked("there is not enough memory: let it keep fewer (--levels)")
+            return [Unasked("there is not enough memory: let it keep fewer (--levels)")]
         if ran.status != 0:
             raise Refused(f"{CANT_ASK}{cut(ran.said) or f'it ended with status {ran.status}'}")
         told.seek(0)
         lines = told.readlines()
-    if len(lines) != 1:
+    if len(lines) != len(entries):
         raise Refused(f"{CANT_ASK}what it wrote is no answer")
-    return answer_in(lines[0])
+    return [answer_in(it) for it in lines]
 
 
 def presses_told(inputs: Sequence[Input]) -> str:

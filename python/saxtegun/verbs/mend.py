@@ -32,7 +32,7 @@ from saxtegun.processes import held
 from saxtegun.regressions import committed_text
 from saxtegun.sessions import Entry, Sessions, changed, chosen, guard_size, read_sessions, sessions_in
 from saxtegun.solutions import SOLVED, solved_of
-from saxtegun.solving import SECONDS, add_bounds, bounds_of, presses_told
+from saxtegun.solving import SECONDS, add_bounds, bounds_of, presses_told, unknown_told
 from saxtegun.texts import GameText, of_another_text, over, read_named, same_text, say_others
 
 USAGE = "mend GAME.txt SESSIONS.json [--only PATTERN..] [--in-place] [--levels N] [--within SECONDS]"
@@ -88,13 +88,20 @@ class Work:
             return Left(entry, str(why))
 
 
+def stays_told(kept: int, count: int) -> str:
+    """How many of so many inputs stay."""
+    if kept < count:
+        return f"{kept} of its {plural(count, 'input')} {'stays' if kept == 1 else 'stay'}"
+    return f"all of its {count} inputs stay" if count > 1 else "its one input stays" if count else "it had no input"
+
+
 def told(it: Union[Mended, Left], entry: Entry) -> List[str]:
     """What became of a session, in lines."""
     if isinstance(it, Left):
         return [f"not mended: {it.why}"]
-    lost = len(entry.inputs) - it.kept
-    stays = f"all of its {plural(len(entry.inputs), 'input')} stay" if not lost else f"{it.kept} of its {plural(len(entry.inputs), 'input')} stay"
-    return [f"mended: {stays}, and {plural(len(it.presses), 'press', 'presses')} follow", f"    {presses_told(it.presses)}"]
+    follow = f"{plural(len(it.presses), 'press', 'presses')} {'follows' if len(it.presses) == 1 else 'follow'}"
+    longer = f"; whether the level can be won from a longer beginning isn't known: {unknown_told(it.longer)}" if it.longer is not None else ""
+    return [f"mended: {stays_told(it.kept, len(entry.inputs))}, and {follow}{longer}", f"    {presses_told(it.presses)}"]
 
 
 def with_new(sessions: Sessions, mended: List[Mended]) -> str:
