@@ -253,6 +253,21 @@ class DayOfMending(OfLevels):
         self.assertEqual((name, source, inputs, index, demand), ("lost", "", [*lost[:kept], *presses], 1, "solved"))
         self.assertEqual(run("test", self.game, recordings).status, 0)
 
+    def test_what_is_not_known_of_longer_beginnings_is_told(self) -> None:
+        drawing = "\n".join(["##########", *["#........#"] * 2, "#.P*O....#", *["#........#"] * 3, "##########"])
+        game, recordings = self.with_level(1, drawing), self.write_entries([["wanders", ["", [0, 3, 2, 2], "", 1], "solved"]])
+        said, presses = self.told(run("mend", game, recordings), 0)
+        self.assertEqual(said, f"all of its 4 inputs stay, and {shortest(behind(read(drawing), [0, 3, 2, 2]))} presses follow")
+        for levels in (20, 60):
+            said, presses = self.told(run("mend", game, recordings, "--levels", levels), 0)
+            self.assertRegex(said, f"^[12] of its 4 inputs stays?, and {len(presses)} presses follow; whether the level can be won from a longer beginning isn't known: no list of up to [0-9]+ press")
+            self.assertTrue(wins_last(read(drawing), [*[0, 3, 2, 2][: int(said[0])], *presses]))
+
+    def test_what_one_input_and_one_press_do_is_told_so(self) -> None:
+        game = self.with_level(1, "######\n#P.*O#\n######")
+        recordings = self.write_entries([[name, ["", inputs, "", 1], "solved"] for name, inputs in (("one", [3]), ("none", []))])
+        self.assertEqual([self.told(run("mend", game, recordings), it)[0] for it in (0, 1)], ["its one input stays, and 1 press follows", "it had no input, and 2 presses follow"])
+
     def test_what_was_taken_back_may_win_again(self) -> None:
         """A level is lost, and then the press is taken back: all inputs stay."""
         lost = behind(read(self.LOSING), [0])
@@ -321,8 +336,10 @@ class DayOfSearchesThatAreLeft(OfLevels):
         streams = {"stdout": subprocess.DEVNULL, "stderr": subprocess.PIPE, **streams}
         return subprocess.Popen(command, cwd=self.room, env={**environment(), "TMPDIR": str(folder)}, stdin=subprocess.DEVNULL, preexec_fn=hear_signals, **streams)
 
-    def end(self, ran: subprocess.Popen[bytes], number: int) -> None:
-        """Ends the command as it waits for a solution."""
+    SAID = b"mend: ended early, with 1 recording mended in "
+
+    def end(self, ran: subprocess.Popen[bytes], number: int) -> bytes:
+        """Ends the command as it waits for a solution; what it says."""
         for _ in range(6000):
             if (self.room / "number").exists() and (self.room / "number").read_text().strip():
                 break
@@ -336,13 +353,14 @@ class DayOfSearchesThatAreLeft(OfLevels):
             os.kill(int((self.room / "number").read_text()), 0)
         (self.room / "number").unlink()
         self.assertEqual([*(self.room / "temp").iterdir(), *self.room.glob(".saxtegun-*")], [])
+        return errors
 
     def test_a_signal_lets_what_is_mended_be_written(self) -> None:
         game = self.with_level(1, DayOfMending.WALLED)
         for number in (signal.SIGTERM, signal.SIGHUP, signal.SIGINT):
             recordings = self.write_entries(self.entries)
             with self.subTest(number), self.command(1, "mend", game, recordings, "--only", "*level*", "--in-place") as ran:
-                self.end(ran, number)
+                self.assertIn(self.SAID, self.end(ran, number))
                 entries = json.loads(recordings.read_text(encoding="utf-8"))
                 self.assertEqual(entries[1:], self.entries[1:])
                 self.assertTrue(wins_last(read(DayOfMending.WALLED), entries[0][1][1][SHORTEST[0] :]))
@@ -364,7 +382,7 @@ class DayOfSearchesThatAreLeft(OfLevels):
             with self.subTest(words[0]), self.command(9, *words, stdout=writes) as ran:
                 os.close(writes)
                 errors = ran.communicate(timeout=300)[1]
-                self.assertEqual((ran.returncode, b"Traceback" in errors), (2, False), errors)
+                self.assertEqual((ran.returncode, b"Traceback" in errors, self.SAID in errors), (2, False, words[0] == "mend"), errors)
         self.assertEqual([name for name, _ in json.loads(saved.read_text(encoding="utf-8"))], ["level 1, solved in 33 presses"])
         entries = json.loads(recordings.read_text(encoding="utf-8"))
         self.assertNotEqual(entries[0], self.entries[0])

@@ -21,7 +21,7 @@ import sys
 from argparse import ArgumentParser, Namespace
 from typing import Dict, List, Optional, Union
 
-from saxtegun.commands import Refused, add_playing, cut, plural, printable
+from saxtegun.commands import Refused, add_playing, cut, plural, printable, say
 from saxtegun.explanations import heading
 from saxtegun.explanations import told as told_of_run
 from saxtegun.files import guard_output, guard_places, write_again
@@ -110,13 +110,15 @@ def with_new(sessions: Sessions, mended: List[Mended]) -> str:
     return changed(sessions_in(sessions.path, text), {it.entry.number: ("level", it.entry.level) for it in mended})
 
 
-def write(mended: List[Mended], sessions: Sessions, given: Namespace) -> None:
-    """Writes the file with what was found, where that is asked for."""
-    if mended and given.in_place:
-        with held():
-            new = with_new(sessions, mended)
-            guard_size(given.sessions, new, len(sessions.entries), "divide it by saxtegun split, and mend the parts")
-            write_again(given.sessions, sessions.text, new)
+def write(mended: List[Mended], sessions: Sessions, given: Namespace) -> bool:
+    """Writes the file with what was found, where that is asked for; whether it did."""
+    if not mended or not given.in_place:
+        return False
+    with held():
+        new = with_new(sessions, mended)
+        guard_size(given.sessions, new, len(sessions.entries), "divide it by saxtegun split, and mend the parts")
+        write_again(given.sessions, sessions.text, new)
+    return True
 
 
 def mend(work: Work, mended: List[Mended]) -> int:
@@ -152,8 +154,11 @@ def main(given: Namespace) -> int:
     work = Work(sessions, game, given)
     try:
         left = mend(work, mended)
-    finally:
-        # also where it is ended in the midst of it: what was found takes long
-        write(mended, sessions, given)
+    except BaseException:
+        # what was found took long
+        if write(mended, sessions, given):
+            say(f"mend: ended early, with {plural(len(mended), 'recording')} mended in {cut(given.sessions)}")
+        raise
+    write(mended, sessions, given)
     print(f"{len(mended)} of {plural(len(sessions.entries), 'recording')} mended{'' if given.in_place or not mended else ', and not written: --in-place does'}")
     return 1 if left else 0
