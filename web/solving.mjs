@@ -1,6 +1,7 @@
 // @ts-check
 // What wins from the frame that is looked at, in the state of the page: what the engine is asked for, what it found, and its presses as a ghost, which stands
 // in no recording.
+import { before, descriptionOf } from "./descriptions.mjs";
 import { isSameList } from "./past.mjs";
 import { firstFrom } from "./recording.mjs";
 import { framesOf, gameOf, isPlayOf, isPlayed, sourceOf, takenOf } from "./replaying.mjs";
@@ -59,6 +60,15 @@ export function solutionNow(state) {
   return asked === null || came === null || presses === undefined || switchedOff(asked.source, presses) ? null : { asked, presses, frames: came.frames };
 }
 
+// The words of a rule behind its cells, without those of a message.
+function commandsOf({ words }) {
+  const heard = before("message", words);
+  return heard.slice(heard.lastIndexOf("]") + 1);
+}
+
+// Of which presses alone something is known: a search takes one by which a rule restarts the level as lost, though another level may come back.
+const apartTold = ({ source }) => (descriptionOf(source).rules.some((rule) => commandsOf(rule).includes("restart")) ? " without a restart by a rule" : "");
+
 // What is said beside where time goes on by itself: a search is for presses alone, and by ticks more may be won, or by fewer presses.
 const ticksTold = ({ source, isTicked }) => (isTicked && hasClock(source) ? " Its ticks are not tried." : "");
 
@@ -70,12 +80,12 @@ export function solutionTold(state) {
   const from = asked.inputs.length === 0 ? "the start" : `input ${asked.inputs.length}`;
   if (came === null) return `Looking for presses that win from ${from} on \u2026`;
   if (came.solution === null) return `Nothing is known: ${refusalTold(came.fault)}.`;
-  const { solved, unsolvable, outOfBounds, over } = came.solution;
+  const { solved, unsolvable, outOfBounds, over } = came.solution, apart = apartTold(asked);
   const word = solved && switchedOff(asked.source, solved);
   if (word) return `Not known: the fewest presses that win have one that this game switches off by \`${word}\`.`;
-  if (solved) return `Won in ${pressesTold(solved.length)} from ${from} on, and in no fewer: ${solved.map((it) => PRESSES[it]).join(" ")}.${ticksTold(asked)}`;
-  if (unsolvable) return `No presses win from ${from} on.${ticksTold(asked)}`;
-  if (outOfBounds) return `Not known: no list of up to ${pressesTold(outOfBounds.inputs)} wins from there, and longer ones lead to more than ${outOfBounds.levels.toLocaleString("en")} levels of play, as many as are kept.`;
+  if (solved) return `Won in ${pressesTold(solved.length)} from ${from} on, and in no fewer${apart}: ${solved.map((it) => PRESSES[it]).join(" ")}.${ticksTold(asked)}`;
+  if (unsolvable) return `No presses win from ${from} on${apart}.${ticksTold(asked)}`;
+  if (outOfBounds) return `Not known: no list of up to ${pressesTold(outOfBounds.inputs)} wins from there${apart}, and longer ones lead to more than ${outOfBounds.levels.toLocaleString("en")} levels of play, as many as are kept.`;
   return over ? "All levels are won." : "There is no level to win.";
 }
 

@@ -59,6 +59,23 @@ it("each answer is told", async () => {
   }
 });
 
+it("of a game with a rule that restarts it is said of which presses it is told", async () => {
+  const out = { solution: { outOfBounds: { inputs: 1, levels: 10 } }, frames: [], fault: null };
+  for (const [command, apart] of [["restart", " without a restart by a rule"], ["again restart", " without a restart by a rule"], ["message restart", ""], ["again (restart)", ""]]) {
+    for (const [answer, told] of [
+      [found([0]), `Won in 1 press from the start on, and in no fewer${apart}: up.`],
+      [{ solution: { unsolvable: true }, frames: [], fault: null }, `No presses win from the start on${apart}.`],
+      [out, `Not known: no list of up to 1 press wins from there${apart}, and longer ones lead to more than 10 levels of play, as many as are kept.`],
+    ]) {
+      const bench = await played([], answer);
+      await bench.act(edited, GAME.replace("WINCONDITIONS", `[ > Player | Wall ] -> ${command}\nWINCONDITIONS`));
+      await bench.act(solveAsked);
+      await moved();
+      assert.equal(solutionTold(bench.state), told);
+    }
+  }
+});
+
 it("of a game with a clock it is said that ticks are not tried", async () => {
   for (const [answer, told] of [[found([0]), "Won in 1 press from the start on, and in no fewer: up. Its ticks are not tried."], [{ solution: { unsolvable: true }, frames: [], fault: null }, "No presses win from the start on. Its ticks are not tried."]]) {
     const bench = await played([], answer);
