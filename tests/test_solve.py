@@ -576,6 +576,17 @@ class DayOfRestarts(OfAGame):
         self.assertIn(f"level 1: not known: {said}\n", answer.out)
         self.assertIn(said, run("mend", game, recordings).out)
 
+    def test_what_was_lost_before_a_rule_restarted_the_level_stays(self) -> None:
+        """The crate is lost, the wall at the left restarts the level, and the last press loses it again."""
+        game = self.write("game.txt", f"{self.SPIKED}########\n#.....##\n##p.c.o#\n#......#\n########\n")
+        inputs = [0, 3, 3, 2, 1, 1, 1, 3, 3, 0, 3, 2]
+        recordings = self.write_entries([["lost", ["", inputs, "", 0], "solved"]])
+        answer = run("mend", game, recordings, "--in-place")
+        longer = "whether the level can be won from a longer beginning isn't known: no presses win it without a restart by a rule"
+        self.assertIn(f": mended: 11 of its 12 inputs stay, and 3 presses follow; {longer}\n    left down right\n", answer.out)
+        self.assertEqual(json.loads(recordings.read_text(encoding="utf-8"))[0][1][1], [*inputs[:11], 1, 2, 3])
+        self.assertEqual(run("test", game, recordings).status, 0)
+
     def test_what_is_said_of_presses_is_said_of_those_without_a_restart(self) -> None:
         game = self.write("game.txt", f"{self.SPIKED}p.co.#\n")
         self.assertIn("level 1: solved in 2 presses, and in no fewer without a restart by a rule\n", run("solve", game).out)
@@ -616,6 +627,16 @@ class AnswersOfASolver(unittest.TestCase):
         self.assertEqual(solving.solution_of(entry, Bounds(1, end=0)), Unasked(solving.LATE))
         with mock.patch.object(solving, "solver_words", lambda: ["/bin/sh", "-c", "sleep 60"]):
             self.assertEqual(solving.solution_of(entry, Bounds(1, 0.2)), Unasked("not answered in 0.2 s, as long as a level has: let it keep fewer (--levels)"))
+
+    def test_several_sessions_are_asked_about_at_once_or_else_the_first_alone(self) -> None:
+        entry = Entry(0, "a", "title a\n", [], "", 0, {}, False)
+        line = '{"session":0,"solution":{"over":true}}'
+        for several, count in ((f"echo '{line}'; echo '{line}'", 2), ("echo memory >&2; exit 2", 1), ("exec sleep 60", 1)):
+            script = f"case $(grep -o 'title a' | wc -l) in 1) echo '{line}';; *) {several};; esac"
+            with mock.patch.object(solving, "solver_words", lambda: ["/bin/sh", "-c", script]):
+                self.assertEqual(solving.solutions_of([entry, entry], Bounds(1, 2.0)), [Unasked("all levels are won")] * count)
+        with mock.patch.object(solving, "solver_words", lambda: ["/bin/sh", "-c", "exec sleep 60"]):
+            self.assertEqual(solving.solution_of(entry, Bounds(1, end=time.monotonic() + 0.3)), Unasked(solving.LATE))
 
     def test_a_solver_that_there_is_no_room_to_ask_is_told(self) -> None:
         with mock.patch.object(solving.tempfile, "TemporaryFile", side_effect=OSError(28, "No space left on device")):
