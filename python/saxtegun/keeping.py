@@ -88,7 +88,7 @@ def steps_back(begin: int, end: int) -> List[int]:
 
 
 def halved(of: Beginnings, low: int, high: int, is_full: bool) -> int:
-    """A beginning that can be won, from one that can on, such that the next one can't, or is the one that is told as too long."""
+    """The longest beginning by halving that can be won: `low` can, and none from `high` on is known to."""
     while low + 1 < high:
         middle = (low + high) // 2
         if of.is_won(middle, is_full):
@@ -99,7 +99,7 @@ def halved(of: Beginnings, low: int, high: int, is_full: bool) -> int:
 
 
 def won_back(of: Beginnings, is_full: bool) -> Optional[int]:
-    """The first beginning by steps back that can be won, and with it all between it and the one before."""
+    """The first beginning by steps back that can be won, or a longer one between it and the step before."""
     above = of.end + 1
     for count in steps_back(of.begin, of.end):
         if of.is_won(count, is_full):
@@ -109,7 +109,7 @@ def won_back(of: Beginnings, is_full: bool) -> Optional[int]:
 
 
 def found(of: Beginnings) -> Optional[int]:
-    """A long beginning that can be won: by small bounds, or else by all there are, in the level's own beginning, where most is lost, or by steps back."""
+    """A long beginning that can be won. Small bounds may tell, or the level's own beginning: where that is lost all are; else all bounds are needed step by step."""
     small = won_back(of, False)
     if small is not None or of.is_lost(of.begin):
         return small
