@@ -576,6 +576,15 @@ class DayOfRestarts(OfAGame):
         self.assertIn(f"level 1: not known: {said}\n", answer.out)
         self.assertIn(said, run("mend", game, recordings).out)
 
+    def test_a_restart_to_the_same_beginning_leaves_nothing_out(self) -> None:
+        plain = self.SPIKED.replace("run_rules_on_level_start\n", "").replace("[ Mark ] -> [ Ghost ]\n", "")
+        for text, status, said in (
+            (plain, 1, "level 1: can't be won: no presses win it\n"),
+            (plain.replace("-> restart\n", "-> restart\n[ > Player | Crate ] -> checkpoint\n"), 2, "level 1: not known: no presses win it without a restart by a rule\n"),
+        ):
+            answer = run("solve", self.write("game.txt", text + DayOfStarts.LOST + "\n"))
+            self.assertEqual((answer.status, answer.out.splitlines(keepends=True)[0]), (status, said))
+
     def test_what_was_lost_before_a_rule_restarted_the_level_stays(self) -> None:
         """The crate is lost, the wall at the left restarts the level, and the last press loses it again."""
         game = self.write("game.txt", f"{self.SPIKED}########\n#.....##\n##p.c.o#\n#......#\n########\n")

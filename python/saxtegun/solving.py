@@ -10,6 +10,7 @@ from typing import Any, List, NamedTuple, Optional, Sequence, Tuple, Union
 
 from saxtegun.commands import Refused, add_ticks, cut, plural, seconds_in
 from saxtegun.descriptions import before, description_of
+from saxtegun.differences import START, keywords_of
 from saxtegun.games import game_of
 from saxtegun.processes import Unanswered, watched
 from saxtegun.programs import solver_words
@@ -147,22 +148,34 @@ def solutions_of(entries: Sequence[Entry], bounds: Bounds) -> List[Answer]:
         raise Refused(f"{CANT_ASK}{why.strerror}") from None
     if len(answers) < len(entries):
         return solutions_of(entries[:1], bounds) if len(entries) > 1 else answers
-    return [as_known(answer, it.source) for answer, it in zip(answers, entries)]
+    return [as_known(answer, it) for answer, it in zip(answers, entries)]
 
 
-def as_known(answer: Answer, source: str) -> Answer:
+def as_known(answer: Answer, entry: Entry) -> Answer:
     """What an answer says of a game that may switch keys off, or have rules that restart a level."""
-    switch = switched_off(source, answer.inputs) if isinstance(answer, Solved) else None
+    switch = switched_off(entry.source, answer.inputs) if isinstance(answer, Solved) else None
     if switch is not None:
         return Unasked(f"the fewest presses that win have one that the game switches off by `{switch}`")
-    if isinstance(answer, Unasked) or not has_restarts(source):
+    if isinstance(answer, Unasked) or not may_restart_elsewhere(entry):
         return answer
     return answer._replace(has_restarts=True) if isinstance(answer, (Solved, OutOfBounds)) else OnlyByRestart()
 
 
+def may_restart_elsewhere(entry: Entry) -> bool:
+    """Whether a rule may restart a level to one that a search hasn't seen, which takes such a press as lost. A search from the level's own beginning has seen
+    it, unless a checkpoint is kept or rules run at the start."""
+    source = entry.source
+    return has_restarts(source) and (bool(entry.inputs) or gives(source, "checkpoint") or START in keywords_of(source))
+
+
 def has_restarts(source: str) -> bool:
-    """Whether a rule of a game may give `restart`. A search takes such a press as lost, though the level that comes back may be none that it has seen."""
-    return any("restart" in commands_of(it.words) for it in description_of(source).rules)
+    """Whether a rule of a game may give `restart`."""
+    return gives(source, "restart")
+
+
+def gives(source: str, command: str) -> bool:
+    """Whether a rule of a game may give a command."""
+    return any(command in commands_of(it.words) for it in description_of(source).rules)
 
 
 def commands_of(words: Sequence[str]) -> Sequence[str]:

@@ -6,8 +6,9 @@ or won as it loads, without a press; or no presses win it; or nothing is known,
 since more levels of play were reached than are kept, or time was over. The
 presses stand below it. --level N looks at the N-th level alone; messages don't
 count. Of a game with a clock presses alone are tried, and no tick between them.
-Where a rule gives `restart`, what such a restart leads to isn't searched: of a
-level that no presses win without one it isn't known whether it can be won.
+Where a rule gives `restart`, what such a restart leads to isn't searched. In a
+game with `checkpoint` or `run_rules_on_level_start` it may be another beginning:
+of a level that no presses win without one it isn't known whether it can be won.
 
 With --save each solution is added to SESSIONS.json as a recording of its level,
 with the empty text in place of the game's: `saxtegun test GAME.txt SESSIONS.json`
