@@ -232,7 +232,7 @@ class Released(InAFreshClone):
         self.assertEqual(files, ["SHA256SUMS", "saxtegun.html", "saxtegun.wasm"])
         checked = subprocess.run(["sha256sum", "--check", "--quiet", "--strict", "SHA256SUMS"], cwd=TOP / "released", stdout=subprocess.PIPE, stderr=subprocess.PIPE)
         self.assertEqual((checked.returncode, checked.stdout, checked.stderr), (0, b"", b""))
-        self.assertLess(sum((TOP / "released" / it).stat().st_size for it in files), 1_200_000)
+        self.assertLess(sum((TOP / "released" / it).stat().st_size for it in files), 1_210_000)
 
     def test_a_fresh_clone_plays(self) -> None:
         status, out, errors = self.called("lines", EXAMPLE)

@@ -518,7 +518,7 @@ class Release(unittest.TestCase):
         called = subprocess.run([str(top / "dev/release"), "--released"], capture_output=True, text=True)
         self.assertEqual((called.returncode, called.stderr), (0, ""))
         self.assert_released(top)
-        with self.assertRaisesRegex(Broken, "more than 1200000"):
+        with self.assertRaisesRegex(Broken, "more than 1210000"):
             make_released(top, self.version, os.urandom(1_000_000))
         (top / "README.md").write_text("changed\n")
         called = subprocess.run([str(top / "dev/release"), "--released"], capture_output=True, text=True)
