@@ -125,12 +125,6 @@ class OfRules(OnOneRule):
                 self.write("docs/architecture.md", f"# A map\n\n### {heading}\n\n- *a rule*: `pz_one/src/lib.rt`\n  `{name}`\n")
                 self.assertEqual(self.told(), lines)
 
-    def test_ids_are_no_words_of_the_pages(self) -> None:
-        self.write("docs/other.md", "many words\n" * 9_985)
-        self.assertEqual(self.told(), [])
-        self.write("docs/other.md", "many words\n" * 9_995)
-        self.assertEqual(self.told(), ["the pages have 20,009 words, more than 20,000"])
-
 
 class OfTheBook(OnOneRule):
     def setUp(self) -> None:
@@ -236,13 +230,6 @@ class OfDocuments(OnSmallCrates):
     def test_a_cell_of_the_front_page_is_no_paragraph(self) -> None:
         self.write("README.md", f"# Front\n\n| a | {'word ' * 31}|\n")
         self.assertEqual(self.told(PAGE), (1, ["README.md:3: a cell of more than 30 words"]))
-
-    def test_all_pages_together_have_not_too_many_words(self) -> None:
-        many = "many words\n" * 9_980
-        for page, lines in (("docs/command.md", []), ("docs/other.md", ["the pages have 20,013 words, more than 20,000"])):
-            with self.subTest(page):
-                self.write(page, many)
-                self.assertEqual(self.told(PAGE), (bool(lines), lines))
 
     def test_a_crate_without_a_line_above_it(self) -> None:
         self.write("crates.txt", "# A tower\n\npz_one:\n")
