@@ -1,6 +1,6 @@
 -- How many places a row can have: one for each cell and gap. Without a gap, and in a small level with one, that is within the limit of a
 -- search.
-use Rattle.pz_grid.proofs.Common.{Action, Dir, Down, Grid, IsLawful, Left, MOST_SIDE, None, Ok, Right, RuleRow, Up, [], ap, arith, common_steps, gap_count, gather_few, length, line_count, line_length, mul-le-mul_right, places, refl, places_or_limit, ℕ, ◌*◌, ◌≡◌, ◌≤◌}
+use Rattle.pz_grid.proofs.Common.{Action, Dir, Down, Grid, IsLawful, Left, MOST_SIDE, None, Ok, Right, RuleRow, Up, ap, arith, common_steps, gap_count, gather_few, length, line_count, line_length, mul-le-mul_right, places, refl, places_or_limit, ℕ, ◌*◌, ◌≡◌, ◌≤◌}
 use Rattle.pz_grid.proofs.FoundLemmas.{found_with, found_at, found_in, found_at_all, found_in_all, places_all, searched-within}
 
 found_at_few : (grid : Grid) (row : RuleRow) (dir : Dir) (line start : ℕ) → length (found_at grid row dir line start) ≤ gap_count grid row dir

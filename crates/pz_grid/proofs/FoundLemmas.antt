@@ -1,7 +1,6 @@
 -- The places of a row, found line by line.
 use Rattle.pz_grid.proofs.Common.{Bool, Dir, Err, Grid, List, MATCH_LIMIT, MatchLimit, Ok, Place, RuleRow, StartsNowhere, [], ap, arith, false, filter, filter-append, flat_map, gap_count, gather, gather_none, length, line_count, line_length, ltb-false, ltb-true, pairs_at, pairs_in, place_in, places, range_with_len, refl, row_holds, sym, ℕ, ◌<◌, ◌∙◌, ◌∷◌, ◌≡◌, ◌≤◌}
 use Rattle.std.proofs.lemmas.List.Concat.{flat_map_single}
-use Rattle.pz_grid.specs.declared.placing.GridFault.{GridFault}
 use Rattle.pz_grid.specs.Places.{places_or_limit}
 
 -- a filter of what is gathered is gathered from what is filtered
@@ -18,10 +17,6 @@ searched-within grid row dir within = grind (arith, ltb-true MATCH_LIMIT (length
 pub searched-over : (grid : Grid) (row : RuleRow) (dir : Dir) → MATCH_LIMIT < length (places grid row dir) → places_or_limit grid row dir ≡ Err MatchLimit
 unfolding places_or_limit
 searched-over grid row dir over = grind (arith, ltb-false MATCH_LIMIT (length (places grid row dir)))
-
--- whatever fault it has
-pub over_limit : (grid : Grid) (row : RuleRow) (dir : Dir) (fault : GridFault) → MATCH_LIMIT < length (places grid row dir) → Err fault ≡ places_or_limit grid row dir
-over_limit grid row dir MatchLimit over = sym (searched-over grid row dir over)
 
 -- what it gives are the places
 pub searched-gives : (grid : Grid) (row : RuleRow) (dir : Dir) (found : List Place) → places_or_limit grid row dir ≡ Ok found → found ≡ places grid row dir

@@ -1,5 +1,5 @@
 -- The objects that a row names, as one set.
-use Rattle.pz_grid.proofs.Common.{AreNamed, Bool, IsTrue, IsWithin, Item, List, [], arith, eq-eqb, eqb-true, false, list_all, list_any, marks_cell, member, names, names_object, or_left, or_right, refl, sym, true, ℕ, ◌↔◌, ◌∙◌, ◌∷◌, ◌≡◌}
+use Rattle.pz_grid.proofs.Common.{AreNamed, Bool, IsTrue, IsWithin, Item, List, [], arith, eq-eqb, eqb-true, false, list_all, list_any, marks_cell, member, names_object, or_left, or_right, refl, sym, true, ℕ, ◌↔◌, ◌∙◌, ◌∷◌, ◌≡◌}
 
 -- every object that is named is in a set, or one isn't
 cell_marked : (marks : List ℕ) (cell : List Item) → ((object : ℕ) → names_object object cell ≡ true → member marks object ≡ true) → marks_cell marks cell ≡ true

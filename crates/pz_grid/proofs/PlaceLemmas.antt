@@ -1,5 +1,5 @@
 -- The places of a row are those pairs that hold.
-use Rattle.pz_grid.proofs.Common.{All-contains, All-contains_itself, All-filter, Bool, Contains, Contains-append_cases, Contains-append_left, Contains-append_right, Dir, Grid, IfSome, IsRow, Item, List, None, Option, Place, RuleRow, Some, [], along, and_from, and_parts, arith, cases_eq, cell_holds, cond, distance, eq-eqb, eqb-true, false, filter, filter_passes, flat_map, gap_count, get_or, get_or-map-range_with_len, holds_at, if◌then◌else◌, inl, inr, is_some, le-leb, length, length-map-range_with_len, line_count, line_length, line_of, lt-leb, nat_eq, pairs, pairs_at, pairs_in, place_in, places, range_with_len, refl, row_holds, start_of, still_holds, suc, true, zero, ℕ, ◌+◌, ◌<◌, ◌||◌, ◌∙◌, ◌∷◌, ◌≡◌, ◌≤◌}
+use Rattle.pz_grid.proofs.Common.{All-contains, All-contains_itself, All-filter, Bool, Contains, Contains-append_cases, Contains-append_left, Contains-append_right, Dir, Grid, IfSome, IsRow, List, None, Option, Place, RuleRow, Some, [], along, and_from, and_parts, arith, cases_eq, cell_holds, cond, distance, eq-eqb, eqb-true, false, filter, filter_passes, flat_map, gap_count, get_or, get_or-map-range_with_len, holds_at, if◌then◌else◌, inl, inr, is_some, le-leb, length, length-map-range_with_len, line_count, line_length, line_of, lt-leb, nat_eq, pairs, pairs_at, pairs_in, place_in, places, range_with_len, refl, row_holds, start_of, still_holds, suc, true, zero, ℕ, ◌+◌, ◌<◌, ◌||◌, ◌∙◌, ◌∷◌, ◌≡◌, ◌≤◌}
 use Rattle.pz_grid.proofs.FoldLemmas.{each_from_all}
 
 -- what is in one of the lists is in all of them together

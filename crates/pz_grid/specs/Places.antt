@@ -10,6 +10,7 @@ use Rattle.pz_game.specs.Pattern.{RuleRow}
 use Rattle.pz_grid.specs.declared.placing.GridFault.{GridFault}
 use Rattle.pz_grid.specs.declared.placing.GridFault.TheVariants.{MatchLimit}
 use Rattle.pz_grid.specs.declared.placing.Place.{Place}
+use Rattle.pz_grid.specs.declared.placing.TooManyPlaces.{TooManyPlaces}
 use Rattle.pz_grid.specs.declared.placing.TheConstants.{MATCH_LIMIT}
 use Rattle.pz_sheet.specs.Grid.{Grid}
 use Rattle.pz_sheet.specs.Line as lines
@@ -87,9 +88,9 @@ unfoldable pub places_or_limit : Grid → RuleRow → Dir → Result (List Place
 places_or_limit grid row dir = if nat_lt MATCH_LIMIT (length (places grid row dir)) then Err MatchLimit else Ok (places grid row dir)
 
 -- a search adds these places to those found before, unless there are too many together
-abbrev pub Adds : List Place → List Place → List Place → Result ⊤ GridFault → Type 0
+abbrev pub Adds : List Place → List Place → List Place → Result ⊤ TooManyPlaces → Type 0
 Adds before more after (Ok added) = after ≡ before ++ more
-Adds before more after (Err fault) = MATCH_LIMIT < length (before ++ more)
+Adds before more after (Err too_many) = MATCH_LIMIT < length (before ++ more)
 
 -- a row holds at a place; the place has the gap 0 if the row has no gap
 abbrev pub still_holds : Grid → Dir → RuleRow × Place → Bool

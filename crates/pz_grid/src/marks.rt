@@ -1,6 +1,6 @@
 //! The marks of a level: the objects that each row, each column and the whole may have.
 
-ghost use Rattle.std.specs.Prelude.{◌≡◌, ℕ, ◌<◌, ◌&&◌, All, IfOk, OnOk, OnErr, true, length, nat_eq, []};
+ghost use Rattle.std.specs.Prelude.{◌≡◌, ℕ, ◌<◌, ◌&&◌, All, IfErr, IfOk, OnOk, OnErr, true, length, nat_eq, []};
 ghost use Rattle.std.specs.List.{list_any};
 ghost use Rattle.pz_sets.specs.Sets.{member};
 ghost use Rattle.pz_sets.specs.declared.set.TheConstants.{CAPACITY};
@@ -10,8 +10,10 @@ ghost use Rattle.pz_game.specs.Items.{names, names_object};
 ghost use Rattle.pz_game.specs.Level.{is_playable, entry_at};
 ghost use Rattle.pz_bare.specs.Loading.{level_of_entry};
 ghost use Rattle.pz_grid.specs.Marks.{is_marked, IsExact, IsMore};
+ghost use Rattle.pz_grid.specs.declared.placing.GridFault.TheVariants.{Memory};
 
 use crate::Level;
+use crate::placing::GridFault;
 use pz_bare::BareLevel;
 use pz_game::game::Game;
 use pz_game::masks::names;
@@ -22,17 +24,31 @@ use std::alloc::{AllocError, Global};
 
 impl Level {
     /// Loads the entry of LEVELS of this number, which must be a level. Entries are numbered from 0. Err: memory was refused.
-    pub fn load(alloc: Global, game: &Game, index: usize) -> Result<Level, AllocError>
+    pub fn load(alloc: Global, game: &Game, index: usize) -> Result<Level, GridFault>
         requires { is_playable (entry_at game.now index) ≡ true }
         ensures loaded { IfOk result (λ level. level.grid ≡ level_of_entry game.now index) }
         ensures lawful { IfOk result (λ level. IsLawful level.grid) }
         ensures exact { IfOk result IsExact }
+        ensures memory { IfErr result (λ fault. fault ≡ Memory) }
     {
-        Level::marked(alloc, BareLevel::load(alloc, game, index)?)
+        let bare = BareLevel::load(alloc, game, index)?;
+        let level = Level::marked(alloc, bare)?;
+        Ok(level)
     }
 
     /// A copy of the level. The marks of the copy are exactly what stands in each line. Err: memory was refused.
-    pub fn copy(&self) -> Result<Level, AllocError>
+    pub fn copy(&self) -> Result<Level, GridFault>
+        ensures copied { IfOk result (λ level. level.grid ≡ self.now.grid) }
+        ensures lawful { IfOk result (λ level. IsLawful level.grid) }
+        ensures exact { IfOk result IsExact }
+        ensures memory { IfErr result (λ fault. fault ≡ Memory) }
+    {
+        let level = self.copied()?;
+        Ok(level)
+    }
+
+    /// Like `copy`, for callers whose only fault is want of memory.
+    pub fn copied(&self) -> Result<Level, AllocError>
         ensures copied { IfOk result (λ level. level.grid ≡ self.now.grid) }
         ensures lawful { IfOk result (λ level. IsLawful level.grid) }
         ensures exact { IfOk result IsExact }
@@ -48,7 +64,7 @@ impl Level {
         ensures kept { OnErr result (self.new.grid ≡ self.old.grid) }
     {
         if !self.bare.same_size(&other.bare) {
-            *self = other.copy()?;
+            *self = other.copied()?;
             return Ok(());
         }
         self.bare.copy_from(&other.bare)?;

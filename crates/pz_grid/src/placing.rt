@@ -1,12 +1,13 @@
 //! The places of a row of a rule. A row holds at a place if all its cells are on the map and fit there.
 
 ghost use Rattle.std.specs.List.{list_all, enumerate_from};
-ghost use Rattle.std.specs.Prelude.{◌≡◌, take, true, ◌+◌, ◌*◌, ◌<◌, ◌≤◌, cond, [], ◌∷◌, ◌^◌, filter, length, IfOk, IfSome, MatchOption};
+ghost use Rattle.std.specs.Prelude.{◌≡◌, ◌≢◌, take, true, ◌+◌, ◌*◌, ◌<◌, ◌≤◌, cond, [], ◌∷◌, ◌^◌, filter, length, IfOk, IfErr, IfSome, MatchOption, Ok, Err};
 ghost use Rattle.std.specs.Result.{result_map_both};
 ghost use Rattle.pz_game.specs.declared.limits.TheConstants.{MOST_SIDE};
 ghost use Rattle.pz_game.specs.Pattern.{AreOf, IsRowOf, AreRowsOf};
 ghost use Rattle.pz_grid.specs.Admitted.{admitted_count, searches_line, starts_in, start_count};
 ghost use Rattle.pz_grid.specs.Places.{Adds, position_of, distance, cell_holds, row_holds, line_count, line_length, place_in, holds_behind, pairs_at, head_of, pairs_in, places, places_or_limit, starts_with, still_holds, still_matches};
+ghost use Rattle.pz_grid.specs.declared.placing.GridFault.TheVariants.{MatchLimit, Memory};
 ghost use Rattle.pz_sets.specs.Next.{IsNext};
 ghost use Rattle.pz_sheet.specs.Grid.{IsLawful};
 ghost use Rattle.pz_sheet.specs.Line.{IsOnLine, dir_of, line_count as lines_along};
@@ -54,11 +55,24 @@ impl Model for Found {
     ghost invariant = { λ a. length a.places.items ≤ MATCH_LIMIT };
 }
 
-/// Why a search has no answer: the row has more places than `MATCH_LIMIT`.
+/// Why a level has no answer: memory was refused, or the row has more places than `MATCH_LIMIT`.
 #[derive(Clone, Copy, Debug, PartialEq, Eq)]
 pub enum GridFault {
+    Memory,
     MatchLimit,
 }
+
+impl From<AllocError> for GridFault {
+    ghost from_gives = { λ _ fault. fault ≡ Memory };
+
+    fn from(_: AllocError) -> GridFault {
+        GridFault::Memory
+    }
+}
+
+/// A search has found more places than `MATCH_LIMIT`.
+#[derive(Clone, Copy)]
+struct TooManyPlaces;
 
 /// What a call found, or else the end of the function with the fault that it found.
 macro_rules! or_fault {
@@ -187,11 +201,11 @@ fn search_in<'a, const N: usize>(sheet: &'a Sheet<N>, row: &'a Row, walk: Walk) 
 impl Found {
     /// Adds a place, unless there are `MATCH_LIMIT` already. (Inlined: each place that a search finds comes here.)
     #[inline(always)]
-    fn add(&mut self, place: Place) -> Result<Result<(), GridFault>, AllocError>
+    fn add(&mut self, place: Place) -> Result<Result<(), TooManyPlaces>, AllocError>
         ensures { IfOk result (Adds self.old (place ∷ []) self.new) }
     {
         if self.places.len() == MATCH_LIMIT {
-            return Ok(Err(GridFault::MatchLimit));
+            return Ok(Err(TooManyPlaces));
         }
         if self.places.is_empty() {
             self.places.reserve(SOME_PLACES)?;
@@ -217,7 +231,7 @@ fn add_place<const N: usize>(
     place: Place,
     from: usize,
     found: &mut Found,
-) -> Result<Result<(), GridFault>, AllocError>
+) -> Result<Result<(), TooManyPlaces>, AllocError>
     requires of_game { IsRowOf sheet.now.grid.layers row.now }
     requires begun { list_all (cell_holds sheet.now.grid row.now dir place)
         (take from (enumerate_from 0 row.now.cells)) ≡ true }
@@ -277,7 +291,7 @@ fn add_places_with_gaps<const N: usize>(
     start: u32,
     at: u32,
     found: &mut Found,
-) -> Result<Result<(), GridFault>, AllocError>
+) -> Result<Result<(), TooManyPlaces>, AllocError>
     requires of_game { IsRowOf sheet.now.grid.layers row.now }
     requires on_line { IsOnLine sheet.now.grid walk.line start }
     requires gap_at { row.now.gap_at ≡ Some at }
@@ -303,7 +317,7 @@ fn add_places_at<const N: usize>(
     walk: Walk,
     start: u32,
     found: &mut Found,
-) -> Result<Result<(), GridFault>, AllocError>
+) -> Result<Result<(), TooManyPlaces>, AllocError>
     requires of_game { IsRowOf sheet.now.grid.layers row.now }
     requires on_line { IsOnLine sheet.now.grid walk.line start }
     requires starts { starts_with sheet.now.grid (dir_of walk) walk.line.number (head_of row.now) start ≡ true }
@@ -324,7 +338,7 @@ fn add_places_in<const N: usize>(
     row: &Row,
     walk: Walk,
     found: &mut Found,
-) -> Result<Result<(), GridFault>, AllocError>
+) -> Result<Result<(), TooManyPlaces>, AllocError>
     requires of_game { IsRowOf sheet.now.grid.layers row.now }
     requires line_in { walk.line.number < lines_along sheet.now.grid walk.line.axis }
     ensures { IfOk result
@@ -372,7 +386,7 @@ impl Level {
         dir: Dir,
         line: u32,
         found: &mut Found,
-    ) -> Result<Result<(), GridFault>, AllocError>
+    ) -> Result<Result<(), TooManyPlaces>, AllocError>
         requires of_game { IsRowOf self.now.grid.layers row.now }
         requires line_in { line < line_count self.now.grid dir }
         ensures { IfOk result
@@ -421,18 +435,16 @@ impl Level {
     }
 }
 
-/// The places of a row in a level, in the order of the scan. Left and right scan row by row from the top, each from the left. Up and down
-/// scan column by column from the left, each from the top. At one start gaps ascend. `MatchLimit`: there are more than `MATCH_LIMIT`. Err:
-/// memory was refused. Rule `match.places`.
-pub fn places(
+/// The places of a row, unless there are too many. Err: memory was refused.
+fn places_within_limit(
     alloc: Global,
     level: &Level,
     row: &Row,
     dir: Dir,
-) -> Result<Result<Vec<Place>, GridFault>, AllocError>
+) -> Result<Result<Vec<Place>, TooManyPlaces>, AllocError>
     requires of_game { IsRowOf level.now.grid.layers row.now }
     ensures { IfOk result
-        (λ found. result_map_both (λ places. places.items) (λ fault. fault) found ≡
+        (λ found. result_map_both (λ places. places.items) (λ _. MatchLimit) found ≡
         places_or_limit level.now.grid row.now dir) }
 {
     if !level.is_searched_for(row) {
@@ -447,27 +459,39 @@ pub fn places(
     Ok(Ok(found.all()))
 }
 
+/// The places of a row in a level, in the order of the scan. Left and right scan row by row from the top, each from the left. Up and down
+/// scan column by column from the left, each from the top. At one start gaps ascend. Err: `MatchLimit`, there are more than `MATCH_LIMIT`;
+/// or `Memory`. Rule `match.places`.
+pub fn places(alloc: Global, level: &Level, row: &Row, dir: Dir) -> Result<Vec<Place>, GridFault>
+    requires of_game { IsRowOf level.now.grid.layers row.now }
+    ensures found { IfOk result (λ found. places_or_limit level.now.grid row.now dir ≡ Ok found.items) }
+    ensures fault { IfErr result (λ fault. fault ≢ Memory → places_or_limit level.now.grid row.now dir ≡ Err fault) }
+{
+    match places_within_limit(alloc, level, row, dir)? {
+        Ok(found) => Ok(found),
+        Err(TooManyPlaces) => Err(GridFault::MatchLimit),
+    }
+}
+
 /// The places of a row as `places` gives them, and how many cells a search tests as starts of the row. It tests only lines that `admitted`
 /// counts, and each cell at most once. In a line of up to 128 cells it tests only those that fit by the positions of the objects named
-/// before the row's gap, headings aside. In a longer line it tests all cells, unless it skips the line. Err: memory was refused.
+/// before the row's gap, headings aside. In a longer line it tests all cells, unless it skips the line. Err: as of `places`.
 pub fn places_counted(
     alloc: Global,
     level: &Level,
     row: &Row,
     dir: Dir,
-) -> Result<Result<(Vec<Place>, u64), GridFault>, AllocError>
+) -> Result<(Vec<Place>, u64), GridFault>
     requires of_game { IsRowOf level.now.grid.layers row.now }
-    ensures found { IfOk result
-        (λ counted. result_map_both (λ both. both.0.items) (λ fault. fault) counted ≡
-        places_or_limit level.now.grid row.now dir) }
-    ensures low { IfOk result
-        (λ counted. IfOk counted (λ both. start_count level.now.grid dir both.0.items ≤ both.1)) }
+    ensures found { IfOk result (λ both. places_or_limit level.now.grid row.now dir ≡ Ok both.0.items) }
+    ensures fault { IfErr result (λ fault. fault ≢ Memory → places_or_limit level.now.grid row.now dir ≡ Err fault) }
+    ensures low { IfOk result (λ both. start_count level.now.grid dir both.0.items ≤ both.1) }
     ensures high { IfOk result
-        (λ counted. IfOk counted (λ both. both.1 ≤ admitted_count level.now row.now dir * line_length level.now.grid dir)) }
+        (λ both. both.1 ≤ admitted_count level.now row.now dir * line_length level.now.grid dir) }
 {
-    let found = or_fault!(places(alloc, level, row, dir)?);
+    let found = places(alloc, level, row, dir)?;
     let tested = level.tested_in_all(row, dir);
-    Ok(Ok((found, tested)))
+    Ok((found, tested))
 }
 
 /// The number of lines that are admitted for a row: those whose marks have every object that the row's first cell names as present. A line

@@ -37,7 +37,7 @@ impl Standing {
     pub fn copy(&self) -> Result<Standing, AllocError>
         ensures { IfOk result (λ standing. standing ≡ self.now) }
     {
-        let level = self.level.copy()?;
+        let level = self.level.copied()?;
         let target = self.target.copy()?;
         let past = self.past.copy()?;
         Ok(Standing {

@@ -148,7 +148,7 @@ impl Origin {
         self.settle();
         match self.work.take() {
             Some(equal) => Ok(equal),
-            None => self.level.copy(),
+            None => self.level.copied(),
         }
     }
 

@@ -153,12 +153,12 @@ fn search_level(alloc: Global, level: &Level, row: &Row, dir: Dir) -> Result<Sea
     requires of_game { IsRowOf level.now.grid.layers row.now }
 {
     match places_counted(alloc, level, row, dir) {
-        Ok(Ok((found, tested))) => Ok(Search {
+        Ok((found, tested)) => Ok(Search {
             admitted: admitted(level, row, dir),
             places: found.len(),
             tested,
         }),
-        Ok(Err(_)) | Err(_) => Err(Fail::new("too many places, or no memory")),
+        Err(_) => Err(Fail::new("too many places, or no memory")),
     }
 }
 

@@ -65,8 +65,8 @@ fn found_for(
 {
     match instance.left.items() {
         [row, ..] => match places(alloc, level, row, dir) {
-            Ok(Ok(found)) => Ok(found),
-            Ok(Err(_)) | Err(_) => Err(Fail::new("no places")),
+            Ok(found) => Ok(found),
+            Err(_) => Err(Fail::new("no places")),
         },
         _ => Err(Fail::new("no row")),
     }

@@ -73,7 +73,7 @@ fn search_for(
     let [row, ..] = instance.left.items() else {
         return Err(Fail::new("no row"));
     };
-    let Ok(Ok((found, tested))) = places_counted(alloc, level, row, dir) else {
+    let Ok((found, tested)) = places_counted(alloc, level, row, dir) else {
         return Err(Fail::new("no places"));
     };
     Ok(Search {

@@ -92,7 +92,7 @@ impl<'a> Firings<'a> {
         ensures { IfOk result (λ firings. firings ≡
             record { level = level.now.grid; sequence = firings_of game.now.rules block.now level.now.grid }) }
     {
-        let copy = level.copy()?;
+        let copy = level.copied()?;
         Ok(Firings {
             play: BlockPlay {
                 alloc,

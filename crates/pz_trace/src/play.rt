@@ -42,7 +42,7 @@ fn move_all(game: &Game, level: &mut Level) -> Result<bool, AllocError>
     ensures changed { IfOk result (λ changed. changed ≡ not (same_grid level.new.grid level.old.grid)) }
     ensures size { SameSize level.old.grid level.new.grid }
 {
-    let before = level.copy()?;
+    let before = level.copied()?;
     resolve(game, level);
     Ok(!level.same(&before))
 }

@@ -62,7 +62,7 @@ impl<'a> Tracing<'a> {
           course = stages_of game.now program.now level.now.grid input;
         }) }
     {
-        let copy = level.copy()?;
+        let copy = level.copied()?;
         Ok(Tracing {
             play: Play {
                 alloc,

@@ -15,7 +15,7 @@ use Rattle.pz_sheet.specs.Grid.{Grid}
 use Rattle.pz_grid.specs.Places.{row_of_one, places_or_limit, still_matches}
 use Rattle.pz_grid.specs.Rewriting.{Rewriting, in_rewrite, after_rewriting, rewritten_row}
 use Rattle.pz_turn.specs.declared.outcome.StepFault.{StepFault}
-use Rattle.pz_turn.specs.declared.outcome.StepFault.TheVariants.{MatchLimit}
+use Rattle.pz_turn.specs.declared.outcome.StepFault.TheVariants.{MatchLimit, Memory}
 use Rattle.pz_turn.specs.declared.applying.TheConstants.{COMBINATION_LIMIT, FEW_CELLS}
 use Rattle.pz_turn.specs.Combinations.{combinations}
 use Rattle.pz_program.specs.Commands.{no_commands}
@@ -23,6 +23,7 @@ use Rattle.pz_turn.specs.Outcome.{Outcome}
 
 -- the fault of a search is the fault of the step
 abbrev pub stop_of : GridFault → StepFault
+stop_of grid.Memory = Memory
 stop_of grid.MatchLimit = MatchLimit
 
 -- match.limit

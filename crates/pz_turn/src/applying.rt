@@ -42,6 +42,7 @@ impl From<GridFault> for StepFault {
 
     fn from(fault: GridFault) -> StepFault {
         match fault {
+            GridFault::Memory => StepFault::Memory,
             GridFault::MatchLimit => StepFault::MatchLimit,
         }
     }
@@ -52,7 +53,7 @@ fn search(alloc: Global, level: &Level, row: &Row, dir: Dir) -> Result<Listed<Pl
     requires of_game { IsRowOf level.now.grid.layers row.now }
     ensures { Gives (found_or_stop (places_or_limit level.now.grid row.now dir)) (λ found. found) result }
 {
-    let found = places(alloc, level, row, dir)??;
+    let found = places(alloc, level, row, dir)?;
     Ok(Listed::new(found))
 }
 

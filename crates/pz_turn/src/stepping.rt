@@ -80,7 +80,7 @@ fn copy_in(level: &Level, spare: Option<Level>) -> Result<Level, AllocError>
 {
     match spare {
         Some(spare) => renewed(level, spare),
-        None => level.copy(),
+        None => level.copied(),
     }
 }
 

@@ -1,6 +1,6 @@
-use Rattle.pz_grid.proofs.Common.{MATCH_LIMIT, [], arith, gather_step, gather_too_long, line_count, ◌≡◌}
-use Rattle.pz_grid.proofs.FoundLemmas.{found_in, over_limit, places_all, searched-within}
-use Rattle.pz_grid.proofs.placing.places.Goals as goal
+use Rattle.pz_grid.proofs.Common.{MATCH_LIMIT, [], arith, gather_step, gather_too_long, line_count, sym, ◌≡◌}
+use Rattle.pz_grid.proofs.FoundLemmas.{found_in, places_all, searched-over, searched-within}
+use Rattle.pz_grid.proofs.placing.places_within_limit.Goals as goal
 
 pub returns-in-Err : goal.returns-in-Err
 returns-in-Err c =
@@ -8,7 +8,7 @@ returns-in-Err c =
     let row = c.args.row.now in
     let found = found_in grid row c.args.dir in
     let too_long = gather_too_long found c.loop-line.line (line_count grid c.args.dir) MATCH_LIMIT [] c.loop-line.found c.loop-line.invariant (omega arith) (rw c.in-Err.is at c.in_ok-found.ensures) in
-    over_limit grid row c.args.dir c.in-Err.fault (rw places_all at too_long)
+    sym (searched-over grid row c.args.dir (rw places_all at too_long))
 
 pub loop-line-preserved : goal.loop-line-preserved
 loop-line-preserved c =
