@@ -49,10 +49,10 @@ OF_THE_REPORT = (
 @unittest.skipUnless(BROWSERS and MODULE, "there is no browser, which dev/tools installs, or no module, which engine/build makes")
 class InABrowser(unittest.TestCase):
     def passes(self, script: str, names: Sequence[str], *words: Union[str, Path]) -> None:
-        """Runs the tests of a script of these names, in one browser."""
+        """Runs the tests of a script of these names, in one browser, up to the first that fails."""
         kind = f"In{BROWSERS[0].__name__}"
         patterns = [word for name in names for word in ("-k", f"{kind}.test_{name}")]
-        ran = subprocess.run([TOP / "web" / "tests" / script, *words, *patterns], env={**os.environ, "SAXTEGUN_MODULE": str(MODULE)}, stdout=subprocess.PIPE, stderr=subprocess.STDOUT, check=False)
+        ran = subprocess.run([TOP / "web" / "tests" / script, "-f", *words, *patterns], env={**os.environ, "SAXTEGUN_MODULE": str(MODULE)}, stdout=subprocess.PIPE, stderr=subprocess.STDOUT, check=False)
         told = ran.stdout.decode(errors="replace")
         self.assertEqual(ran.returncode, 0, told)
         self.assertIn(f"\nRan {len(names)} tests in ", told)
