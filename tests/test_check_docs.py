@@ -113,18 +113,6 @@ class OfRules(OnOneRule):
                 self.write("dev/without.txt", line + "\n")
                 self.assertEqual(self.told(), [f"dev/without.txt: {told}"])
 
-    def test_an_entry_of_the_map_leads_to_an_id_but_where_no_answer_shows_it(self) -> None:
-        for heading, name, lines in (
-            ("Rules", "same", []),
-            ("Rules", "other", ["docs/architecture.md:5: nothing that is named there has the id of a rule"]),
-            ("What no answer shows", "other", []),
-            ("Threads", "other", []),
-        ):
-            with self.subTest(f"{heading}: {name}"):
-                self.write("crates/pz_one/src/lib.rt", "pub fn same() {}\npub fn other() {}\n")
-                self.write("docs/architecture.md", f"# A map\n\n### {heading}\n\n- *a rule*: `pz_one/src/lib.rt`\n  `{name}`\n")
-                self.assertEqual(self.told(), lines)
-
 
 class OfTheBook(OnOneRule):
     def setUp(self) -> None:
