@@ -15,8 +15,6 @@ mod program;
 mod reading;
 mod recordings;
 mod sections;
-#[cfg(test)]
-mod tests;
 
 pub use cells::describe_level;
 pub use describing::{describe, outline};

@@ -9,5 +9,3 @@ pub mod lines;
 pub mod open;
 pub mod outcome;
 pub mod solutions;
-#[cfg(test)]
-mod tests;

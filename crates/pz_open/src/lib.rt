@@ -6,5 +6,3 @@ pub mod opened;
 pub mod place;
 pub mod sessions;
 pub mod telling;
-#[cfg(test)]
-mod tests;

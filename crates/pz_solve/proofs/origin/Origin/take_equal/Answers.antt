@@ -21,6 +21,6 @@ returns-clause-equal c =
           rw w.result-is (equal ∙ is_origin c)
           )
       | in-None w ↦ (
-          rw w.result-is (subst (λ (g : Grid). IfOk w.copy.result (λ (level : LevelState). level.grid ≡ g)) (is_origin c) w.copy.ensures.copied)
+          rw w.result-is (subst (λ (g : Grid). IfOk w.copied.result (λ (level : LevelState). level.grid ≡ g)) (is_origin c) w.copied.ensures.copied)
           )
     ]

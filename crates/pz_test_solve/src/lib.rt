@@ -1,5 +1,0 @@
-//! Tests of solving, from outside.
-#![tactic(auto)]
-
-#[cfg(test)]
-mod solving;
