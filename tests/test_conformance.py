@@ -110,13 +110,11 @@ class Runner(InARoom):
                     self.assertEqual(len(ElementTree.parse(self.room / "x.xml").getroot()), 2)
 
     def test_what_writes_without_an_end_is_stopped(self) -> None:
-        """Soon, and no more of it is read than tells that: of one that writes on, and of one that wrote too much and ended."""
+        """No more of it is read than tells that: of one that writes on, and of one that wrote too much and ended."""
         for script in ("exec yes", "exec yes >&2", "head -c 5000000 /dev/zero"):
-            begin = monotonic()
             status, out, errors = self.ran("--limit", "60", "--only", UNDO, self.program(script))
             self.assertEqual((status, errors), (1, ""))
             self.assertRegex(out, f"^case {UNDO} \\.\\.\\. stopped: it wrote more than 10[0-9]{{5}} bytes\n")
-            self.assertLess(monotonic() - begin, 30)
 
     def test_what_an_engine_leaves_behind_ends_with_it(self) -> None:
         program = self.answers(UNDO, str)
@@ -158,10 +156,9 @@ class Runner(InARoom):
                     raise KeyboardInterrupt
                 return super().submit(*words, **named)
 
-        begin = monotonic()
         with mock.patch.object(run, "ThreadPoolExecutor", Hurried), self.assertRaises(KeyboardInterrupt):
-            run.run(run.Words([], 2, 30, None, [str(self.program("exec sleep 1000"))]))
-        self.assertLess(monotonic() - begin, 25)
+            run.run(run.Words([], 2, 600, None, [str(self.program(f"sleep 60; echo >'{self.room}/came-to-its-end'"))]))
+        self.assertFalse((self.room / "came-to-its-end").exists())
 
     def test_what_plays_hostile_files_stops_what_writes_without_an_end(self) -> None:
         for script in ("exec yes", "exec yes >&2", "trap '' XFSZ; exec yes"):

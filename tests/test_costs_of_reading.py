@@ -12,7 +12,7 @@ import unittest
 from contextlib import redirect_stderr
 from pathlib import Path
 from resource import RUSAGE_SELF, getrusage
-from time import monotonic, sleep
+from time import sleep
 from typing import Any, Callable, Iterable, List, Sequence, Tuple
 
 from day import OnSessions
@@ -444,11 +444,9 @@ class Budget(OnSessions):
             with self.subTest(what):
                 # a source without a line is soon told
                 budget.EXPLAINING.left = 0.001 if source == comments else 0.05
-                begin = monotonic()
                 sentence, below = told(behind, entry._replace(source=source, level="player background:0,background:1,\n"))
                 self.assertTrue(sentence.endswith(budget.NOT_LOOKED_AT), sentence)
                 self.assertEqual(below, [])
-                self.assertLess(monotonic() - begin, 1.5)
                 self.assertLess(budget.EXPLAINING.left, 0)
 
     def test_what_explains_within_what_explains_is_taken_off_once(self) -> None:

@@ -114,9 +114,7 @@ class Time(Programs):
             ("6", r"(.*, line \d+: no session notices it: \[ a \] -> \[ b \]\n)+\d+ lines? left out in turn: \d+ that no session notices; 1 of 1 session does not pass with all lines there\n", r"there is no whole answer: [45]\d lines"),
             ("0.01", "", "no line was left out: 60 lines"),
         ):
-            begin = time.monotonic()
             answer = run("coverage", sessions, "--within", within, "--program", self.program(SLOW))
-            self.assertLess(time.monotonic() - begin, 30)
             self.assertEqual(answer.status, 2)
             self.assertRegex(answer.out, f"^{out}$")
             self.assertRegex(answer.errors, f"^saxtegun coverage: {why} were not tried in {within} s; --within gives more time\n$")

@@ -10,7 +10,6 @@ import tempfile
 import unittest
 import unittest.mock
 from pathlib import Path
-from time import monotonic
 from typing import Any, Dict, List, Optional, Tuple
 
 from day import OnSessions
@@ -188,11 +187,8 @@ class Compare(OnEngines):
         self.sessions(*([[3, 1, "undo", "undo", "undo", *([3, 1] * 100)]] * 3))
         shown, budget = io.StringIO(), Budget(7.5)
         words = ["saxtegun", "compare", "--engines", str(self.engine("none")), str(self.engine("hang", True)), str(self.room / "sessions.json"), "--timeout", "3"]
-        begin = monotonic()
         with unittest.mock.patch("saxtegun.engines.EXPLAINING", budget), unittest.mock.patch("sys.argv", words), contextlib.redirect_stdout(shown):
             self.assertEqual(command_line.main(), 1)
-        # each session is played twice at most, and then 7.5 s for all of them
-        self.assertLess(monotonic() - begin, 45)
         told = f"has no answer: not answered in 3 s; behind which input is {NOT_LOOKED_AT}"
         self.assertEqual([it.split(": hang-true ")[1] for it in shown.getvalue().splitlines()[:-1]], [told] * 3)
 
@@ -227,37 +223,32 @@ class Compare(OnEngines):
 
 
 class Shrink(OnEngines):
-    def shrink(self, other: object, *inputs: List[Any], source: str = SOURCE, seconds: str = "10") -> Tuple[str, List[str], Any, float]:
+    def shrink(self, other: object, *inputs: List[Any], source: str = SOURCE, seconds: str = "10") -> Tuple[str, List[str], Any]:
         self.sessions(*inputs, source=source)
-        begin = monotonic()
         answer = run("shrink", self.engine("none"), other, self.room / "sessions.json", "*", self.room / "case", "--timeout", seconds)
         self.assertEqual((answer.status, answer.errors), (0, ""))
         [[_, [source, left, _, _]]] = json.loads((self.room / "case/input.json").read_text(encoding="utf-8"))
-        return answer.out, [it for it in source.split("\n") if it], left, monotonic() - begin
+        return answer.out, [it for it in source.split("\n") if it], left
 
     def test_pairs_of_inputs_are_left_out(self) -> None:
-        out, source, left, seconds = self.shrink(self.engine("restart"), [3], [3, 3, 1, 1, 3, "undo", "undo", "undo", "undo", "restart", 3, 1])
+        out, source, left = self.shrink(self.engine("restart"), [3], [3, 3, 1, 1, 3, "undo", "undo", "undo", "undo", "restart", 3, 1])
         # a press and its undo go together only; two presses that change the level, an undo and the restart are wanted
         self.assertEqual((left[2:], len(left), set(left[:2]) <= {1, 3}), (["undo", "restart"], 4, True))
         self.assertEqual((source[:-1], sorted(source[-1])[-2:]), (STEPS_ALONE, [".", "p"]))
         self.assertLessEqual(len(source[-1]), 3)
         self.assertIn("frame 4, after input 3 (restart)\n", out)
-        # (20 s on a quiet machine; the gate's proofs run beside this)
-        self.assertLess(seconds, 300)
 
     def test_shrinking_ends_in_its_time(self) -> None:
         """What was found until then is the case, and it is said that there may be a smaller one."""
         self.sessions([3], [*[3, "undo"] * 20, "undo"])
-        begin = monotonic()
         answer = run("shrink", self.engine("none"), self.engine("hang"), self.room / "sessions.json", "*", self.room / "case", "--timeout", "5", "--within", "0.5")
-        self.assertLess(monotonic() - begin, 60)
         self.assertEqual((answer.status, answer.errors), (0, "shrink: stopped behind 0.5 s; with a larger --within it may get smaller\n"))
         self.assertIn("not answered in 5 s\n", answer.out)
         [[_, [_, left, _, _]]] = json.loads((self.room / "case/input.json").read_text(encoding="utf-8"))
         self.assertIn("undo", left)
 
     def test_a_crash_shrinks(self) -> None:
-        out, source, left, _ = self.shrink(self.engine("crash", True), [3], [3, 1, "undo", 3, "undo", "undo", "undo", 3])
+        out, source, left = self.shrink(self.engine("crash", True), [3], [3, 1, "undo", 3, "undo", "undo", "undo", 3])
         self.assertEqual((left, source[:-1], len(source[-1])), (["undo"], STEPS_ALONE, 1))
         self.assertIn("crashed after the start: ended with status 1 before the session was closed: ValueError: no level at 0\n", out)
         # the case is what the other answers
@@ -265,12 +256,12 @@ class Shrink(OnEngines):
         self.assertEqual([it.get("kind") or it["close"] for it in shown], ["start", "undo", "passed"])
 
     def test_a_line_that_is_none_shrinks(self) -> None:
-        out, _, left, _ = self.shrink(self.engine("say"), [3], [3, 1, "undo", 3, "undo", "undo", "undo", 3])
+        out, _, left = self.shrink(self.engine("say"), [3], [3, 1, "undo", 3, "undo", "undo", "undo", 3])
         self.assertEqual(left, ["undo"])
         self.assertIn("is none of its session: debug: nothing to take back, \\u{1b}[2J 0\n", out)
 
     def test_a_hang_shrinks(self) -> None:
-        out, _, left, _ = self.shrink(self.engine("hang"), [3], [3, "undo", "undo"], source="\n".join([*STEPS_ALONE, "p."]), seconds="2")
+        out, _, left = self.shrink(self.engine("hang"), [3], [3, "undo", "undo"], source="\n".join([*STEPS_ALONE, "p."]), seconds="2")
         self.assertEqual(left, ["undo"])
         self.assertIn("has no answer after the start: not answered in 2 s\n", out)
 

@@ -138,8 +138,9 @@ function textOfManyPairs() {
 }
 
 it("an outline takes no time for rules that take long to expand", () => {
-  const source = textOfManyPairs(), begin = performance.now(), { description } = engine.outline(source);
-  assert.ok(performance.now() - begin < 2000, "it takes hundredths of a second");
+  const source = textOfManyPairs(), begin = process.cpuUsage().user, { description } = engine.outline(source), middle = process.cpuUsage().user;
+  engine.description(source);
+  assert.ok(middle - begin < (process.cpuUsage().user - middle) / 5);
   assert.deepEqual([description.fault, description.rules.length, description.legend[0].members?.length], [null, 50, 250]);
 });
 

