@@ -83,13 +83,12 @@ def functions(top: Path) -> Iterator[Tuple[str, Place]]:
 
 
 def cases(top: Path) -> Iterator[Tuple[str, Place]]:
-    """Each id of the file `rules` of a case, or of `rules` in a case that is one file; its name is what it shows."""
-    folders = [(file.parent, file.read_text(encoding="utf-8").splitlines()) for file in sorted(top.glob("conformance/*/*/rules"))]
-    files = [(file, json.loads(file.read_text(encoding="utf-8")).get("rules", [])) for file in sorted(top.glob("conformance/*/*.json"))]
-    for case, names in [*folders, *files]:
+    """Each id of a case; its name is what it shows."""
+    for case in sorted(top.glob("conformance/*/*.json")):
         says = re.sub(r" (t|s)(?= |$)", r"'\1", case.stem.replace("-", " "))
-        for number, it in enumerate(names, 1):
-            yield it, Place(str(case.relative_to(top)), number, case.stem, says)
+        text = case.read_text(encoding="utf-8")
+        for it in json.loads(text).get("rules", []):
+            yield it, Place(str(case.relative_to(top)), text.count("\n", 0, text.find(f'"{it}"')) + 1, case.stem, says)
 
 
 def bodies(top: Path) -> Iterator[Tuple[str, Place]]:

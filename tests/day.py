@@ -8,6 +8,7 @@ from typing import Any, Dict, Iterator, List, Sequence, Set, Tuple
 from unittest import mock
 
 from tool import CASES, TOP, Answer, InARoom
+from saxtegun.cases import plain_cases
 
 EXAMPLE = TOP / "examples/block-pushing.json"
 STEPS = {0: (0, -1), 1: (-1, 0), 2: (0, 1), 3: (1, 0)}
@@ -83,25 +84,19 @@ def play(number: int, entry: Any) -> List[str]:
 def lines_of_example(text: str) -> str:
     return "".join(f"{line}\n" for number, entry in enumerate(json.loads(text)) for line in play(number, entry))
 
-
-def case(name: str) -> Tuple[Path, Path]:
-    """The files of a case: its sessions and its lines."""
-    return CASES / name / "input.json", CASES / name / "stdout"
-
-
 def cases_in_rows(is_named_by_case: bool = False) -> Tuple[str, str]:
     """All cases that were played by rows, as one sessions file and its lines, with the names of their sessions or of the cases."""
     entries: List[Any] = []
     lines = []
-    for folder in sorted(CASES.iterdir()):
-        if (folder / "args").read_text().split() != ["--order", "rows"] or (folder / "status").read_text().strip() == "2":
+    for it in plain_cases(CASES):
+        if it.words != ["--order", "rows"] or it.status == 2:
             continue
         first = len(entries)
-        entries += json.loads((folder / "input.json").read_text(encoding="utf-8"))
-        for line in map(json.loads, (folder / "stdout").read_text(encoding="utf-8").split("\n")[:-1]):
+        entries += json.loads(it.input)
+        for line in map(json.loads, it.stdout.decode().split("\n")[:-1]):
             line["session"] += first
             if is_named_by_case and "close" in line:
-                entries[line["session"]][0] = line["name"] = folder.name
+                entries[line["session"]][0] = line["name"] = it.name
             lines.append(json.dumps(line))
     return json.dumps(entries), "".join(f"{line}\n" for line in lines)
 

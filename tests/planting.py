@@ -21,6 +21,9 @@ from types import ModuleType
 from typing import Any, Callable, Iterator, List, Optional, Sequence, Tuple, Union
 
 TOP = Path(__file__).resolve().parent.parent
+sys.path.insert(0, str(TOP / "python"))
+from saxtegun import cases as cases_of_conformance
+
 ENGINE = TOP / "tests" / "engine_by_the_book.py"
 CASES = TOP / "conformance" / "cases"
 # A case that takes longer than this is one of a limit's; an error that makes one run much longer is caught.
@@ -151,20 +154,17 @@ class Case:
         return played(engine, self.entries, self.order) != self.wanted
 
 
-def case_in(folder: Path) -> Optional[Case]:
+def played_case(case: cases_of_conformance.Case) -> Optional[Case]:
     """A case of the suite, or None where it is about files and command lines."""
-    args = (folder / "args").read_text().split() if (folder / "args").exists() else []
-    status = int((folder / "status").read_text())
-    if status == 2 or args not in ([], ["--order", "rows"], ["--order", "columns"]):
+    if case.status == 2 or case.words not in ([], ["--order", "rows"], ["--order", "columns"]):
         return None
-    entries = json.loads((folder / "input.json").read_text(encoding="utf-8"))
-    return Case(folder.name, entries, args[1] if args else "columns", ((folder / "stdout").read_text(encoding="utf-8"), status))
+    return Case(case.name, json.loads(case.input), case.words[1] if case.words else "columns", (case.stdout.decode(), case.status))
 
 
 def cases(engine: ModuleType) -> Tuple[List[Case], List[str]]:
     """The cases of the suite that an engine answers as is wanted, but for those of large limits, which this one takes long for; and those that it doesn't."""
     found, wrong = [], []
-    for case in filter(None, map(case_in, sorted(CASES.iterdir()))):
+    for case in filter(None, map(played_case, cases_of_conformance.plain_cases(CASES))):
         answer = played(engine, case.entries, case.order, LONG)
         if answer == case.wanted:
             found.append(case)

@@ -11,6 +11,7 @@ from typing import Tuple
 
 from day import EXAMPLE, OnSessions
 from tool import CASES, PROGRAM, TOP, plays, run
+from saxtegun.cases import read_case
 from saxtegun.stages import told_in
 
 NODE = shutil.which("node") or ""
@@ -123,14 +124,17 @@ class Adapter(OnSessions):
             self.assertIn(wanted, node("-e", script + words, ADAPTER / "lines.js").stderr.decode())
 
     def test_a_file_is_refused_as_by_the_program(self) -> None:
-        for case in sorted((*CASES.iterdir(), *(TOP / "conformance/files").iterdir())):
-            if (case / "status").read_text().strip() != "2" or case.name in OTHERWISE:
+        for case in map(read_case, sorted(CASES.glob("*.json"))):
+            if case.status != 2 or case.name in OTHERWISE:
                 continue
-            with self.subTest(case.name), open(case / "input.json", "rb") as file:
-                room = case / "room" if (case / "room").exists() else self.room
-                words = (case / "args").read_text(encoding="utf-8").split("\n")[:-1]
-                ran = subprocess.run([NODE, ENGINE, *words], stdin=file, cwd=room, stdout=subprocess.PIPE, stderr=subprocess.PIPE)
-                self.assertEqual((ran.stdout, ran.stderr, ran.returncode), (b"", (case / "stderr").read_bytes(), 2))
+            with self.subTest(case.name):
+                room = self.room / case.name
+                room.mkdir()
+                for path, data in case.room.items():
+                    (room / path).parent.mkdir(exist_ok=True)
+                    (room / path).write_bytes(data)
+                ran = subprocess.run([NODE, ENGINE, *case.words], input=case.input, cwd=room, stdout=subprocess.PIPE, stderr=subprocess.PIPE)
+                self.assertEqual((ran.stdout, ran.stderr, ran.returncode), (b"", case.stderr, 2))
 
     def test_an_engine_that_fails_in_any_way_has_no_answer(self) -> None:
         """Also one that ends in the midst of it: what it has shown by then is not all, and no status says that it is."""

@@ -33,7 +33,7 @@ RULE = {
     "docs/language.md": "# The language\n\n## Numbers\n\n- A number is itself.\n  It stays so. <sub>number.same</sub> Others may be there.\n",
     "crates/pz_one/specs/Lib.antt": "-- What a number is.\nuse Rattle\n\n-- number.same: the number\n-- itself\nabbrev pub same : ℕ → ℕ\nsame n = n\n\nabbrev pub other : ℕ\n",
     "crates/pz_one/src/same.rt": "/// The number itself. Rule `number.same`.\n#[inline]\npub fn same(number: u32) -> u32\n",
-    "conformance/cases/a-number-isn-t-another/rules": "number.same\n",
+    "conformance/cases/a-number-isn-t-another.json": '{"rules": ["number.same"], "words": []}\n',
     "attack/pz_one/answers_null.edit": "Answers 0. [number.same]\nfile: src/same.rt\nold: same\nnew: null\n",
 }
 AT = dict(zip(("sentence", "definition", "function", "case", "body"), RULE))
@@ -64,27 +64,26 @@ class OfRules(OnOneRule):
     def test_each_place_that_a_rule_lacks_is_told(self) -> None:
         for kind in ("definition", "function", "case", "body"):
             with self.subTest(kind):
-                self.write(AT[kind], RULE[AT[kind]].replace("number.same", "").lstrip("\n"))
+                self.write(AT[kind], RULE[AT[kind]].replace('"number.same"', "").replace("number.same", "").lstrip("\n"))
                 self.assertEqual(self.told(), [f"docs/language.md:6: the rule number.same has no {kind}"])
                 self.write("dev/without.txt", f"# Reasons\nnumber.* {kind}: it has none\n")
                 self.assertEqual(self.told(), [])
                 self.write("dev/without.txt", "")
                 self.write(AT[kind], RULE[AT[kind]])
 
-    def test_a_case_of_one_file_has_ids_too(self) -> None:
-        self.write(AT["case"], "")
+    def test_a_case_of_another_kind_has_ids_too(self) -> None:
+        self.write(AT["case"], "{}")
         self.write("conformance/stages/a-number-has-a-stage.json", '{"rules": ["number.same"], "input": 1}\n')
         self.write("conformance/descriptions/a-number-has-none.json", "{}\n")
         self.assertEqual(self.told(), [])
 
     def test_an_id_that_no_page_has_is_told_wherever_it_stands(self) -> None:
-        for kind, line in (("definition", 6), ("function", 3), ("case", 2), ("body", 1)):
+        for kind, line in (("definition", 6), ("function", 3), ("case", 1), ("body", 1)):
             with self.subTest(kind):
                 text = RULE[AT[kind]]
-                joint = {"definition": ", ", "function": "`, `", "case": "\n", "body": ", "}[kind]
+                joint = {"definition": ", ", "function": "`, `", "case": '", "', "body": ", "}[kind]
                 self.write(AT[kind], text.replace("number.same", f"number.same{joint}number.other"))
-                file = re.sub("/rules$", "", AT[kind])
-                self.assertEqual(self.told(), [f"{file}:{line}: no sentence of docs/language.md or docs/sessions.md has the rule number.other"])
+                self.assertEqual(self.told(), [f"{AT[kind]}:{line}: no sentence of docs/language.md or docs/sessions.md has the rule number.other"])
                 self.write(AT[kind], text)
 
     def test_a_page_leads_to_no_rule_that_is_not_there(self) -> None:
@@ -132,7 +131,7 @@ class OfTheBook(OnOneRule):
                 "    -- the number\n    -- itself\n    abbrev pub same : ℕ → ℕ\n    same n = n",
                 "Function `same`, crates/pz_one/src/same.rt:3",
                 "    /// The number itself. Rule `number.same`.\n    #[inline]\n    pub fn same(number: u32) -> u32",
-                "Case: A number isn't another. conformance/cases/a-number-isn-t-another",
+                "Case: A number isn't another. conformance/cases/a-number-isn-t-another.json",
                 "Wrong body: Answers 0. attack/pz_one/answers_null.edit",
                 "    file: src/same.rt\n    old: same\n    new: null\n",
             ],
@@ -143,7 +142,7 @@ class OfTheBook(OnOneRule):
         self.write("dev/without.txt", "number.same body: nobody wrote one\n")
         self.assertEqual(
             run(self.book, "--table").out.splitlines()[2:],
-            ["| number.same | `crates/pz_one/specs/Lib.antt` `same` | `crates/pz_one/src/same.rt` `same` | `conformance/cases/a-number-isn-t-another` | none: nobody wrote one |"],
+            ["| number.same | `crates/pz_one/specs/Lib.antt` `same` | `crates/pz_one/src/same.rt` `same` | `conformance/cases/a-number-isn-t-another.json` | none: nobody wrote one |"],
         )
 
     def test_words_choose_what_fits_them_best_by_what_they_begin_and_how_few_have_them(self) -> None:

@@ -1,8 +1,8 @@
 """conformance/run: how it tells a case that differs, that hangs or that fails, with programs that answer wrong; and what the suite says of itself."""
 from __future__ import annotations
 
+import json
 import os
-import re
 import signal
 import subprocess
 import sys
@@ -12,13 +12,14 @@ from fnmatch import fnmatchcase
 from pathlib import Path
 from time import monotonic, sleep
 from types import ModuleType
-from typing import Any, Callable, List, Tuple
+from typing import Any, Callable, Dict, List, Tuple
 from unittest import mock
 from xml.etree import ElementTree
 
 from test_logs import is_command
 from test_processes import hear_signals
-from tool import CASES, TOP, InARoom
+from tool import CASES, TOP, InARoom, case_named
+from saxtegun.cases import Case, file_of, read_case, written_case
 
 RUN, HOSTILE = TOP / "conformance/run", TOP / "conformance/hostile"
 UNDO = "undo-with-nothing-past-then-undo-of-two-moves"
@@ -45,7 +46,7 @@ class Runner(InARoom):
 
     def answers(self, name: str, change: Callable[[str], str]) -> Path:
         """A program that writes what a case wants, changed."""
-        self.room.joinpath("shown").write_text(change((CASES / name / "stdout").read_text(encoding="utf-8")), encoding="utf-8")
+        self.room.joinpath("shown").write_text(change(case_named(name).stdout.decode()), encoding="utf-8")
         return self.program(f"cat '{self.room}/shown'")
 
     def ran(self, *words: object) -> Tuple[int, str, str]:
@@ -66,7 +67,7 @@ class Runner(InARoom):
             "    session 0 (a), behind input 0 (undo):",
             "    | before      wanted      answered",
             "    | p..         p..         .p.",
-            f"    more: {program} --order rows <conformance/cases/{UNDO}/input.json | ./saxtegun compare conformance/cases/{UNDO}/stdout - conformance/cases/{UNDO}/input.json --order rows",
+            f"    more: conformance/run --unpack {UNDO} case; {program} --order rows <case/input.json | ./saxtegun compare case/lines - case/input.json --order rows",
         ])
         self.assertEqual(out.splitlines()[7:], ["playing: 1 of 1 fail", "0 passed, 1 failed"])
 
@@ -76,7 +77,7 @@ class Runner(InARoom):
 
     def test_no_word_of_a_program_or_of_a_call_is_a_command_of_a_ci(self) -> None:
         program = self.program("echo '##[error]x'; echo '::error::y' >&2")
-        for words in (("--only", UNDO, program), ("--both", program, self.program_at("other", "echo '##vso[task]'"), CASES / UNDO / "input.json"), ("##[group]none",)):
+        for words in (("--only", UNDO, program), ("--both", program, self.program_at("other", "echo '##vso[task]'"), self.case(UNDO)[0]), ("##[group]none",)):
             status, out, errors = self.ran(*words)
             with self.subTest(words=words):
                 self.assertEqual((status, [it for it in (out + errors).splitlines() if is_command(it)]), (2 if len(words) == 1 else 1, []))
@@ -96,10 +97,10 @@ class Runner(InARoom):
 
     def test_no_line_of_an_engine_ends_the_suite(self) -> None:
         """Lists in lists, a session below 0, a number of too many digits, half a letter: the case fails, and the others are told."""
-        [movement] = CASES.glob("movement-goes-column-by-column")
-        (self.room / "good").write_bytes((movement / "stdout").read_bytes())
-        (self.room / "wanted").write_bytes((CASES / UNDO / "stdout").read_bytes())
-        surrogate = (CASES / UNDO / "stdout").read_text(encoding="utf-8").replace("background player", "\\ud800", 1)
+        movement, undo = case_named("movement-goes-column-by-column"), case_named(UNDO)
+        (self.room / "good").write_bytes(movement.stdout)
+        (self.room / "wanted").write_bytes(undo.stdout)
+        surrogate = undo.stdout.decode().replace("background player", "\\ud800", 1)
         for line in ("[" * 100_000, '{"session":-500}', '{"session":-500,"level":"a:0,"}', f'{{"session":{"9" * 5_000}}}', '{"session":true,"level":[[]]}', surrogate.rstrip()):
             (self.room / "line").write_text(f"{line}\n", encoding="utf-8")
             for order in ("cat '{0}/line' '{0}/wanted'", "cat '{0}/wanted' '{0}/line'"):
@@ -128,7 +129,7 @@ class Runner(InARoom):
         numbers, folder = self.room / "numbers", self.room / "tmp"
         folder.mkdir()
         for number in (signal.SIGTERM, signal.SIGHUP, signal.SIGINT):
-            for words, count in (("--limit", "1000", "--jobs", "2", program), 2), (("--both", program, program, CASES / UNDO / "input.json"), 1):
+            for words, count in (("--limit", "1000", "--jobs", "2", program), 2), (("--both", program, program, self.case(UNDO)[0]), 1):
                 numbers.write_text("")
                 environment = {**os.environ, "TMPDIR": str(folder)}
                 with self.subTest(number=number, words=words[0]):
@@ -208,7 +209,7 @@ class Runner(InARoom):
             self.assertIn(what, errors)
 
     def test_both_programs_are_compared(self) -> None:
-        one, file = self.answers(UNDO, str), CASES / UNDO / "input.json"
+        one, file = self.answers(UNDO, str), self.case(UNDO)[0]
         other = self.room / "other"
         other.write_text(f"#!/bin/sh\nsed 's/move/tick/' '{self.room}/shown'\n")
         other.chmod(0o755)
@@ -219,11 +220,17 @@ class Runner(InARoom):
 
 class Suite(unittest.TestCase):
     def names(self) -> List[str]:
-        return [it.name for kind in ("cases", "files") for it in (TOP / "conformance" / kind).iterdir()] + ["file-of-16777216-bytes", "file-of-16777217-bytes"]
+        return [it.stem for it in CASES.glob("*.json")]
 
-    def test_the_version_says_how_many_cases_there_are(self) -> None:
-        said = re.findall(r"\Asuite \d+, (\d+) cases\n\Z", (TOP / "conformance/VERSION").read_text())
-        self.assertEqual(int(said[0]), len(self.names()))
+    def test_the_suite_says_how_many_cases_there_are(self) -> None:
+        said = json.loads((TOP / "conformance/suite.json").read_text(encoding="utf-8"))
+        self.assertEqual((said["cases"], sorted(said)), (len(self.names()), ["cases", "version"]))
+
+    def test_each_case_is_laid_out_so_that_a_changed_frame_is_a_changed_line(self) -> None:
+        for file in CASES.iterdir():
+            with self.subTest(file.name):
+                text = file.read_text(encoding="utf-8")
+                self.assertEqual(text, written_case(json.loads(text)))
 
     def test_each_rule_has_cases_and_each_pattern_fits_one(self) -> None:
         left = self.names()
@@ -235,6 +242,67 @@ class Suite(unittest.TestCase):
                 self.assertTrue(any(fnmatchcase(name, pattern) for name in self.names()), f"{rule}: {pattern}")
             left = [it for it in left if it not in fitting]
         self.assertEqual(left, [])
+
+
+class Files(InARoom):
+    """What a file of a case says of bytes: each worked out by hand."""
+
+    def read(self, value: Dict[str, Any]) -> Case:
+        file = self.room / "one.json"
+        file.write_text(json.dumps({"words": [], "status": 0, **value}), encoding="utf-8")
+        return read_case(file)
+
+    def test_the_layouts_of_a_sessions_file(self) -> None:
+        sessions = [["\u00e9", ["", [0, "undo"], ""]], ["b", ["", [], ""], {"a": 1}]]
+        for layout, text in (
+            ("compact", '[["\u00e9",["",[0,"undo"],""]],["b",["",[],""],{"a":1}]]'),
+            ("spaces", '[["\u00e9", ["", [0, "undo"], ""]], ["b", ["", [], ""], {"a": 1}]]'),
+            ("lines", '[["\u00e9",["",[0,"undo"],""]],\n["b",["",[],""],{"a":1}]]\n'),
+        ):
+            self.assertEqual(self.read({"layout": layout, "sessions": sessions}).input.decode(), text)
+            self.assertEqual(file_of(text), {**({} if layout == "compact" else {"layout": layout}), "sessions": sessions})
+        self.assertEqual(self.read({"sessions": []}).input, b"[]")
+
+    def test_what_no_layout_gives_is_a_text(self) -> None:
+        for text in ("[ ]", '[["a",["",[1e0],""]]]', '[["\\u0061",["",[],""]]]', '[["a",["",[-0],""]]]', '[["a",["",[],""],{"b":1,"b":1}]]'):
+            self.assertEqual(file_of(text), {"text": text})
+            self.assertEqual(self.read(file_of(text)).input.decode(), text)
+
+    def test_a_file_is_filled_up_to_its_length(self) -> None:
+        self.assertEqual(self.read({"text": "[]", "length": 5}).input, b"[]   ")
+
+    def test_lines_a_message_and_files_beside(self) -> None:
+        case = self.read({"text": "", "lines": [{"at": 0, "level": "\u00e9"}, {}], "message": "read-fault", "status": 2, "room": {"a/b.json": {"sessions": []}}})
+        self.assertEqual((case.input, case.stdout.decode(), case.stderr, case.status, case.room), (b"", '{"at":0,"level":"\u00e9"}\n{}\n', b"read-fault\n", 2, {"a/b.json": b"[]"}))
+        case = self.read({"text": ""})
+        self.assertEqual((case.stdout, case.stderr, case.room), (b"", b"", {}))
+
+    def test_what_can_not_be_seen_is_escaped_where_a_case_is_written(self) -> None:
+        value = {"words": [], "sessions": [["\ufeff\u00e9\u00a0\u2028", ["", [], ""]], []], "lines": [{"at": 0}], "status": 0}
+        self.assertEqual(written_case(value), '{\n  "words": [],\n  "sessions": [\n    ["\\ufeff\u00e9\\u00a0\\u2028",["",[],""]],\n    []\n  ],\n  "lines": [\n    {"at":0}\n  ],\n  "status": 0\n}\n')
+
+    def test_entries_that_are_none_share_a_line(self) -> None:
+        self.assertEqual(written_case({"sessions": [0, 0]}), '{\n  "sessions": [0, 0]\n}\n')
+
+    def test_a_case_is_unpacked(self) -> None:
+        for name, files in ((UNDO, ["input.json", "lines"]), ("a-file-in-a-folder", ["input.json", "lines", "room/rooms/walk.json"])):
+            folder, case = self.room / name, case_named(name)
+            self.assertEqual(subprocess.run([sys.executable, RUN, "--unpack", name, folder]).returncode, 0)
+            self.assertEqual(sorted(str(it.relative_to(folder)) for it in folder.rglob("*") if it.is_file()), files)
+            self.assertEqual([(folder / it).read_bytes() for it in files[:2]], [case.input, case.stdout])
+        wrongs: List[Tuple[List[str], str]] = [(["none", str(self.room)], "no case is named 'none'"), ([UNDO], "--unpack wants the name of a case, and a folder")]
+        for words, why in wrongs:
+            ran = subprocess.run([sys.executable, RUN, "--unpack", *words], stdout=subprocess.PIPE, stderr=subprocess.PIPE)
+            self.assertEqual((ran.returncode, ran.stdout, ran.stderr.decode()), (2, b"", f"conformance/run: {why} (conformance/run --help says how to call it)\n"))
+
+    def test_each_case_starts_in_a_folder_with_its_own_files_alone(self) -> None:
+        program = self.room / "program"
+        program.write_text("#!/bin/sh\nfind . -type f >&2\n", encoding="utf-8")
+        program.chmod(0o755)
+        names = ("a-file-in-a-folder", UNDO)
+        ran = subprocess.run([sys.executable, RUN, *(it for name in names for it in ("--only", name)), program], stdout=subprocess.PIPE)
+        told = [line for line in ran.stdout.decode().splitlines() if "stderr, wanted" in line]
+        self.assertEqual(told, ["    stderr, wanted: nothing; answered: ./rooms/walk.json"])
 
 
 if __name__ == "__main__":

@@ -13,7 +13,7 @@ from pathlib import Path
 from typing import List, Tuple, Union
 
 from test_stages import OnCases, compact
-from tool import InARoom, TOP
+from tool import InARoom, TOP, case_named
 
 sys.path.insert(0, str(TOP / "engine"))
 import to32
@@ -210,8 +210,8 @@ class EngineStages(OnStages, OnCases):
     def test_the_lines_and_the_exit_status(self) -> None:
         self.assertEqual(self.tell("0", "+18446744073709551615", "columns"), (0, "", ""))
         self.assertEqual(self.tell("0", "1", file=b"[0]"), (2, "", "bad-entry 0\n"))
-        walk = TOP / "conformance/cases/walk-two-steps-right-against-a-wall/input.json"
-        status, lines, errors = self.tell("0", "1", file=walk.read_bytes())
+        walk = case_named("walk-two-steps-right-against-a-wall").input
+        status, lines, errors = self.tell("0", "1", file=walk)
         self.assertEqual((status, errors, [json.loads(it)["stage"] for it in lines.splitlines()]), (0, "", ["input", "movement", "end"]))
 
     def test_each_case_is_told_as_it_was_worked_out(self) -> None:

@@ -17,6 +17,7 @@ from test_why import GAME as YARD, LINE, PUSH
 from tool import Answer, run
 from saxtegun import command_line
 from saxtegun.budget import NOT_LOOKED_AT, Budget
+from saxtegun.cases import read_case
 from saxtegun.commands import Refused
 from saxtegun.engines import Ended, Reader, answers
 from saxtegun.lines import Run, runs_in
@@ -225,9 +226,9 @@ class Compare(OnEngines):
 class Shrink(OnEngines):
     def shrink(self, other: object, *inputs: List[Any], source: str = SOURCE, seconds: str = "10") -> Tuple[str, List[str], Any]:
         self.sessions(*inputs, source=source)
-        answer = run("shrink", self.engine("none"), other, self.room / "sessions.json", "*", self.room / "case", "--timeout", seconds)
+        answer = run("shrink", self.engine("none"), other, self.room / "sessions.json", "*", self.room / "case.json", "--timeout", seconds)
         self.assertEqual((answer.status, answer.errors), (0, ""))
-        [[_, [source, left, _, _]]] = json.loads((self.room / "case/input.json").read_text(encoding="utf-8"))
+        [[_, [source, left, _, _]]] = json.loads(read_case(self.room / "case.json").input)
         return answer.out, [it for it in source.split("\n") if it], left
 
     def test_pairs_of_inputs_are_left_out(self) -> None:
@@ -241,10 +242,10 @@ class Shrink(OnEngines):
     def test_shrinking_ends_in_its_time(self) -> None:
         """What was found until then is the case, and it is said that there may be a smaller one."""
         self.sessions([3], [*[3, "undo"] * 20, "undo"])
-        answer = run("shrink", self.engine("none"), self.engine("hang"), self.room / "sessions.json", "*", self.room / "case", "--timeout", "5", "--within", "0.5")
+        answer = run("shrink", self.engine("none"), self.engine("hang"), self.room / "sessions.json", "*", self.room / "case.json", "--timeout", "5", "--within", "0.5")
         self.assertEqual((answer.status, answer.errors), (0, "shrink: stopped behind 0.5 s; with a larger --within it may get smaller\n"))
         self.assertIn("not answered in 5 s\n", answer.out)
-        [[_, [_, left, _, _]]] = json.loads((self.room / "case/input.json").read_text(encoding="utf-8"))
+        [[_, [_, left, _, _]]] = json.loads(read_case(self.room / "case.json").input)
         self.assertIn("undo", left)
 
     def test_a_crash_shrinks(self) -> None:
@@ -252,7 +253,7 @@ class Shrink(OnEngines):
         self.assertEqual((left, source[:-1], len(source[-1])), (["undo"], STEPS_ALONE, 1))
         self.assertIn("crashed after the start: ended with status 1 before the session was closed: ValueError: no level at 0\n", out)
         # the case is what the other answers
-        shown = [json.loads(it) for it in (self.room / "case/stdout").read_text(encoding="utf-8").splitlines()]
+        shown = [json.loads(it) for it in read_case(self.room / "case.json").stdout.splitlines()]
         self.assertEqual([it.get("kind") or it["close"] for it in shown], ["start", "undo", "passed"])
 
     def test_a_line_that_is_none_shrinks(self) -> None:
@@ -309,10 +310,10 @@ class Stages(OnSessions):
         self.assert_refused(run("compare", "--engines", self.room / "p", self.room / "q", "--stages", self.room / "none", self.room / "t", self.sessions), "there is no program at")
 
     def test_shrinking_keeps_the_rule_at_which_they_part(self) -> None:
-        folder = self.room / "small"
-        answer = run("shrink", self.room / "p", self.room / "q", self.sessions, "walk", folder, "--stages", self.room / "s", self.room / "t")
+        file = self.room / "small.json"
+        answer = run("shrink", self.room / "p", self.room / "q", self.sessions, "walk", file, "--stages", self.room / "s", self.room / "t")
         self.assertEqual(answer.status, 0, answer.errors)
-        (_, (source, inputs, *_)), = json.loads((folder / "input.json").read_text(encoding="utf-8"))
+        (_, (source, inputs, *_)), = json.loads(read_case(file).input)
         self.assertEqual((inputs, PUSH in source), ([3], True))
 
 

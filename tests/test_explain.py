@@ -5,8 +5,8 @@ import json
 import re
 import unittest
 
-from day import EXAMPLE, OnSessions, case, cases_in_rows
-from tool import TOP, run
+from day import EXAMPLE, OnSessions, cases_in_rows
+from tool import CASES, case_named, run
 from saxtegun.commands import Refused
 from saxtegun.sessions import sessions_in
 
@@ -62,12 +62,12 @@ class Explain(OnSessions):
     def test_a_fault_is_reported_with_its_culprit(self) -> None:
         for name, words in CULPRITS.items():
             with self.subTest(name):
-                self.assertIn(words, run("explain", *case(name), "--order", "rows").out)
+                self.assertIn(words, run("explain", *self.case(name), "--order", "rows").out)
 
     def test_a_case_is_reported_with_its_cause(self) -> None:
         for name, wanted in TOLD.items():
             with self.subTest(name):
-                answer = run("explain", *case(name), "--order", "rows")
+                answer = run("explain", *self.case(name), "--order", "rows")
                 self.assertEqual((answer.status, answer.errors), (0, ""))
                 for words in wanted:
                     self.assertIn(words, answer.out)
@@ -83,7 +83,7 @@ class Explain(OnSessions):
         self.assertNotIn("its cause is", answer.out)
 
     def test_one_fault_of_a_game_is_explained_once(self) -> None:
-        sessions, lines = (it.read_text(encoding="utf-8") for it in case("the-word-random-in-a-rule"))
+        sessions, lines = (it.read_text(encoding="utf-8") for it in self.case("the-word-random-in-a-rule"))
         [entry], [line] = json.loads(sessions), lines.splitlines()
         other = ["another", [entry[1][0].replace("random", "  random"), *entry[1][1:]]]
         entries = [entry, entry, other, entry]
@@ -139,11 +139,11 @@ class Explain(OnSessions):
 
     def test_what_the_program_refuses_of_numbers_is_refused(self) -> None:
         """What an entry doesn't need isn't handed on to the program, so its numbers are judged here: as docs/sessions.md has them."""
-        names = [it.name for it in (TOP / "conformance/cases").iterdir() if re.search("number-that-rounds|whole-number|nought|index-of-four|exponent|no-float|beyond-the-largest", it.name)]
+        names = [it.stem for it in CASES.iterdir() if re.search("number-that-rounds|whole-number|nought|index-of-four|exponent|no-float|beyond-the-largest", it.name)]
         self.assertGreater(len(names), 6)
         for name in names:
-            case = TOP / "conformance/cases" / name
-            text, is_refused = (case / "input.json").read_text(encoding="utf-8"), (case / "status").read_text() == "2\n"
+            case = case_named(name)
+            text, is_refused = case.input.decode(), case.status == 2
             with self.subTest(name):
                 try:
                     sessions_in("s.json", text)

@@ -5,7 +5,7 @@ import json
 import unittest
 from xml.etree import ElementTree
 
-from day import EXAMPLE, OnSessions, case, cases_in_rows
+from day import EXAMPLE, OnSessions, cases_in_rows
 from strangers import LETTERS, NAMES, sessions_and_lines
 from tool import run
 
@@ -28,9 +28,9 @@ class JUnit(OnSessions):
         self.assertEqual(suite[4][0].get("message"), "the level that was reached is not the recorded one; 17 frames")
 
     def test_a_stop_is_a_failure_and_a_refusal_an_error_or_skipped(self) -> None:
-        lines = self.write("lines", case("two-rules-that-undo-each-other-stop-at-the-loop-limit")[1].read_text())
+        lines = self.write("lines", self.case("two-rules-that-undo-each-other-stop-at-the-loop-limit")[1].read_text())
         self.assertEqual(self.suite(lines)[0][0].get("type"), "stopped")
-        refused = case("the-word-random-in-a-rule")[1]
+        refused = self.case("the-word-random-in-a-rule")[1]
         self.assertEqual((self.suite(refused)[0][0].tag, self.suite(refused, "--refused", "skipped")[0][0].tag), ("error", "skipped"))
         self.assertEqual(self.suite(refused, "--refused", "skipped").get("skipped"), "1")
 

@@ -16,6 +16,7 @@ from typing import Any, Dict, Iterator, List, Sequence, Tuple
 
 from test_differences import games
 from tool import CASES, InARoom, TOP, run
+from saxtegun.cases import plain_cases
 from saxtegun.descriptions import description_of, expect
 from saxtegun.differences import likely
 from saxtegun.explanations import culprit_told, cause_told, fault_in
@@ -174,12 +175,12 @@ def in_node(script: str, values: Any) -> Any:
 
 def entries_of_cases() -> Iterator[Tuple[Any, List[Any]]]:
     """Each session of the cases that JSON can be read of, with the lines of its case."""
-    for case in sorted(CASES.iterdir()):
+    for case in plain_cases(CASES):
         try:
-            values = json.loads((case / "input.json").read_bytes().decode())
+            values = json.loads(case.input)
         except (ValueError, RecursionError):
             continue
-        lines = [json.loads(it) for it in (case / "stdout").read_text(encoding="utf-8").splitlines()]
+        lines = [json.loads(it) for it in case.stdout.decode().splitlines()]
         for number, value in enumerate(values if isinstance(values, list) else []):
             if isinstance(value, list) and len(value) > 1 and isinstance(value[1], list) and value[1] and isinstance(value[1][0], str) and not re.search("[\ud800-\udfff]", value[1][0]):
                 yield value, [it for it in lines if it["session"] == number]

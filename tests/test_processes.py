@@ -532,7 +532,7 @@ class Ends(Programs):
     def test_shrinking_ends_both_of_its_programs(self) -> None:
         for number in (signal.SIGTERM, signal.SIGHUP, signal.SIGINT):
             (self.room / "numbers").unlink(missing_ok=True)
-            with self.subTest(number), self.started("shrink", self.deaf, self.deaf, EXAMPLE, "both*", self.room / "case", "--timeout", "100") as ran:
+            with self.subTest(number), self.started("shrink", self.deaf, self.deaf, EXAMPLE, "both*", self.room / "case.json", "--timeout", "100") as ran:
                 self.wait_for(lambda: len(self.numbers()) == 2)
                 self.assert_ends(ran, number)
 

@@ -255,7 +255,7 @@ class Released(InAFreshClone):
 
     def test_another_engine_is_not_handed_our_module(self) -> None:
         """It would play by ours, and be called the same."""
-        other, folder = self.another(), self.room / "case"
+        other, case = self.another(), self.room / "case.json"
         for words in (("compare", "--engines", "saxtegun", other, EXAMPLE), ("compare", "--engines", other, "saxtegun", "--stages", "saxtegun", "saxtegun", EXAMPLE)):
             status, out, _ = self.called(*words)
             self.assertEqual(status, 1, out)
@@ -263,7 +263,7 @@ class Released(InAFreshClone):
             self.assertIn(": 0 the same, ", out)
         status, out, _ = self.called("compare", "--engines", other, other, "--stages", "saxtegun", "saxtegun", EXAMPLE)
         self.assertEqual((status, ": 0 the same, " in out), (1, True), out)
-        status, out, errors = self.called("shrink", "saxtegun", other, EXAMPLE, "both*", folder, "--within", "2")
+        status, out, errors = self.called("shrink", "saxtegun", other, EXAMPLE, "both*", case, "--within", "2")
         self.assertEqual((status, "crashed" in out, "show the same" in errors), (0, True, False), errors)
 
     def test_a_program_that_is_named_plays_by_its_own_module_in_each_round(self) -> None:

@@ -9,7 +9,7 @@ import unittest
 from pathlib import Path
 from typing import Tuple
 
-from day import EXAMPLE, OnSessions, case, lines_of_example
+from day import EXAMPLE, OnSessions, lines_of_example
 from tool import PROGRAM, TOP, plays, run
 from saxtegun.sessions import chosen, sessions_in
 
@@ -97,7 +97,7 @@ class Accept(OnSessions):
         self.assertIn('"close":"passed"', lines_of_example(answer.out).splitlines()[-1])
 
     def test_a_session_that_was_not_played_to_its_end_is_left(self) -> None:
-        sessions, lines = case("nine-sessions-with-workers-1")
+        sessions, lines = self.case("nine-sessions-with-workers-1")
         answer = run("accept", sessions, lines, "--order", "rows")
         old, new = json.loads(sessions.read_text(encoding="utf-8")), json.loads(answer.out)
         self.assertEqual(answer.status, 0)
@@ -105,7 +105,7 @@ class Accept(OnSessions):
         self.assertIn("session 4, a: stopped, not accepted: a group of rules", answer.errors)
 
     def test_a_named_session_that_can_not_be_accepted_gives_status_1(self) -> None:
-        sessions, lines = case("the-word-random-in-a-rule")
+        sessions, lines = self.case("the-word-random-in-a-rule")
         answer = run("accept", sessions, lines, "--only", "case")
         self.assertEqual((answer.status, answer.out), (1, sessions.read_text(encoding="utf-8")))
         self.assertIn("refused, not accepted", answer.errors)
@@ -127,12 +127,12 @@ class Accept(OnSessions):
         self.assertEqual(sorted(it.name for it in self.room.iterdir()), ["example.lines", "sessions.json"])
 
     def test_lines_of_the_other_order_are_not_accepted(self) -> None:
-        sessions, lines = case("a-column-text-differs-with-order-rows")
+        sessions, lines = self.case("a-column-text-differs-with-order-rows")
         answer = run("accept", sessions, lines, "--order", "rows", "--only", "a")
         self.assert_refused(answer, "in the other order, not by rows: play it in the order that it was recorded in; nothing is accepted")
 
     def test_a_review_goes_on_behind_a_session_of_the_other_order(self) -> None:
-        sessions, lines = case("a-column-text-differs-with-order-rows")
+        sessions, lines = self.case("a-column-text-differs-with-order-rows")
         answer = run("accept", sessions, lines, "--order", "rows", "--review")
         self.assertEqual(answer.status, 0)
         self.assertRegex(answer.errors, "not accepted: the recorded level is the reached one listed in the other order, not by rows: .*\n.*0 of [0-9]+ recorded levels? changed")

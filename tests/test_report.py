@@ -10,7 +10,7 @@ import unittest
 from html.parser import HTMLParser
 from typing import Any, Dict, Iterator, List
 
-from day import EXAMPLE, OnSessions, case, cases_in_rows
+from day import EXAMPLE, OnSessions, cases_in_rows
 from strangers import LETTERS, NAMES, sessions_and_lines
 from tool import TOP, run
 from saxtegun.webpages import script_of
@@ -169,12 +169,12 @@ class Report(OnSessions):
         self.assertEqual(page.json("session-0")["told"], "still in level 1, and the recorded level looks like level 2")
 
     def test_a_refused_source_is_shown_by_its_line_and_its_neighbours(self) -> None:
-        session = self.page(*case("the-word-random-in-a-rule")).json("session-0")
+        session = self.page(*self.case("the-word-random-in-a-rule")).json("session-0")
         self.assertEqual([it[0] for it in session["source"]], list(range(23, 30)))
         self.assertEqual(session["source"][3], [26, "random [ Player ] -> [ Player ]", True])
 
     def test_lines_that_a_cause_is_about_are_in_the_page_once_for_each_source(self) -> None:
-        source = json.loads(case("the-word-random-in-a-rule")[0].read_text(encoding="utf-8"))[0][1][0]
+        source = json.loads(self.case("the-word-random-in-a-rule")[0].read_text(encoding="utf-8"))[0][1][0]
         sources = [source, f"(another)\n{source}", source, f"(another)\n{source}", source]
         causes = ["OutsideProfile:26", "OutsideProfile:27", "OutsideProfile:26", "OutsideProfile:27", "OutsideProfile:5"]
         closes = [{"cause": cause, "close": "refused", "frames": 0, "name": str(number), "session": number} for number, cause in enumerate(causes)]

@@ -6,6 +6,7 @@ import unittest
 from typing import Dict, List, Tuple
 
 import planting
+from tool import case_named
 
 PLACED = 'cell[layer] = (name, kept if word is None else None if word == "stationary" else word)'
 PLACES = 'placed = {layers[name]: (word, name) for word, name in right if word != "no"}'
@@ -231,10 +232,10 @@ class Decided(unittest.TestCase):
         """By another answer, and not by none."""
         text = planting.ENGINE.read_text(encoding="utf-8")
         for (rule, name), errors in ERRORS.items():
-            folder = planting.CASES / name
-            case = planting.case_in(folder)
+            read = case_named(name)
+            case = planting.played_case(read)
             assert case is not None
-            self.assertIn(rule, (folder / "rules").read_text(encoding="utf-8").splitlines())
+            self.assertIn(rule, read.rules)
             self.assertEqual(self.answer(text, case), case.wanted)
             for does, old, new in errors:
                 with self.subTest(name, does=does):

@@ -18,6 +18,7 @@ import tool  # puts the package on the path
 from test_compare import state_of
 from test_processes import hear_signals
 from tool import PROGRAM, TOP, Answer, environment, plays, run
+from saxtegun.cases import lines_of, read_case
 from saxtegun.commands import Refused
 from saxtegun.engines import answers
 from saxtegun.lines import Run
@@ -25,7 +26,7 @@ from saxtegun.playing import Engine
 from saxtegun.reductions import STAGES, of_columns, of_inputs, of_levels, of_lines, of_loops, of_objects
 from saxtegun.sessions import Entry, Sessions
 from saxtegun.shrinking import Programs, Shrinking
-from saxtegun.verbs.shrink import files_of_case, first_that_parts, write_case
+from saxtegun.verbs.shrink import case_of_entry, first_that_parts, write_case
 
 SOURCE = """title A yard (with a comment
 of two lines)
@@ -138,15 +139,14 @@ class OnAYard(OnSessions):
 
 class Shrink(OnAYard):
     def test_the_smallest_session_on_which_they_part_is_written_as_a_case(self) -> None:
-        answer = self.shrink("a long day*", self.room / "case")
+        answer = self.shrink("a long day*", self.room / "case.json")
         self.assertEqual((answer.status, answer.errors), (0, ""))
-        files = {it.name: it.read_text(encoding="utf-8") for it in (self.room / "case").iterdir()}
-        self.assertEqual(sorted(files), ["args", "input.json", "status", "stderr", "stdout"])
-        [[name, [source, inputs, level, index]]] = json.loads(files["input.json"])
+        case = read_case(self.room / "case.json")
+        [[name, [source, inputs, level, index]]] = json.loads(case.input)
         self.assertEqual(lines_left(source), lines_left(SMALLEST))
         self.assertEqual((name, inputs, index, level), ("a long day in the yard", [3, "undo"], 0, "background player:0,background crate:1,background:2,\n"))
-        self.assertEqual([json.loads(it).get("kind") for it in files["stdout"].splitlines()], ["start", "move", "undo", None])
-        self.assertEqual((files["args"], files["stderr"], files["status"]), ("", "", "0\n"))
+        self.assertEqual([json.loads(it).get("kind") for it in case.stdout.splitlines()], ["start", "move", "undo", None])
+        self.assertEqual((case.words, case.stderr, case.status), ([], b"", 0))
         self.assertIn("frame 2, after input 1 (undo)\n", answer.out)
         self.assertIn("from 17 inputs and", answer.out)
 
@@ -156,56 +156,44 @@ class Shrink(OnAYard):
         self.assertIn("show the same", answer.out)
 
     def test_what_can_not_be_shrunk_is_refused(self) -> None:
-        (self.room / "there").mkdir()
-        self.assert_refused(self.shrink("a long day*", self.room / "there"), "is there already")
-        self.assert_refused(self.shrink("nobody", self.room / "case"), "has no session named 'nobody'")
+        self.assert_refused(self.shrink("a long day*", self.write("there", "")), "is there already")
+        self.assert_refused(self.shrink("nobody", self.room / "case.json"), "has no session named 'nobody'")
         self.assert_refused(run("shrink", self.one, self.room / "none", self.sessions, "idle"), "there is no program at")
-        self.assertFalse((self.room / "case").exists())
+        self.assertFalse((self.room / "case.json").exists())
 
     def test_a_case_takes_another_name_where_its_own_is_there_meanwhile(self) -> None:
-        """The second program makes the folder once it is called, as another call would."""
-        case = self.room / "case"
-        other = self.engine("maker", f"__import__('os').makedirs({str(case)!r}, exist_ok=True) is None")
+        """The second program makes the file once it is called, as another call would."""
+        case = self.room / "case.json"
+        other = self.engine("maker", f"open({str(case)!r}, 'a').close() is None")
         answer = run("shrink", self.one, other, self.sessions, "a long day*", case)
-        self.assertEqual((answer.status, answer.errors), (0, f"shrink: {case} has come to be there meanwhile: the case is written as {case}-2\n"))
-        self.assertIn(f"the case is {case}-2\n", answer.out)
-        self.assertEqual((list(case.iterdir()), (self.room / "case-2/status").read_text()), ([], "0\n"))
+        self.assertEqual((answer.status, answer.errors), (0, f"shrink: {case} has come to be there meanwhile: the case is written as {self.room}/case-2.json\n"))
+        self.assertIn(f"the case is {self.room}/case-2.json\n", answer.out)
+        self.assertEqual((case.read_text(), read_case(self.room / "case-2.json").status), ("", 0))
         self.assertEqual(list(self.room.glob(".saxtegun-*")), [])
 
     def test_a_case_is_written_over_nothing(self) -> None:
-        """The first names are of a full folder, an empty one, a file and a link to nothing; and into one that was free another writes first."""
-        names = [str(self.room / name) for name in ("c", "c-2", "c-3", "c-4", "c-5", "c-6")]
-        self.room.joinpath("c").mkdir()
-        self.write("c/kept", "")
-        self.room.joinpath("c-2").mkdir()
-        self.write("c-3", "")
-        self.room.joinpath("c-4").symlink_to("nothing")
-        rename = os.rename
+        """The first names are of a folder, a file and a link to nothing."""
+        names = [str(self.room / name) for name in ("c.json", "c-2.json", "c-3.json", "c-4.json")]
+        self.room.joinpath("c.json").mkdir()
+        self.write("c-2.json", "kept")
+        self.room.joinpath("c-3.json").symlink_to("nothing")
+        self.assertEqual(write_case(names[0], "{}\n"), names[3])
+        self.assertEqual([Path(names[it]).read_text() for it in (1, 3)], ["kept", "{}\n"])
+        self.assertEqual((os.listdir(names[0]), os.path.lexists(self.room / "nothing")), ([], False))
 
-        def late(room: str, name: str) -> None:
-            if name == names[4]:
-                self.write("c-5/strange", "")
-            rename(room, name)
-
-        with mock.patch("os.rename", late):
-            self.assertEqual(write_case(names[0], {"status": b"0\n"}), names[5])
-        self.assertEqual([os.listdir(names[it]) for it in (0, 1, 4, 5)], [["kept"], [], ["strange"], ["status"]])
-        self.assertEqual(write_case(f"{self.room}/d/", {"status": b""}), f"{self.room}/d/")
-        self.assertEqual(write_case(f"{self.room}/d/", {"status": b""}), f"{self.room}/d-2")
-
-    def test_what_ends_it_as_the_case_gets_its_name_leaves_no_empty_folder(self) -> None:
-        def made(folder: str) -> str:
-            os.mkdir(folder)
+    def test_what_ends_it_as_the_case_gets_its_name_leaves_no_empty_file(self) -> None:
+        def made(path: str) -> str:
+            self.write("c.json", "")
             signal.raise_signal(signal.SIGTERM)
-            return folder
+            return path
 
         before = signal.signal(signal.SIGTERM, lambda *_: sys.exit(15))
         try:
             with mock.patch("saxtegun.verbs.shrink.taken_name", made), self.assertRaises(SystemExit):
-                write_case(str(self.room / "c"), {"status": b"0\n"})
+                write_case(str(self.room / "c.json"), "{}\n")
         finally:
             signal.signal(signal.SIGTERM, before)
-        self.assertEqual((os.listdir(self.room / "c"), list(self.room.glob(".saxtegun-*"))), (["status"], []))
+        self.assertEqual(((self.room / "c.json").read_text(), list(self.room.glob(".saxtegun-*"))), ("{}\n", []))
 
     def test_what_ends_it_ends_the_program_that_it_waits_for(self) -> None:
         """Also where Python takes the thread for ended in which that is waited for."""
@@ -214,7 +202,7 @@ class Shrink(OnAYard):
         pids = self.room / "pids"
         for number in (signal.SIGTERM, signal.SIGINT, signal.SIGHUP):
             pids.unlink(missing_ok=True)
-            command = [sys.executable, TOP / "saxtegun", "shrink", sleeper, self.other, self.sessions, "idle", self.room / "case", "--timeout", "100"]
+            command = [sys.executable, TOP / "saxtegun", "shrink", sleeper, self.other, self.sessions, "idle", self.room / "case.json", "--timeout", "100"]
             ran = subprocess.Popen(list(map(str, command)), stdin=subprocess.DEVNULL, stdout=subprocess.DEVNULL, stderr=subprocess.DEVNULL, env=environment(), preexec_fn=hear_signals)
             while not pids.exists() or not pids.read_text().endswith("\n"):
                 time.sleep(0.05)
@@ -228,7 +216,7 @@ class Shrink(OnAYard):
         frame = '{"at":%d,"frame":%d,"kind":"move","level":"a:0,","session":0}\n'
         writer = self.write("writer", f"#!{sys.executable}\nimport sys\nfor number in range(600_000): sys.stdout.write({frame!r} % (number, number))\nsys.stdout.flush()\nopen({str(self.room / 'done')!r}, 'w').close()\n")
         writer.chmod(0o755)
-        command = [sys.executable, TOP / "saxtegun", "shrink", writer, writer, self.sessions, "idle", self.room / "case"]
+        command = [sys.executable, TOP / "saxtegun", "shrink", writer, writer, self.sessions, "idle", self.room / "case.json"]
         ran = subprocess.Popen(list(map(str, command)), stdin=subprocess.DEVNULL, stdout=subprocess.DEVNULL, stderr=subprocess.DEVNULL, env=environment(), preexec_fn=hear_signals)
         while not (self.room / "done").exists():
             time.sleep(0.05)
@@ -242,18 +230,17 @@ class Shrink(OnAYard):
         engine = Engine(program=str(self.one))
         [shown] = answers([entry], engine)
         of = Sessions("s.json", "", [entry])
-        files = files_of_case(entry, shown, engine, of)
-        self.assertEqual(files["stdout"].count(b"\n"), 3)
-        lines = files["stdout"].decode().splitlines(keepends=True)
+        lines = lines_of(case_of_entry(entry, shown, engine, of)).splitlines(keepends=True)
+        self.assertEqual(len(lines), 3)
         frames, close = lines[:-1], lines[-1]
         stopped = re.sub('"close":"(passed|differs)"', '"cause":"loop-limit","close":"stopped"', close)
         wrongs: Tuple[List[str], ...] = ([], ['{"at":0,"frame":0,"kind":"start","level":"a:0,","session":0}\n'], ["no line\n"], frames, [*frames, stopped], [*lines, close], [*lines, "x\n"])
         for wrong in wrongs:
             with self.assertRaises(Refused):
-                files_of_case(entry, shown, self.saying(wrong), of)
+                case_of_entry(entry, shown, self.saying(wrong), of)
         # what passes and what differs hangs on the recorded level alone
         turned = close.replace("differs", "passed") if "differs" in close else close.replace("passed", "differs")
-        self.assertEqual(files_of_case(entry, shown, self.saying([*frames, turned]), of)["stdout"], "".join([*frames, turned]).encode())
+        self.assertEqual(lines_of(case_of_entry(entry, shown, self.saying([*frames, turned]), of)), "".join([*frames, turned]))
 
     def saying(self, lines: List[str]) -> Engine:
         """An engine that writes these lines, whatever it is asked."""
@@ -265,26 +252,26 @@ class Shrink(OnAYard):
     def test_a_program_that_shows_something_else_each_time_makes_no_case(self) -> None:
         """It has the bug in its first call, and then in none."""
         flaky = self.engine("flaky", "(lambda log: log.write('x') and log.tell() == 1)(open(__file__ + '.log', 'a'))")
-        answer = run("shrink", self.one, flaky, self.sessions, "a long day*", self.room / "case")
+        answer = run("shrink", self.one, flaky, self.sessions, "a long day*", self.room / "case.json")
         self.assert_refused(answer, "no longer parts as it did before: a program doesn't show the same each time")
-        self.assertFalse((self.room / "case").exists())
+        self.assertFalse((self.room / "case.json").exists())
 
     def test_two_programs_that_both_fail_make_no_case(self) -> None:
         """One ends by a signal, and the other takes longer than anybody waits."""
         ends, hangs = self.write("ends", "#!/bin/sh\nkill -9 $$\n"), self.write("hangs", "#!/bin/sh\nexec sleep 1000\n")
         for it in (ends, hangs):
             it.chmod(0o755)
-        answer = run("shrink", ends, hangs, self.sessions, "idle", self.room / "case", "--timeout", "1")
+        answer = run("shrink", ends, hangs, self.sessions, "idle", self.room / "case.json", "--timeout", "1")
         self.assertEqual((answer.status, answer.out.count("idle: ")), (2, 2), answer)
         self.assertIn("shrink: both programs fail on idle, and a case has the lines of one that doesn't\n", answer.errors)
-        self.assertFalse((self.room / "case").exists())
+        self.assertFalse((self.room / "case.json").exists())
 
     def test_what_tells_no_stages_keeps_no_rules(self) -> None:
         teller = self.write("teller", "#!/bin/sh\necho 'no stages' >&2\nexit 2\n")
         teller.chmod(0o755)
-        answer = self.shrink("a long day*", self.room / "case", "--stages", teller, teller)
+        answer = self.shrink("a long day*", self.room / "case.json", "--stages", teller, teller)
         self.assert_refused(answer, "--stages: a long day in the yard was not played: no stages")
-        self.assertFalse((self.room / "case").exists())
+        self.assertFalse((self.room / "case.json").exists())
 
 
 class Counting(Programs):
@@ -368,9 +355,9 @@ class DayOfShrinking(OnAYard):
     def test_a_wrapper_that_spoils_undo_is_reported_by_two_inputs(self) -> None:
         other = self.write("spoilt", f"#!/bin/sh\n{PROGRAM} \"$@\" | sed 's/\"kind\":\"undo\"/\"kind\":\"restart\"/'\nexit 1\n")
         other.chmod(0o755)
-        answer = run("shrink", PROGRAM, other, self.sessions, "a long day*", self.room / "case")
+        answer = run("shrink", PROGRAM, other, self.sessions, "a long day*", self.room / "case.json")
         self.assertEqual((answer.status, answer.errors), (0, ""))
-        [[_, [source, inputs, _, _]]] = json.loads((self.room / "case/input.json").read_text(encoding="utf-8"))
+        [[_, [source, inputs, _, _]]] = json.loads(read_case(self.room / "case.json").input)
         self.assertEqual(inputs, ["undo"])
         self.assertEqual(lines_left(source), ["OBJECTS", "Background .", "green", "Player p", "white", "LEGEND", "COLLISIONLAYERS", "Background", "Player", "LEVELS", "."])
 
@@ -380,11 +367,11 @@ class DayOfShrinking(OnAYard):
         sessions = self.write("won.json", json.dumps([["won", [source, [3], "", 0]]]))
         other = self.write("goes-on", f"#!/bin/sh\n{PROGRAM} \"$@\" | sed 's/\"kind\":\"over\"/\"kind\":\"undo\"/'\nexit 1\n")
         other.chmod(0o755)
-        answer = run("shrink", PROGRAM, other, sessions, "won", self.room / "case")
+        answer = run("shrink", PROGRAM, other, sessions, "won", self.room / "case.json")
         self.assertEqual((answer.status, answer.errors), (0, ""))
         self.assertIn("won: frame 2, after input 1 (undo): one shows over of 2 inputs, the other undo of 2\n", answer.out)
-        [[_, [_, inputs, _, _]]] = json.loads((self.room / "case/input.json").read_text(encoding="utf-8"))
-        kinds = [json.loads(it).get("kind") for it in (self.room / "case/stdout").read_text(encoding="utf-8").splitlines()]
+        [[_, [_, inputs, _, _]]] = json.loads(read_case(self.room / "case.json").input)
+        kinds = [json.loads(it).get("kind") for it in read_case(self.room / "case.json").stdout.splitlines()]
         self.assertEqual((inputs[1:], kinds), (["undo"], ["start", "move", "over", None]))
 
 

@@ -3,16 +3,19 @@ from __future__ import annotations
 
 import json
 import unittest
+from pathlib import Path
+from tempfile import TemporaryDirectory
 from typing import Any, Callable, FrozenSet, Iterator, List, Optional, Tuple
 
 import tool  # puts the package on the path
 from tool import CASES
+from saxtegun.cases import plain_cases
 from saxtegun.descriptions import description_of, expect
 from saxtegun.games import Game, game_of
 from saxtegun.levels import Labels, in_rows, read_cells, width_of
 from saxtegun.levelsets import drawn_start, entries_of_levels, first_level
 from saxtegun.lines import Run, runs_in
-from saxtegun.sessions import Entry, read_sessions
+from saxtegun.sessions import Entry, sessions_in
 
 # The faults of a source that name a line, by the sections in which they may.
 SECTIONS = {
@@ -31,13 +34,15 @@ def sessions_of_cases(change: Callable[[Entry], List[str]] = lambda entry: [entr
 
 
 def sessions_of_played_cases() -> Iterator[Tuple[str, Entry, Run, str]]:
-    for case in sorted(CASES.iterdir()):
-        if (case / "status").read_text().strip() == "2":
-            continue
-        order = "rows" if "rows" in (case / "args").read_text() else "columns"
-        sessions = read_sessions(str(case / "input.json"))
-        for _, run in runs_in(str(case / "stdout")):
-            yield case.name, sessions.entries[run.number], run, order
+    with TemporaryDirectory() as room:
+        lines = Path(room, "lines")
+        for case in plain_cases(CASES):
+            if case.status == 2:
+                continue
+            lines.write_bytes(case.stdout)
+            sessions = sessions_in(case.name, case.input.decode())
+            for _, run in runs_in(str(lines)):
+                yield case.name, sessions.entries[run.number], run, "rows" if "rows" in case.words else "columns"
 
 
 def beginnings(entry: Entry) -> List[str]:

@@ -13,7 +13,7 @@ from itertools import accumulate
 from pathlib import Path
 from typing import Any, List
 
-from tool import CASES, TOP, Answer, InARoom, run
+from tool import TOP, Answer, InARoom, case_named, run
 
 SESSION = re.compile(r'"session":(\d+)}$')
 SUITES = ("nine-sessions-with-workers-1", "the-second-of-three-sessions-has-a-refused-source")
@@ -50,8 +50,9 @@ class Suite(InARoom):
             file.with_suffix(".lines").write_text(lines, encoding="utf-8")
 
     def split_and_play(self, name: str, count: int) -> str:
-        whole = (CASES / name / "stdout").read_text(encoding="utf-8")
-        self.assertEqual(self.split(count, (CASES / name / "input.json").read_text(encoding="utf-8")).status, 0)
+        case = case_named(name)
+        whole = case.stdout.decode()
+        self.assertEqual(self.split(count, case.input.decode()).status, 0)
         self.play(whole)
         return whole
 
@@ -75,7 +76,7 @@ class Suite(InARoom):
                     whole = self.split_and_play(name, count)
                     joined = run("join", self.parts)
                     self.assertEqual(joined.out, whole)
-                    self.assertEqual(joined.status, int((CASES / name / "status").read_text()))
+                    self.assertEqual(joined.status, case_named(name).status)
 
     def split_a_day(self, parts: int, count: int = 5) -> str:
         """Splits recordings of a day, and puts their lines there; these, of which the last differs."""
@@ -121,7 +122,7 @@ class Suite(InARoom):
         self.assertEqual(run("join", self.parts).status, 1)
 
     def test_parts_are_consecutive(self) -> None:
-        entries = json.loads((CASES / SUITES[0] / "input.json").read_text())
+        entries = json.loads(case_named(SUITES[0]).input)
         self.split_and_play(SUITES[0], 4)
         parts = [json.loads(file.read_text()) for file in self.files()]
         self.assertEqual([entry for part in parts for entry in part], entries)

@@ -7,7 +7,7 @@ import sys
 import unittest
 from typing import Any
 
-from tool import TOP, InARoom
+from tool import CASES, TOP, InARoom, case_named
 
 # A case whose output is told to differ in its last frame.
 DIFFERS = "a-restart-command-can-be-undone"
@@ -22,7 +22,7 @@ print(r'the output differs from `{DIFFERS}.stdout`: at byte 427, expected ":0,ba
 print("case={DIFFERS} run=ended status=1 runners=1 races=unchecked output=differs proved=no", file=sys.stderr)
 sys.exit(5)
 """
-PUSHES = [it.name for it in (TOP / "conformance/cases").glob("push-*")]
+PUSHES = [it.stem for it in CASES.glob("push-*")]
 
 
 class Try(InARoom):
@@ -40,13 +40,13 @@ class Try(InARoom):
     def test_cases_by_name(self) -> None:
         status, call, names, said = self.tried("push-*")
         self.assertEqual((status, call, names), (5, "pz_replayer try --seconds 120 --cases", sorted(PUSHES)))
-        self.assertRegex(said, rf"^dev/try: {len(PUSHES)} of [0-9]+ cases, unproved\ndev/try: conformance/cases/two ends otherwise\ndev/try: conformance/cases/three ends otherwise\ndev/try: conformance/cases/{DIFFERS} ends otherwise\n")
+        self.assertRegex(said, rf"^dev/try: {len(PUSHES)} of [0-9]+ cases, unproved\ndev/try: conformance/cases/two.json ends otherwise\ndev/try: conformance/cases/three.json ends otherwise\ndev/try: conformance/cases/{DIFFERS}.json ends otherwise\n")
 
     def test_of_a_case_that_differs_the_first_line_that_does_is_told(self) -> None:
         said = self.tried(DIFFERS)[3]
-        wanted = (TOP / "conformance/cases" / DIFFERS / "stdout").read_text(encoding="utf-8").splitlines()[4]
+        wanted = case_named(DIFFERS).stdout.decode().splitlines()[4]
         came = r'{"at":4,"frame":4,"kind":"undo","level":"background player:0,background:1,1,\n","session":0}'
-        self.assertTrue(said.endswith(f"dev/try: conformance/cases/{DIFFERS} ends otherwise\n    wanted: {wanted}\n    came: {came}\n"), said)
+        self.assertTrue(said.endswith(f"dev/try: conformance/cases/{DIFFERS}.json ends otherwise\n    wanted: {wanted}\n    came: {came}\n"), said)
 
     def test_a_rule_has_the_cases_that_name_it(self) -> None:
         _, _, names, said = self.tried("play.over", "push-*")

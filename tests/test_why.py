@@ -15,7 +15,7 @@ from stages_stand_in import written_in
 from test_regressions import STUCK, InAGitFolder
 from test_stages import tells_stages
 from test_test import OfAGame
-from tool import CASES, Answer, plays, run
+from tool import Answer, case_named, plays, run
 from saxtegun import programs, regressions
 from saxtegun.budget import EXPLAINING
 from saxtegun.commands import Refused
@@ -60,7 +60,7 @@ levels
 """
 LINE = 20
 # A game without rules, whose level is `#p.#`, and whose first rule would stand on line 26.
-WALK = json.loads((CASES / "walk-two-steps-right-against-a-wall/input.json").read_text(encoding="utf-8"))[0][1][0]
+WALK = json.loads(case_named("walk-two-steps-right-against-a-wall").input)[0][1][0]
 PRESSED = "the press\n    | level      heading\n    | #####      .....\n    | #.pc.      ..>..\n    | #####      .....\n    column 3, row 2: player heads right\n"
 HEADED = "    | level      heading\n    | #####      .....\n    | #.pc.      ..>>.\n    | #####      .....\n    column 4, row 2: crate heads right\n"
 MOVED = """\

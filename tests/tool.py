@@ -8,10 +8,12 @@ import sys
 import tempfile
 import unittest
 from pathlib import Path
-from typing import TYPE_CHECKING, Any, Callable, Dict, List, Optional, TypeVar, Union
+from typing import TYPE_CHECKING, Any, Callable, Dict, List, Optional, Tuple, TypeVar, Union
 
 TOP = Path(__file__).resolve().parent.parent
 sys.path.insert(0, str(TOP / "python"))
+from saxtegun.cases import Case, read_case
+
 CASES = TOP / "conformance" / "cases"
 Tests = TypeVar("Tests", bound=Callable[..., Any])
 PROGRAM = Path(os.environ.get("SAXTEGUN_PROGRAM") or TOP / "crates/pz_replayer/out/pz_replayer")
@@ -29,6 +31,10 @@ class Answer:
 
     def __init__(self, ran: subprocess.CompletedProcess[bytes]) -> None:
         self.out, self.errors, self.status = ran.stdout.decode(), ran.stderr.decode(), ran.returncode
+
+
+def case_named(name: str) -> Case:
+    return read_case(CASES / f"{name}.json")
 
 
 def plays(tests: Tests) -> Tests:
@@ -70,6 +76,13 @@ class InARoom(unittest.TestCase):
         room = tempfile.TemporaryDirectory()
         self.addCleanup(room.cleanup)
         self.room = Path(room.name)
+
+    def case(self, name: str) -> Tuple[Path, Path]:
+        """The files of a case: its sessions and its lines."""
+        files, case = (self.room / f"{name}.json", self.room / f"{name}.lines"), case_named(name)
+        for file, data in zip(files, (case.input, case.stdout)):
+            file.write_bytes(data)
+        return files
 
 
 class OnSmallCrates(InARoom):

@@ -2,11 +2,11 @@
 // The exports of the module: the frames from an input on beside the lines of the whole, the stages of an input, and all with what they ask of the heap
 // refused.
 import assert from "node:assert/strict";
-import { existsSync, readFileSync, readdirSync } from "node:fs";
+import { readFileSync } from "node:fs";
 import test from "node:test";
+import { plainCases } from "./cases.mjs";
 import { exportsOf } from "./instances.mjs";
 
-const CASES = new URL("../../conformance/cases/", import.meta.url);
 const OUT = new URL("../../engine/out/", import.meta.url);
 const ROOM = 4096, OUTCOME = 24, MARK = 7;
 const MEMORY = { status: 2, fault: 1, entry: 0, count: 0, text: "" };
@@ -23,11 +23,9 @@ function linesFrom(text, from) {
 
 // The cases whose command line is good and names no file.
 function* cases() {
-  for (const name of readdirSync(CASES).sort()) {
-    const read = (file) => readFileSync(new URL(`${name}/${file}`, CASES));
-    const words = existsSync(new URL(`${name}/args`, CASES)) ? read("args").toString().split("\n").slice(0, -1) : [];
+  for (const { name, words, input: file, shown: text, status } of plainCases()) {
     if (words.length > 0 && !(words.length === 2 && words[0] === "--order" && ["rows", "columns"].includes(words[1]))) continue;
-    yield { name, order: words[1] === "rows" ? 0 : 1, file: read("input.json"), text: read("stdout").toString(), status: Number(read("status")) };
+    yield { name, order: words[1] === "rows" ? 0 : 1, file, text, status };
   }
 }
 

@@ -1,16 +1,15 @@
 // @ts-check
 // The functions of engine/saxtegun.mjs and their refusals, over the module that engine/build has made. What is expected is that of the conformance cases.
 import assert from "node:assert/strict";
-import { existsSync, readFileSync, readdirSync } from "node:fs";
+import { readFileSync } from "node:fs";
 import test from "node:test";
 import { Worker } from "node:worker_threads";
 import { elementsOf, load, numbered, parse, partsOf } from "../../engine/saxtegun.mjs";
+import { plainCases, readCase } from "./cases.mjs";
 import { wrong } from "./instances.mjs";
 import { attack } from "./hostile.mjs";
 
-const CASES = new URL("../../conformance/cases/", import.meta.url);
-const WALK = "walk-two-steps-right-against-a-wall";
-const read = (name, file) => readFileSync(new URL(`${name}/${file}`, CASES));
+const WALK = readCase("walk-two-steps-right-against-a-wall");
 const textOf = (bytes) => new TextDecoder().decode(bytes);
 const bytesOf = (text) => new TextEncoder().encode(text);
 const refused = (fault) => ({ status: 2, passed: false, lines: new Uint8Array(0), fault });
@@ -19,22 +18,19 @@ const refused = (fault) => ({ status: 2, passed: false, lines: new Uint8Array(0)
 function suite() {
   const entries = [], lines = [];
   let isPassed = true;
-  for (const name of readdirSync(CASES).sort()) {
-    const words = existsSync(new URL(`${name}/args`, CASES)) ? textOf(read(name, "args")) : "";
-    const status = textOf(read(name, "status")).trim();
-    if (words !== "--order\nrows\n" || status === "2") continue;
-    const input = read(name, "input.json"), shown = textOf(read(name, "stdout"));
+  for (const { words, input, shown, status } of plainCases()) {
+    if (words.join(" ") !== "--order rows" || status === 2) continue;
     const first = entries.length;
     entries.push(...elementsOf(input).map(([begin, end]) => textOf(input.subarray(begin, end))));
     lines.push(shown.replace(/"session":(\d+)\}$/gm, (_, number) => `"session":${Number(number) + first}}`));
-    isPassed &&= status === "0";
+    isPassed &&= status === 0;
   }
   return { text: `[${entries.join(",")}]`, count: entries.length, lines: lines.join(""), isPassed };
 }
 
 test("a file is played, as text and as bytes", async () => {
   const engine = await load();
-  const file = read(WALK, "input.json"), lines = new Uint8Array(read(WALK, "stdout"));
+  const file = WALK.input, lines = WALK.lines;
   for (const given of [textOf(file), file, new Uint8Array(file), new Uint8Array(file).buffer, new DataView(new Uint8Array(file).buffer)]) {
     assert.deepEqual(engine.replay(given, { order: "rows" }), { status: 0, passed: true, lines, fault: null });
   }
@@ -50,9 +46,9 @@ test("the order is columns where none is named", async () => {
 });
 
 test("bytes that are changed once they were handed in are played in workers as they were", async () => {
-  const engine = await load(), file = new Uint8Array(read(WALK, "input.json")), answer = engine.replayInWorkers(file, { order: "rows" });
+  const engine = await load(), file = new Uint8Array(WALK.input), answer = engine.replayInWorkers(file, { order: "rows" });
   file.fill(0x20);
-  assert.deepEqual(await answer, { status: 0, passed: true, lines: new Uint8Array(read(WALK, "stdout")), fault: null });
+  assert.deepEqual(await answer, { status: 0, passed: true, lines: WALK.lines, fault: null });
 });
 
 test("a file that is refused has its fault and no lines", async () => {
@@ -116,15 +112,15 @@ test("the module is loaded from an address, from bytes and compiled", async () =
 
 test("lines are parsed", async () => {
   const engine = await load();
-  const objects = parse(engine.replay(read(WALK, "input.json"), { order: "rows" }).lines);
+  const objects = parse(engine.replay(WALK.input, { order: "rows" }).lines);
   assert.deepEqual(objects.map((it) => it.kind ?? it.close), ["start", "move", "move", "passed"]);
   assert.deepEqual(parse(new Uint8Array(0)), []);
 });
 
 test("the frames of a session are given from an input on", async () => {
   const engine = await load();
-  const [[, [source, inputs, level]]] = JSON.parse(textOf(read(WALK, "input.json")));
-  const all = parse(read(WALK, "stdout"));
+  const [[, [source, inputs, level]]] = JSON.parse(textOf(WALK.input));
+  const all = parse(WALK.lines);
   const close = { ...all.pop(), name: "" };
   for (let from = 0; from <= 3; from++) {
     const frames = all.filter((it) => it.at >= from);
@@ -173,7 +169,7 @@ test("progress is told", async () => {
 test("a call is ended by its signal", async () => {
   const engine = await load();
   const presses = Array(60_000).fill("4,3,1").join(",").split(",").slice(0, 60_000).join(",");
-  const [name, [source, , level]] = JSON.parse(textOf(read(WALK, "input.json")))[0];
+  const [name, [source, , level]] = JSON.parse(textOf(WALK.input))[0];
   const long = `[${JSON.stringify([name, [source, [], level]]).replace("[]", `[${presses}]`)}]`;
   const controller = new AbortController();
   const playing = engine.replayInWorkers(long, { signal: controller.signal });

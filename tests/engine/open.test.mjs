@@ -2,15 +2,15 @@
 // Sessions that are kept open by engine/saxtegun.mjs. What is expected is what the engine's frames of the same inputs are, and of the small game what is
 // worked out by hand. A module that keeps none open says so.
 import assert from "node:assert/strict";
-import { existsSync, readFileSync, readdirSync } from "node:fs";
+import { existsSync, readFileSync } from "node:fs";
 import test from "node:test";
 import { load } from "../../engine/saxtegun.mjs";
+import { plainCases } from "./cases.mjs";
 import { exportsOf, wrong } from "./instances.mjs";
 
 const OUT = new URL("../../engine/out/", import.meta.url);
 const MODULE = process.env.SAXTEGUN_MODULE ?? new URL("saxtegun.wasm", OUT), REFUSING = new URL("refusing.wasm", OUT);
 const EMPTY = Uint8Array.of(0, 0x61, 0x73, 0x6d, 1, 0, 0, 0);
-const CASES = new URL("../../conformance/cases/", import.meta.url);
 /** @type {import("../../engine/saxtegun").Session["inputs"]} */
 const INPUTS = [0, 1, 2, 3, 4, "undo", "restart", "tick"];
 /** @type {("rows" | "columns")[]} */
@@ -141,9 +141,8 @@ it("memory that is given back is used again", () => {
 // The sources of the conformance cases that are played.
 function sources() {
   const found = new Set();
-  for (const name of readdirSync(CASES)) {
-    const file = readFileSync(new URL(`${name}/input.json`, CASES));
-    const entries = engine.replay(file).fault === null ? JSON.parse(file.toString()) : [];
+  for (const { input } of plainCases()) {
+    const entries = engine.replay(input).fault === null ? JSON.parse(new TextDecoder().decode(input)) : [];
     for (const [, [source]] of entries) if (typeof source === "string" && source.length < 4000) found.add(source);
   }
   return [...found];

@@ -12,29 +12,28 @@ line of one.
 With --stages S T the first stage at which they part also stays one of the same
 rules: S and T tell the stages of P and Q; `saxtegun` tells our own.
 
-FOLDER, which must not be there yet, gets the five files of a case; if it has
-come to be there meanwhile, FOLDER-2 does, or the next. Its stdout is what P
-wrote, or Q where P fails, and that may be wrong: read it against the rule
-before you keep it.
+FILE, which must not be there yet, gets the case; if it has come to be there
+meanwhile, FILE-2 does, or the next. Its lines are what P wrote, or Q where P
+fails, and that may be wrong: read them against the rule before you keep it.
 
 Exit status: 0 a case was written, 1 the programs don't diverge, 2 something
 is refused."""
 from __future__ import annotations
 
-import errno
+import json
 import os
 import re
-import shutil
 import sys
 import tempfile
 from argparse import ArgumentParser, Namespace
 from time import monotonic
-from typing import Dict, List, NamedTuple, Optional, Tuple
+from typing import Any, Dict, List, NamedTuple, Optional, Tuple
 
+from saxtegun.cases import file_of, written_case
 from saxtegun.commands import Refused, add_game, add_order, cut, fold, plural, printable, say, seconds_in, workers_in
 from saxtegun.divergence import below_of, divergence_of, sentence_of
 from saxtegun.engines import FAILED, SECONDS, answers, engine_at, failure_told, tellers_of, with_frames
-from saxtegun.files import guard_places
+from saxtegun.files import guard_places, read_lines, rights_of_new
 from saxtegun.levels import Labels, read_cells
 from saxtegun.lines import PLAYED, Run, runs_in
 from saxtegun.playing import Engine, play_file
@@ -44,9 +43,9 @@ from saxtegun.shrinking import Programs, Way, cut_behind, shrunk
 from saxtegun.solutions import MOST_INPUTS, with_one_more
 from saxtegun.texts import over, read_game, say_others
 
-USAGE = "shrink P Q SESSIONS NAME [FOLDER] [options]"
-LETTERS_OF_A_FOLDER = 60
-# Below so many a number behind the name of a folder is looked for that makes it a new one.
+USAGE = "shrink P Q SESSIONS NAME [FILE] [options]"
+LETTERS_OF_A_FILE = 60
+# Below so many a number behind the name of a file is looked for that makes it a new one.
 MOST_NAMES = 1000
 NOT_EACH_TIME = "a program doesn't show the same each time"
 # So many seconds a session shrinks.
@@ -58,7 +57,7 @@ def add_words(words: ArgumentParser) -> None:
     words.add_argument("other", metavar="Q")
     words.add_argument("sessions", metavar="SESSIONS")
     words.add_argument("name", metavar="NAME")
-    words.add_argument("folder", metavar="FOLDER", nargs="?", help="where the case is written (a folder named after the session)")
+    words.add_argument("file", metavar="FILE", nargs="?", help="where the case is written (a file named after the session)")
     add_game(words)
     words.add_argument("--stages", metavar=("S", "T"), nargs=2, help="what tells the stages of P and of Q: they then go on parting by the same rules")
     words.add_argument("--workers", metavar="N", type=workers_in)
@@ -67,9 +66,9 @@ def add_words(words: ArgumentParser) -> None:
     add_order(words)
 
 
-def folder_of(name: str) -> str:
-    """The name of a folder by that of a session."""
-    return re.sub("[^a-z0-9]+", "-", fold(name)).strip("-")[:LETTERS_OF_A_FOLDER].strip("-") or "case"
+def file_named(name: str) -> str:
+    """The name of a case's file by that of a session."""
+    return (re.sub("[^a-z0-9]+", "-", fold(name)).strip("-")[:LETTERS_OF_A_FILE].strip("-") or "case") + ".json"
 
 
 class Found(NamedTuple):
@@ -117,67 +116,51 @@ def is_as_shown(path: str, entry: Entry, shown: Run) -> bool:
     ] == [(entry.name, shown.frames, shown.cause, shown.close in PLAYED or shown.close)]
 
 
-def files_of_case(entry: Entry, shown: Run, engine: Engine, of: Sessions) -> Dict[str, bytes]:
-    """The five files of a case, as an engine answers it. Refused where it doesn't show what it showed before."""
+def case_of_entry(entry: Entry, shown: Run, engine: Engine, of: Sessions) -> Dict[str, Any]:
+    """A case, as an engine answers it. Refused where it doesn't show what it showed before."""
     text = written([entry])
     with room_for_now() as room:
-        path, lines = os.path.join(room, "input.json"), os.path.join(room, "lines")
+        path, lines = os.path.join(room, "sessions.json"), os.path.join(room, "lines")
         with open(path, "w", encoding="utf-8", newline="") as file:
             file.write(text)
         status = play_file(path, lines, engine, of._replace(entries=[entry]), engine.seconds)
-        with open(lines, "rb") as lines_shown:
-            stdout = lines_shown.read()
-        is_same = is_as_shown(lines, entry, shown)
-    if not is_same:
-        raise Refused(f"{cut(entry.name)} with {plural(len(entry.inputs), 'input')} shows other frames than before, or another close: {NOT_EACH_TIME}")
-    args = "--order\nrows\n" if engine.order == "rows" else ""
-    return {"input.json": text.encode(), "args": args.encode(), "stdout": stdout, "stderr": b"", "status": f"{status}\n".encode()}
+        if not is_as_shown(lines, entry, shown):
+            raise Refused(f"{cut(entry.name)} with {plural(len(entry.inputs), 'input')} shows other frames than before, or another close: {NOT_EACH_TIME}")
+        wanted = [json.loads(line) for _, line in read_lines(lines)]
+    return {"words": ["--order", "rows"] if engine.order == "rows" else [], **file_of(text), "lines": wanted, "status": status}
 
 
-def taken_name(folder: str) -> str:
-    """Makes an empty folder by this name, or by another (`name-2`, ..) where something has come to be there, and answers its name."""
-    plain = folder.rstrip(os.sep)
-    for name in (folder, *(f"{plain}-{number}" for number in range(2, MOST_NAMES))):
+def taken_name(path: str) -> str:
+    """Makes an empty file by this name, or by another (`name-2.json`, ..) where something has come to be there, and answers its name."""
+    root, ending = os.path.splitext(path)
+    for name in (path, *(f"{root}-{number}{ending}" for number in range(2, MOST_NAMES))):
         try:
-            os.mkdir(name)
+            os.close(os.open(name, os.O_CREAT | os.O_EXCL | os.O_WRONLY))
             return name
         except FileExistsError:
             continue
-    raise Refused(f"{folder} can't be written: it is there, as are {MOST_NAMES - 2} others named after it")
+    raise Refused(f"{path} can't be written: it is there, as are {MOST_NAMES - 2} others named after it")
 
 
-def write_case(folder: str, files: Dict[str, bytes]) -> str:
-    """Writes a case into a folder beside, which gets its name, or another that is free, once all is there. Answers that name."""
-    beside = os.path.dirname(os.path.abspath(folder))
-    room = ""
+def write_case(path: str, text: str) -> str:
+    """Writes a case beside its place; it gets its name, or another that is free, once all is there. Answers that name."""
+    new, beside = "", os.path.dirname(os.path.abspath(path))
     try:
         with held():
-            room = tempfile.mkdtemp(prefix=".saxtegun-", dir=beside)
-        os.chmod(room, 0o755)
-        for name, data in files.items():
-            with open(os.path.join(room, name), "wb") as file:
-                file.write(data)
-        return renamed(room, folder)
-    except OSError as why:
-        raise Refused(f"{folder} can't be written: {why.strerror}") from None
-    finally:
-        if room:
-            shutil.rmtree(room, ignore_errors=True)
-
-
-def renamed(room: str, folder: str) -> str:
-    """Gives a folder a name that nothing had, and answers it."""
-    while True:
+            file = tempfile.NamedTemporaryFile("w", encoding="utf-8", newline="", dir=beside, prefix=".saxtegun-", delete=False)
+            new = file.name
+        with file:
+            file.write(text)
+        os.chmod(new, rights_of_new())
         with held():
-            name = taken_name(folder)
-            try:
-                os.rename(room, name)
-                return name
-            except OSError as why:
-                # another has written into the one that was made for it
-                if why.errno not in (errno.ENOTEMPTY, errno.EEXIST):
-                    os.rmdir(name)
-                    raise
+            name = taken_name(path)
+            os.replace(new, name)
+        return name
+    except OSError as why:
+        raise Refused(f"{path} can't be written: {why.strerror}") from None
+    finally:
+        if new and os.path.exists(new):
+            os.unlink(new)
 
 
 def started_with(programs: Programs, found: Found) -> Entry:
@@ -211,10 +194,10 @@ def main(given: Namespace) -> int:
     game = read_game(given.game)
     sessions = over(read_sessions(given.sessions), game)
     say_others("shrink", sessions, game)
-    folder = given.folder or folder_of(given.name)
-    if os.path.lexists(folder):
-        raise Refused(f"{folder} is there already")
-    guard_places(folder)
+    file = given.file or file_named(given.name)
+    if os.path.lexists(file):
+        raise Refused(f"{file} is there already")
+    guard_places(file)
     engine = Engine(given.order, given.workers, seconds=given.timeout, may_build=False)
     programs = Programs(engine_at(given.one, engine), engine_at(given.other, engine), tuple(tellers_of(given)))
     entries = chosen(sessions, [given.name])
@@ -235,9 +218,9 @@ def main(given: Namespace) -> int:
     if found.way[0] != "close":
         # the recorded level decides nothing here, and the one that P reached makes the case one that P passes
         entry = with_reached(entry, next(answers([entry], keeper)))
-    written_as = write_case(folder, files_of_case(entry, shown, keeper, sessions))
-    if written_as != folder:
-        say(f"shrink: {folder} has come to be there meanwhile: the case is written as {written_as}")
+    written_as = write_case(file, written_case(case_of_entry(entry, shown, keeper, sessions)))
+    if written_as != file:
+        say(f"shrink: {file} has come to be there meanwhile: the case is written as {written_as}")
     sizes = [f"{plural(len(it.inputs), 'input')} and {plural(len(it.source), 'letter')} of source" for it in (found.entry, entry)]
     print(printable(f"from {sizes[0]} to {sizes[1]}, {plural(tried, 'session')} played; the case is {written_as}"))
     return 0
