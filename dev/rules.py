@@ -4,6 +4,8 @@ import re
 from pathlib import Path
 from typing import Dict, Iterator, List, NamedTuple, Tuple
 
+from edits import read_edits
+
 ID = r"[a-z]+(?:-[a-z]+)*\.[a-z]+(?:-[a-z]+)*"
 IDS = rf"{ID}(?:, {ID})*"
 # in a page, behind the sentences of the rule
@@ -92,12 +94,12 @@ def cases(top: Path) -> Iterator[Tuple[str, Place]]:
 
 
 def bodies(top: Path) -> Iterator[Tuple[str, Place]]:
-    for file in sorted([*top.glob("attack/*/*.edit"), *top.glob("crates/*/must-fail/*.edit")]):
-        first = file.read_text(encoding="utf-8").partition("\n")[0]
+    for edit in read_edits(top):
+        first = edit.text.partition("\n")[0]
         found = BODY.search(first)
         if found:
             for it in found[1].split(", "):
-                yield it, Place(str(file.relative_to(top)), 1, file.stem, first[: found.start()])
+                yield it, Place(edit.file, edit.line, edit.name, first[: found.start()])
 
 
 def led_to(top: Path) -> Iterator[Tuple[str, str]]:

@@ -34,7 +34,7 @@ RULE = {
     "crates/pz_one/specs/Lib.antt": "-- What a number is.\nuse Rattle\n\n-- number.same: the number\n-- itself\nabbrev pub same : ℕ → ℕ\nsame n = n\n\nabbrev pub other : ℕ\n",
     "crates/pz_one/src/same.rt": "/// The number itself. Rule `number.same`.\n#[inline]\npub fn same(number: u32) -> u32\n",
     "conformance/cases/a-number-isn-t-another.json": '{"rules": ["number.same"], "words": []}\n',
-    "attack/pz_one/answers_null.edit": "Answers 0. [number.same]\nfile: src/same.rt\nold: same\nnew: null\n",
+    "attack/pz_one.edits": "== answers_null\nAnswers 0. [number.same]\nfile: src/same.rt\nold: same\nnew: null\n",
 }
 AT = dict(zip(("sentence", "definition", "function", "case", "body"), RULE))
 
@@ -78,7 +78,7 @@ class OfRules(OnOneRule):
         self.assertEqual(self.told(), [])
 
     def test_an_id_that_no_page_has_is_told_wherever_it_stands(self) -> None:
-        for kind, line in (("definition", 6), ("function", 3), ("case", 1), ("body", 1)):
+        for kind, line in (("definition", 6), ("function", 3), ("case", 1), ("body", 2)):
             with self.subTest(kind):
                 text = RULE[AT[kind]]
                 joint = {"definition": ", ", "function": "`, `", "case": '", "', "body": ", "}[kind]
@@ -132,7 +132,7 @@ class OfTheBook(OnOneRule):
                 "Function `same`, crates/pz_one/src/same.rt:3",
                 "    /// The number itself. Rule `number.same`.\n    #[inline]\n    pub fn same(number: u32) -> u32",
                 "Case: A number isn't another. conformance/cases/a-number-isn-t-another.json",
-                "Wrong body: Answers 0. attack/pz_one/answers_null.edit",
+                "Wrong body: Answers 0. attack/pz_one.edits:2 answers_null",
                 "    file: src/same.rt\n    old: same\n    new: null\n",
             ],
         )

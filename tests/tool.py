@@ -96,7 +96,7 @@ class OnSmallCrates(InARoom):
             self.write(f"crates/{line.partition(':')[0]}/src/lib.rt", CRATE)
         self.tool = self.room / "dev" / name
         self.tool.parent.mkdir()
-        for file in (name, "crates.py", "proving.py", "rules.py"):
+        for file in (name, "crates.py", "edits.py", "proving.py", "rules.py"):
             shutil.copy(TOP / "dev" / file, self.tool.parent)
 
     def write(self, path: str, text: str) -> Path:
