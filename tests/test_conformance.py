@@ -8,7 +8,6 @@ import subprocess
 import sys
 import unittest
 from concurrent.futures import ThreadPoolExecutor
-from fnmatch import fnmatchcase
 from pathlib import Path
 from time import monotonic, sleep
 from types import ModuleType
@@ -69,7 +68,7 @@ class Runner(InARoom):
             "    | p..         p..         .p.",
             f"    more: conformance/run --unpack {UNDO} case; {program} --order rows <case/input.json | ./saxtegun compare case/lines - case/input.json --order rows",
         ])
-        self.assertEqual(out.splitlines()[7:], ["playing: 1 of 1 fail", "0 passed, 1 failed"])
+        self.assertEqual(out.splitlines()[7:], ["play: 1 of 1 fail", "0 passed, 1 failed"])
 
     def test_a_line_that_is_none_is_told(self) -> None:
         for change, wanted in ((lambda it: "no line\n" + it, "answered: no line"), (lambda it: "", "answered: nothing"), (lambda it: it + "\x1b[2J\n", "answered: \\u{1b}[2J")):
@@ -86,7 +85,7 @@ class Runner(InARoom):
     def test_a_status_and_a_word_of_failure_are_told(self) -> None:
         status, out, _ = self.ran("--only", "file-with-a-fraction", self.program("echo memory >&2; exit 3"))
         self.assertEqual(status, 1)
-        self.assertIn("    stderr, wanted: bad-entry 0; answered: memory\n    status, wanted: 2; answered: 3\nfiles: 1 of 1 fail\n", out)
+        self.assertIn("    stderr, wanted: bad-entry 0; answered: memory\n    status, wanted: 2; answered: 3\nfile: 1 of 1 fail\n", out)
 
     def test_a_program_that_hangs_is_stopped_and_the_others_are_played(self) -> None:
         program = self.answers(UNDO, str)
@@ -200,7 +199,7 @@ class Runner(InARoom):
     def test_a_junit_file_has_each_case(self) -> None:
         self.ran("--junit", self.room / "x.xml", "--only", UNDO, "--only", "movement-goes-*", self.answers(UNDO, str))
         suite = ElementTree.parse(self.room / "x.xml").getroot()
-        self.assertEqual([(it.get("classname"), it.get("name"), len(it)) for it in suite], [("movement", "movement-goes-column-by-column", 1), ("playing", UNDO, 0)])
+        self.assertEqual([(it.get("classname"), it.get("name"), len(it)) for it in suite], [("move", "movement-goes-column-by-column", 1), ("play", UNDO, 0)])
 
     def test_words_that_are_wrong_are_refused(self) -> None:
         for words, what in ((("--only", "none-*", RUN), "no case fits none-*"), (("--jobs", "0", RUN), "--jobs wants a number from 1 to 64"), (("--limit", "x", RUN), "--limit wants"), (("--only",), "wants a word behind it")):
@@ -232,16 +231,11 @@ class Suite(unittest.TestCase):
                 text = file.read_text(encoding="utf-8")
                 self.assertEqual(text, written_case(json.loads(text)))
 
-    def test_each_rule_has_cases_and_each_pattern_fits_one(self) -> None:
-        left = self.names()
-        for line in (TOP / "conformance/rules.txt").read_text(encoding="utf-8").splitlines():
-            rule, _, patterns = line.partition(":")
-            fitting = [name for name in left if any(fnmatchcase(name, it) for it in patterns.split())]
-            self.assertTrue(fitting, rule)
-            for pattern in patterns.split():
-                self.assertTrue(any(fnmatchcase(name, pattern) for name in self.names()), f"{rule}: {pattern}")
-            left = [it for it in left if it not in fitting]
-        self.assertEqual(left, [])
+    def test_each_case_names_its_rules_first(self) -> None:
+        for file in CASES.iterdir():
+            with self.subTest(file.name):
+                key, rules = next(iter(json.loads(file.read_text(encoding="utf-8")).items()))
+                self.assertEqual((key, bool(rules), len(set(rules))), ("rules", True, len(rules)))
 
 
 class Files(InARoom):
