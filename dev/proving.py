@@ -13,14 +13,15 @@ from concurrent.futures import FIRST_COMPLETED, Future, ThreadPoolExecutor, wait
 from pathlib import Path
 from typing import Callable, Dict, List, Optional, Sequence, Set, Tuple, Union
 
-from crates import Uses, lanes_for_checks, read_uses
+from crates import Uses, lanes_for_checks, read_crates, read_uses
 
 TOP = Path(__file__).resolve().parent.parent
 PROGRAM, LIBRARY = "src/main.rt", "src/lib.rt"
 SOURCES = ("src", "specs", "proofs")
-# A line of dev/proof-seconds.txt: a crate, and how many seconds its proof takes. One that has no line is taken for a middling one.
+# A line of dev/proof-seconds.txt: a crate, and how many seconds its proof takes. One that has none is weighed by its lines of code, definitions
+# and proofs, as fits the others: so many seconds, and one more for so many lines.
 SECONDS = re.compile(r"^(\w+) (\d+)$", re.M)
-MIDDLING = 60
+LEAST, LINES_OF_A_SECOND = 30, 50
 # What a check takes at most, as docs/proving.md tells, with some room.
 MEMORY_OF_A_CHECK = 4_000_000_000
 PROVED = re.compile(r"rt: (\w+) (?:proved$|is kept)")
@@ -73,10 +74,19 @@ def root_of(name: str) -> str:
     return PROGRAM if (TOP / "crates" / name / PROGRAM).is_file() else LIBRARY
 
 
+def sources_of(name: str) -> List[Path]:
+    return [it for folder in SOURCES for it in (TOP / "crates" / name / folder).rglob("*") if it.is_file()]
+
+
 def seconds_of_proofs() -> Dict[str, int]:
-    """How many seconds the proof of each crate takes, as dev/proof-seconds.txt says: only which crate comes first depends on it."""
+    """About how many seconds the proof of each crate takes, as dev/proof-seconds.txt or else its lines say."""
     file = TOP / "dev/proof-seconds.txt"
-    return {name: int(seconds) for name, seconds in SECONDS.findall(file.read_text(encoding="utf-8"))} if file.is_file() else {}
+    measured = dict(SECONDS.findall(file.read_text(encoding="utf-8"))) if file.is_file() else {}
+    return {it: int(measured[it]) if it in measured else LEAST + lines_of(it) // LINES_OF_A_SECOND for it in read_crates(TOP)}
+
+
+def lines_of(name: str) -> int:
+    return sum(file.read_bytes().count(b"\n") for file in sources_of(name))
 
 
 def weights(crates: Uses, names: Sequence[str]) -> Dict[str, int]:
@@ -84,7 +94,7 @@ def weights(crates: Uses, names: Sequence[str]) -> Dict[str, int]:
     seconds = seconds_of_proofs()
     found: Dict[str, int] = {}
     for name in reversed(names):
-        found[name] = seconds.get(name, MIDDLING) + max((found[it] for it in names if name in crates[it]), default=0)
+        found[name] = seconds[name] + max((found[it] for it in names if name in crates[it]), default=0)
     return found
 
 
@@ -119,8 +129,7 @@ def library_of(name: str) -> Path:
 def is_proved_here(name: str) -> bool:
     """Whether `rt ci` has left the library of a crate, and no source of the crate is newer."""
     library = library_of(name)
-    sources = [it for folder in SOURCES for it in (TOP / "crates" / name / folder).rglob("*") if it.is_file()]
-    return library.is_dir() and all(it.stat().st_mtime <= library.stat().st_mtime for it in sources)
+    return library.is_dir() and all(it.stat().st_mtime <= library.stat().st_mtime for it in sources_of(name))
 
 
 def take_proved(names: Sequence[str], room: Path) -> bool:

@@ -46,6 +46,18 @@ class Build(OnSmallCrates):
             self.assertEqual((answer.status, answer.out), (2, ""))
 
 
+class Weighed(OnSmallCrates):
+    def test_a_crate_that_was_not_measured_is_weighed_by_its_lines(self) -> None:
+        self.found("build", "low:\nmiddle: low\nhigh: low\n")
+        self.write("crates/middle/src/lib.rt", "x\n" * 100)
+        self.write("crates/middle/proofs/Lib.antt", "x\n" * 150)
+        self.write("crates/middle/out/log", "x\n" * 1000)
+        self.write("crates/high/src/lib.rt", "x\n" * 49)
+        self.write("dev/proof-seconds.txt", "# The seconds of each.\nlow 7\ngone 9\n")
+        answer = run(self.write("dev/weighing.py", "import proving\nprint(proving.seconds_of_proofs())\n"))
+        self.assertEqual((answer.out, answer.errors), ("{'low': 7, 'middle': 35, 'high': 30}\n", ""))
+
+
 class Taken(OnSmallCrates):
     """`take_proved` of dev/proving.py, by which engine/build --after-ci takes what `rt ci` has proved."""
 
