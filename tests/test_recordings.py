@@ -176,6 +176,14 @@ class Accept(OnSessions):
             self.assertIn("    | reached    recorded\n", ran.stderr.decode())
             self.assertIn(f"{changed} of 5 recorded levels changed", ran.stderr.decode())
 
+    def test_what_is_accepted_is_kept_where_standard_output_keeps_nothing(self) -> None:
+        """Of the recordings of the example the last one alone differs."""
+        for words in ([], ["--in-place"]):
+            sessions = self.write("sessions.json", EXAMPLE.read_text(encoding="utf-8"))
+            command = [sys.executable, TOP / "saxtegun", "accept", sessions, self.lines, "--review", *words]
+            ran = subprocess.run(command, input=b"y\n", stdout=subprocess.DEVNULL, stderr=subprocess.PIPE)
+            self.assertEqual((ran.returncode, sessions.read_text(encoding="utf-8")), (0, run("accept", EXAMPLE, self.lines).out))
+
     def test_an_answer_that_is_no_text_is_asked_for_again(self) -> None:
         env = {**os.environ, "PYTHONIOENCODING": "utf-8:strict"}
         ran = subprocess.run([sys.executable, TOP / "saxtegun", "accept", EXAMPLE, self.lines, "--review"], input=b"\xff\ny\n", env=env, stdout=subprocess.PIPE, stderr=subprocess.PIPE)

@@ -111,6 +111,14 @@ def guard_output(*paths: str) -> None:
             raise Refused(f"standard output is {path}, which is read: write to another file, or say --in-place where a verb has it")
 
 
+def is_output_kept() -> bool:
+    """Whether what goes to standard output is kept: not by a terminal, nor by another device."""
+    try:
+        return not stat.S_ISCHR(os.fstat(sys.stdout.fileno()).st_mode)
+    except (OSError, ValueError):
+        return False
+
+
 def is_stream(path: str) -> bool:
     """Whether a path is where standard output or standard error goes, as /dev/stdout is: a file there would take the place of what they have written."""
     for stream in (sys.stdout, sys.stderr):

@@ -10,7 +10,8 @@ says which sessions changed, and which could not: one that was stopped or
 refused was not played to its end.
 
 Look first at what you accept, by `saxtegun report` or `saxtegun explain`. Or
-let --review show one after the other, with both levels, and ask.
+let --review show one after the other, with both levels, and ask: what you
+accept then replaces SESSIONS, unless standard output goes to a file or a program.
 
 With --reindex no level is accepted: a recording that doesn't pass is tried in
 the other levels, up to 1,000 of them, as when levels were inserted or moved;
@@ -35,7 +36,7 @@ from typing import Collection, Dict, Iterable, Iterator, List, Mapping, Optional
 from saxtegun.commands import Ended, Refused, add_game, add_playing, add_ticks, cut, plural, printable, say, seconds_in
 from saxtegun.descriptions import expect
 from saxtegun.explanations import UNREADABLE, Ending, heading, source_told, told
-from saxtegun.files import guard_output, guard_places, write_again
+from saxtegun.files import guard_output, guard_places, is_output_kept, write_again
 from saxtegun.lines import UNANSWERED, Run
 from saxtegun.playing import engine_of, lines_or_played
 from saxtegun.reindexing import WITHIN, reindexed
@@ -153,6 +154,8 @@ def main(given: Namespace) -> int:
         raise Refused("standard input is closed, so --review can't ask")
     if given.in_place and given.sessions == "-":
         raise Refused("--in-place needs a file, and standard input is none")
+    # answers that only a terminal showed would be lost
+    given.in_place = given.in_place or (given.review and not is_output_kept())
     if not given.in_place:
         guard_output(given.sessions, *(it for it in (given.lines, given.game) if it))
     else:
