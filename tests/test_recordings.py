@@ -134,7 +134,7 @@ class Accept(OnSessions):
     def test_a_review_goes_on_behind_a_session_of_the_other_order(self) -> None:
         sessions, lines = self.case("a-column-text-differs-with-order-rows")
         answer = run("accept", sessions, lines, "--order", "rows", "--review")
-        self.assertEqual(answer.status, 0)
+        self.assertEqual(answer.status, 1)
         self.assertRegex(answer.errors, "not accepted: the recorded level is the reached one listed in the other order, not by rows: .*\n.*0 of [0-9]+ recorded levels? changed")
 
     def test_answers_that_can_not_be_written_are_told(self) -> None:
@@ -195,7 +195,8 @@ class Accept(OnSessions):
         frame = '{"at":0,"frame":0,"kind":"start","level":"a,b:0,\\n","session":0}\n'
         lines = self.write("lines", frame + '{"close":"differs","frames":1,"name":"comma","session":0}\n')
         answer = run("accept", sessions, lines)
-        self.assertEqual((answer.status, answer.out), (0, '[["comma", ["", [], "a:0,"]]]'))
+        # none is accepted, so this is no success
+        self.assertEqual((answer.status, answer.out), (1, '[["comma", ["", [], "a:0,"]]]'))
         self.assertIn("holds a comma", answer.errors)
 
     def test_no_tool_writes_over_what_it_reads(self) -> None:

@@ -24,8 +24,8 @@ order (they may be over another source too), or if the recorded level is the
 reached one in the other order. With levels that are the same in both orders it
 doesn't show.
 
-Exit status: 0; 1 a session that --only names could not be changed; 2 a file is
-refused, or with --timeout some session had no answer."""
+Exit status: 0; 1 a session that --only names could not be changed, or none
+could; 2 a file is refused, or with --timeout some session had no answer."""
 from __future__ import annotations
 
 import sys
@@ -197,4 +197,4 @@ def main(given: Namespace) -> int:
     say_all("", said)
     say_untested("accept", (sessions.entries[it] for it in changes))
     say(f"accept: {len(changes)} of {plural(len(sessions.entries), 'recorded level')} changed")
-    return 2 if late else 1 if failed and given.only else 0
+    return 2 if late else 1 if failed and (given.only or not changes) else 0
