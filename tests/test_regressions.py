@@ -55,6 +55,19 @@ class DayOfCommits(InAGitFolder):
         # the stale one had not passed over the committed text either
         self.assertNotIn(SAYS, answer.out.partition("a recording that has gone stale")[2])
 
+    def test_a_session_that_passes_and_no_longer_wins_fails(self) -> None:
+        """No frame shows the last win. Without crates on targets to win by, the second level is not won where it was; the first two sessions won it."""
+        self.write("game.txt", self.source.replace("All Target on Crate", "No Target"))
+        second = [it for it in self.entries if it[0] == "the second level alone"]
+        recordings = self.write_entries(second, "second.json")
+        answer = run("test", self.game, recordings, "--junit", self.room / "j.xml")
+        told = "it won level 2 over the committed game.txt, and no longer does"
+        self.assertEqual((answer.status, answer.out.splitlines()[0]), (1, f"session 0, the second level alone: passed: {told}"))
+        self.assertIn("1 session: 1 passed, 0 differ, 0 stopped, 0 refused, 1 no longer solved; ", answer.out)
+        self.assertIn(told, (self.room / "j.xml").read_text(encoding="utf-8"))
+        self.commit()
+        self.assertEqual(run("test", self.game, recordings).status, 0)
+
     def test_the_report_and_the_summary_are_of_the_same_run(self) -> None:
         self.with_rule(STUCK)
         run("test", self.game, self.recordings, "--markdown", self.room / "m.md")

@@ -230,6 +230,17 @@ class DayOfMending(OfLevels):
             self.assertTrue(all(shortest(behind(read(drawing), old[skipped:more])) is None for more in range(kept + 1, len(old) + 1)))
         self.assertEqual(run("test", game, self.recordings, "--filter", "*level*", "--solved", "*level*").status, 0)
 
+    def test_a_recording_that_passes_and_no_longer_wins_is_mended(self) -> None:
+        """A crate is pushed onto the target; then the player must stand there, who has to push once more."""
+        game, recordings = self.with_level(1, "######\n#P*O.#\n######"), self.room / "won.json"
+        self.assertEqual(run("solve", game, "--level", 2, "--save", recordings).status, 0)
+        (name, body, *_), = json.loads(recordings.read_text(encoding="utf-8"))
+        recordings.write_text(json.dumps([[name, body]]), encoding="utf-8")
+        self.commit()
+        self.write("game.txt", game.read_text(encoding="utf-8").replace("All Target on Crate", "All Target on Player"))
+        answer = run("mend", game, recordings)
+        self.assertEqual((answer.status, *self.told(answer, 0)), (0, "its one input stays, and 1 press follows", [3]))
+
     def test_the_longest_beginning_stays_from_which_the_level_can_be_won(self) -> None:
         """Behind presses that lose the level."""
         lost: List[int] = []

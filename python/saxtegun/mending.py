@@ -174,13 +174,3 @@ class Mender:
         if isinstance(reached, Left):
             return reached._replace(entry=entry)
         return Mended(recorded(longer, reached, self.of), first.kept, longer.inputs[first.kept :], first.longer)
-
-
-def wins_over(entries: Sequence[Entry], text: Optional[str], of: Sessions, engine: Engine) -> Dict[int, int]:
-    """How many levels sessions win over a text, those that pass over it; by their numbers."""
-    if text is None or not entries:
-        return {}
-    before = [it._replace(source=text) for it in entries]
-    runs = runs_of(before, of, engine)
-    ends = solved_of(before, runs, of, engine)
-    return {it.number: wins_of(run) + (ends.get(place) == SOLVED) for place, (it, run) in enumerate(zip(before, runs)) if run.close == "passed"}

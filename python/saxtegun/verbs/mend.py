@@ -3,10 +3,10 @@ keeps the longest beginning of each from which its level can still be won, and
 goes on with as few presses as win it. Where a rule gives `restart`, what such a
 restart leads to isn't searched, and isn't known.
 
-A recording over GAME.txt is mended that doesn't pass and wins fewer levels than
-it is to: all, if its entry says \"solved\"; or as many as it won over the
-committed text of GAME.txt, if that lies in a git folder; or those up to the one
-that its recorded level is of. Of others it isn't known whether they are to win
+A recording over GAME.txt is mended that wins fewer levels than it is to: all, if
+its entry says \"solved\"; or as many as it won over the committed text of
+GAME.txt, if that lies in a git folder; or, if it doesn't pass, those up to the
+one that its recorded level is of. Of others it isn't known whether they are to win
 a level; one that --only names wins at least the one in which it ends.
 
 What was found is shown: how many inputs stay, and what follows them. The file
@@ -19,21 +19,22 @@ from __future__ import annotations
 
 import sys
 from argparse import ArgumentParser, Namespace
-from typing import Dict, List, Optional, Union
+from typing import Dict, List, Union
 
 from saxtegun.commands import Refused, add_playing, cut, plural, printable, say
 from saxtegun.explanations import heading
 from saxtegun.explanations import told as told_of_run
 from saxtegun.files import guard_output, guard_places, write_again
+from saxtegun.levelsets import wins_of
 from saxtegun.lines import Run
-from saxtegun.mending import Left, Mended, Mender, guard_game, standing_of, wins_over, wins_recorded, wins_wanted
+from saxtegun.mending import Left, Mended, Mender, guard_game, standing_of, wins_recorded, wins_wanted
 from saxtegun.playing import engine_of, runs_of
 from saxtegun.processes import held
-from saxtegun.regressions import committed_text
 from saxtegun.sessions import Entry, Sessions, changed, chosen, guard_size, read_sessions, sessions_in
 from saxtegun.solutions import SOLVED, solved_of
 from saxtegun.solving import SECONDS, add_bounds, bounds_of, presses_told, unknown_told
-from saxtegun.texts import GameText, of_another_text, over, read_named, same_text, say_others
+from saxtegun.texts import GameText, of_another_text, over, read_named, say_others
+from saxtegun.wins import text_before, wins_over
 
 USAGE = "mend GAME.txt SESSIONS.json [--only PATTERN..] [--in-place] [--levels N] [--within SECONDS]"
 UNKNOWN = "whether it is to win a level isn't known: --only NAME has it mended"
@@ -48,12 +49,6 @@ def add_words(words: ArgumentParser) -> None:
     add_bounds(words)
 
 
-def text_before(game: GameText) -> Optional[str]:
-    """The committed text of a game, where it is another one."""
-    text = committed_text(game.path)
-    return text if text is not None and text.strip() and not same_text(text, game.source) else None
-
-
 class Work:
     """The sessions of a file, and what becomes of them."""
 
@@ -66,9 +61,14 @@ class Work:
         runs = runs_of(wanted, sessions, self.engine) if wanted else []
         self.runs: Dict[int, Run] = {it.number: run for it, run in zip(wanted, runs)}
         self.over = {wanted[place].number for place, end in solved_of(wanted, runs, sessions, self.engine).items() if end == SOLVED}
-        self.entries = [it for it in wanted if self.runs[it.number].close != "passed" or (it.is_solved_wanted and it.number not in self.over)]
-        self.before = wins_over(self.entries, text_before(game), sessions, self.engine)
+        asked = [it for it in wanted if self.runs[it.number].close != "passed" or it.number not in self.over]
+        self.before = wins_over(asked, text_before(game), sessions, self.engine)
+        self.entries = [it for it in asked if self.runs[it.number].close != "passed" or it.is_solved_wanted or self.has_lost(it)]
         self.mender = Mender(sessions, self.engine, bounds_of(given))
+
+    def has_lost(self, entry: Entry) -> bool:
+        """Whether a session that passes wins fewer levels than before: the last win shows no frame."""
+        return self.before.get(entry.number, 0) > wins_of(self.runs[entry.number]) + (entry.number in self.over)
 
     def become_of(self, entry: Entry) -> Union[Mended, Left]:
         """What becomes of a session."""

@@ -17,7 +17,7 @@ level of game.txt fails too that no presses win; where it isn't known within
 --levels and --within, or none win without a restart by a rule, there is no whole
 answer. If game.txt lies in a git folder, a session that broke since the last
 commit says at which input its frames first part from those of the committed
-text, and by which rule. With --watch all is played again at each save of a file
+text, and by which rule; and one fails that passes, and wins fewer levels. With --watch all is played again at each save of a file
 that was read, until you stop it. With --timeout N a session that isn't answered
 in N seconds is stopped and named, and the others are told as ever.
 
@@ -52,6 +52,7 @@ from saxtegun.solvability import UNKNOWN, UNSOLVABLE, levels_not_won
 from saxtegun.solving import add_bounds, bounds_of
 from saxtegun.texts import GameText, elsewhere_told, file_of, of_another_text, over, read_game, remark, split_files
 from saxtegun.ticks import forget, ticks_property, ticks_told
+from saxtegun.wins import lost_wins
 
 # How a session ends of which it isn't known whether it solves its game.
 UNKNOWN_ENDS = (NOT_PLAYED, NOT_ANSWERED)
@@ -176,11 +177,12 @@ def played(given: Namespace) -> Suite:
     return suite
 
 
-def unsolved_in(suite: Suite, patterns: List[str]) -> Dict[int, str]:
-    """Why sessions fail that passed, and must be solved."""
-    wanted = [it for it in suite.sessions.entries if must_be_solved(it, patterns)]
-    ends = {it.number: suite.solved.get(it.number, NOT_PLAYED) for it in wanted}
-    return {number: no_longer(end) for number, end in ends.items() if end != SOLVED and suite.runs[number].close == "passed"}
+def unsolved_in(suite: Suite, given: Namespace) -> Dict[int, str]:
+    """Why sessions fail that passed, and must be solved, or won more levels over the committed text."""
+    passed = {it.number: suite.solved.get(it.number, NOT_PLAYED) for it in suite.runs if it.close == "passed"}
+    wanted = {it.number for it in suite.sessions.entries if must_be_solved(it, given.solved)}
+    lost = lost_wins(suite.sessions.entries, suite.runs, passed, suite.game, suite.sessions, engine_of(given))
+    return {**lost, **{number: no_longer(end) for number, end in passed.items() if number in wanted and end != SOLVED}}
 
 
 def failures_of(suite: Suite, though_passed: Dict[int, str], given: Namespace, hung: Finder) -> List[Failure]:
@@ -212,7 +214,7 @@ def tell(suite: Suite, failures: List[Failure], unsolved: Dict[int, str], given:
     """Says how the sessions ended; the counts are handed on."""
     if not given.quiet:
         for run in suite.runs:
-            if run.close == "passed" and run.number not in suite.elsewhere:
+            if run.close == "passed" and run.number not in suite.elsewhere and run.number not in unsolved:
                 show(f"passed, {suite.solved.get(run.number, NOT_PLAYED)}: {cut(run.name)}")
     most = given.max_fail if given.max_fail is not None else len(failures)
     for failure in failures[:most]:
@@ -263,7 +265,7 @@ def write_files(suite: Suite, failures: List[Failure], though_passed: Dict[int, 
 def test(given: Namespace) -> int:
     suite = played(given)
     expect(it.source for it in suite.sessions.entries if given.report or suite.runs[it.number].close != "passed")
-    unsolved = unsolved_in(suite, given.solved)
+    unsolved = unsolved_in(suite, given)
     hung = Finder(suite.sessions, engine_of(given))
     suite.unanswered.extend(it for it, why in unsolved.items() if why == UNKNOWN_END)
     though_passed = {**unsolved, **suite.elsewhere}
