@@ -68,6 +68,28 @@ class DayOfCommits(InAGitFolder):
         self.commit()
         self.assertEqual(run("test", self.game, recordings).status, 0)
 
+    def test_what_no_longer_wins_is_accepted_only_where_that_is_known(self) -> None:
+        """Without pushes nothing is won any more; the first two sessions won the second level, which is the last, and the others none."""
+        self.with_rule(STUCK)
+        lost = "it won level 2 over the committed game.txt, and no longer does"
+        for words, status, told in (((), 1, f"not accepted: {lost}: mend it by saxtegun mend, or accept it by --anyway"), (("--anyway",), 0, f"accepted, though {lost}")):
+            answer = run("accept", self.recordings, "--game", self.game, *words)
+            lines = answer.errors.splitlines()
+            self.assertEqual((answer.status, lines[:2]), (status, [f"accept: session {it}, {self.entries[it][0]}: differs, {told}" for it in (0, 1)]))
+            self.assertIn(f"accept: session 4, {self.entries[4][0]}: differs, accepted", lines)
+            stays = [new[1][2] == old[1][2] for new, old in zip(json.loads(answer.out), self.entries)]
+            self.assertEqual((stays[:2], stays[4]), ([not words] * 2, False))
+        answer = run("accept", self.recordings, "--game", self.game, "--review", "--only", self.entries[0][0], stdin=b"y\n")
+        self.assertEqual((answer.status, f"    {lost}\naccept it?" in answer.errors), (0, True))
+
+    def test_what_must_be_solved_and_is_not_is_not_accepted(self) -> None:
+        shutil.rmtree(self.room / ".git")
+        self.with_rule(STUCK)
+        recordings = self.write_entries([[*self.entries[1], "solved"]])
+        answer = run("accept", recordings, "--game", self.game)
+        self.assertEqual((answer.status, json.loads(answer.out)), (1, json.loads(recordings.read_text(encoding="utf-8"))))
+        self.assertIn("differs, not accepted: no longer solved: not solved: mend it by", answer.errors)
+
     def test_the_report_and_the_summary_are_of_the_same_run(self) -> None:
         self.with_rule(STUCK)
         run("test", self.game, self.recordings, "--markdown", self.room / "m.md")

@@ -13,6 +13,10 @@ Look first at what you accept, by `saxtegun report` or `saxtegun explain`. Or
 let --review show one after the other, with both levels, and ask: what you
 accept then replaces SESSIONS, unless standard output goes to a file or a program.
 
+A session that won more levels over the committed text of GAME.txt, or that must be
+solved and isn't, is accepted only with --anyway, or where --review asks: see
+whether saxtegun mend makes it win again. With LINES nothing is known of that.
+
 With --reindex no level is accepted: a recording that doesn't pass is tried in
 the other levels, up to 1,000 of them, as when levels were inserted or moved;
 all recordings together for 600 s, or as long as --within says. If it was tried in all and passes in one alone, its index is set; standard error
@@ -25,7 +29,8 @@ reached one in the other order. With levels that are the same in both orders it
 doesn't show.
 
 Exit status: 0; 1 a session that --only names could not be changed, or none
-could; 2 a file is refused, or with --timeout some session had no answer."""
+could, or one no longer wins; 2 a file is refused, or with --timeout some session
+had no answer."""
 from __future__ import annotations
 
 import sys
@@ -38,12 +43,14 @@ from saxtegun.descriptions import expect
 from saxtegun.explanations import UNREADABLE, Ending, heading, source_told, told
 from saxtegun.files import guard_output, guard_places, is_output_kept, write_again
 from saxtegun.lines import UNANSWERED, Run
-from saxtegun.playing import engine_of, lines_or_played
+from saxtegun.playing import Engine, engine_of, lines_or_played
 from saxtegun.reindexing import WITHIN, reindexed
 from saxtegun.sessions import Entry, Sessions, changed, chosen, guard_size, read_sessions
-from saxtegun.texts import over, read_game, say_others, say_untested
+from saxtegun.solutions import SOLVED, no_longer, solved_of
+from saxtegun.texts import GameText, over, read_game, say_others, say_untested
+from saxtegun.wins import lost_wins
 
-USAGE = "accept SESSIONS [LINES] [--only PATTERN..] [--review|--reindex] [--in-place] [--game GAME.txt] [--order rows|columns] [>NEW]"
+USAGE = "accept SESSIONS [LINES] [--only PATTERN..] [--review|--reindex] [--anyway] [--in-place] [--game GAME.txt] [--order rows|columns] [>NEW]"
 ASKED = "accept it? y: yes, n: no, a: it and all that follow, q: none of those that follow "
 
 
@@ -53,6 +60,7 @@ def add_words(words: ArgumentParser) -> None:
     words.add_argument("--only", metavar="PATTERN", action="append", help="accept sessions whose names fit; may be repeated")
     add_game(words)
     words.add_argument("--review", action="store_true")
+    words.add_argument("--anyway", action="store_true", help="also what no longer wins what it won")
     words.add_argument("--reindex", action="store_true", help="set the index of recordings whose level has another place now")
     words.add_argument("--within", metavar="SECONDS", type=seconds_in, default=WITHIN, help=f"with --reindex, try no more levels behind so many seconds ({WITHIN:g})")
     words.add_argument("--in-place", action="store_true")
@@ -81,11 +89,12 @@ class Review:
     def __init__(self, order: str) -> None:
         self.order, self.all, self.ended = order, False, False
 
-    def accepts(self, entry: Entry, run: Run) -> bool:
+    def accepts(self, entry: Entry, run: Run, lost: str) -> bool:
+        """Whether what a session reached is accepted, of which it is told if it no longer wins."""
         if self.all or self.ended:
             return self.all
         sentence, below = told(run, entry, self.order)
-        for line in [f"{heading(run)}: {sentence}", *(f"    {it}" for it in below)]:
+        for line in [f"{heading(run)}: {sentence}", *(f"    {it}" for it in (*below, lost) if it)]:
             say(line)
         while True:
             print(ASKED, end="", file=sys.stderr, flush=True)
@@ -96,6 +105,15 @@ class Review:
                 return True
             if word in ("n", "q") or not answer:
                 return False
+
+
+def lost_among(sessions: Sessions, runs: Sequence[Run], wanted: Collection[int], game: Optional[GameText], engine: Engine) -> Dict[int, str]:
+    """Which of these sessions differ, and no longer win what they won or must win, in words; by their numbers."""
+    differing = [it for it in runs if it.close == "differs" and it.number in wanted]
+    entries = [sessions.entries[it.number] for it in differing]
+    ends = solved_of(entries, differing, sessions, engine)
+    unsolved = {entries[it].number: no_longer(end) for it, end in ends.items() if entries[it].is_solved_wanted and end != SOLVED}
+    return {**lost_wins(entries, differing, ends, game, sessions, engine), **unsolved}
 
 
 def write(sessions: Sessions, changes: Mapping[int, Tuple[str, Union[str, int]]], given: Namespace) -> None:
@@ -129,6 +147,55 @@ def reviewed(sessions: Sessions, changes: Mapping[int, Tuple[str, Union[str, int
         raise
 
 
+class Taking:
+    """What is accepted of sessions, and what is said of each. Others are those that aren't played over the game."""
+
+    def __init__(self, sessions: Sessions, given: Namespace, others: Collection[int]) -> None:
+        self.sessions, self.given, self.others = sessions, given, others
+        self.review = Review(given.order) if given.review else None
+        self.changes: Dict[int, Tuple[str, str]] = {}
+        self.said: List[str] = []
+        self.has_failed, self.has_lost, self.is_late = False, False, False
+
+    def take(self, run: Run, lost: str) -> None:
+        """Accepts what a session reached, unless something keeps it from that. `lost` tells that it no longer wins."""
+        if run.close == "passed":
+            if self.given.only and run.number in self.others:
+                self.leave(run, f"it was played over its own text, and not over {self.given.game}")
+            return
+        entry = self.sessions.entries[run.number]
+        why = obstacle(entry, run, self.given.order, self.review is not None)
+        self.is_late = self.is_late or run.close == UNANSWERED
+        if why is None and lost and self.review is None and not self.given.anyway:
+            why = f"{lost}: mend it by saxtegun mend, or accept it by --anyway"
+            self.has_lost = True
+        if why is not None:
+            self.leave(run, why)
+        elif self.review is None or self.review.accepts(entry, run, lost):
+            self.changes[run.number] = ("level", run.frames[-1].level)
+            self.said.append(f"{heading(run)}, accepted" + (f", though {lost}" if lost else ""))
+        else:
+            self.said.append(f"{heading(run)}, not accepted")
+
+    def leave(self, run: Run, why: str) -> None:
+        """Leaves a session as it is that could not be accepted."""
+        self.has_failed = True
+        self.said.append(f"{heading(run)}, not accepted: {why}")
+
+    def write(self) -> None:
+        """Writes what was accepted, and says what became of each session."""
+        try:
+            write(self.sessions, self.changes, self.given)
+        except Refused:
+            if self.review is not None:
+                say_all("not written: ", self.said)
+            raise
+        say_all("", self.said)
+        if self.given.lines:
+            say_untested("accept", (self.sessions.entries[it] for it in self.changes))
+        say(f"accept: {len(self.changes)} of {plural(len(self.sessions.entries), 'recorded level')} changed")
+
+
 def reindex(sessions: Sessions, wanted: Sequence[Entry], others: Collection[int], given: Namespace) -> int:
     """Sets the indices with which recordings pass again. Others are those that aren't played over the game."""
     found = reindexed(wanted, sessions, engine_of(given), given.within)
@@ -148,6 +215,8 @@ def reindex(sessions: Sessions, wanted: Sequence[Entry], others: Collection[int]
 def main(given: Namespace) -> int:
     if given.reindex and (given.review or given.lines):
         raise Refused("--reindex plays by itself, so it goes with neither --review nor LINES")
+    if given.reindex and given.anyway:
+        raise Refused("--reindex accepts no level, so --anyway says nothing to it")
     if given.review and (given.lines == "-" or given.sessions == "-"):
         raise Refused("--review asks on standard input, so no file can be read from it")
     if given.review and sys.stdin is None:
@@ -167,34 +236,12 @@ def main(given: Namespace) -> int:
     if given.reindex:
         return reindex(sessions, chosen(sessions, given.only), others, given)
     wanted = {it.number for it in chosen(sessions, given.only)}
-    review = Review(given.order) if given.review else None
-    changes: Dict[int, Tuple[str, str]] = {}
-    said: List[str] = []
-    failed, late = False, False
-    with reviewed(sessions, changes, given), lines_or_played(sessions, given.lines, engine_of(given), is_drawn=True) as runs:
-        for run in runs:
-            if run.number not in wanted:
-                continue
-            if run.close == "passed":
-                if given.only and run.number in others:
-                    failed = True
-                    said.append(f"{heading(run)}, not accepted: it was played over its own text, and not over {given.game}")
-                continue
-            why = obstacle(sessions.entries[run.number], run, given.order, review is not None)
-            failed = failed or why is not None
-            late = late or run.close == UNANSWERED
-            if why is None and (review is None or review.accepts(sessions.entries[run.number], run)):
-                changes[run.number] = ("level", run.frames[-1].level)
-                said.append(f"{heading(run)}, accepted")
-            else:
-                said.append(f"{heading(run)}, not accepted" + (f": {why}" if why else ""))
-    try:
-        write(sessions, changes, given)
-    except Refused:
-        if review is not None:
-            say_all("not written: ", said)
-        raise
-    say_all("", said)
-    say_untested("accept", (sessions.entries[it] for it in changes))
-    say(f"accept: {len(changes)} of {plural(len(sessions.entries), 'recorded level')} changed")
-    return 2 if late else 1 if failed and (given.only or not changes) else 0
+    taking = Taking(sessions, given, others)
+    with reviewed(sessions, taking.changes, given), lines_or_played(sessions, given.lines, engine_of(given), is_drawn=True) as runs:
+        played = [] if given.lines else list(runs)
+        lost = lost_among(sessions, played, wanted, game, engine_of(given))
+        for run in runs if given.lines else played:
+            if run.number in wanted:
+                taking.take(run, lost.get(run.number, ""))
+    taking.write()
+    return 2 if taking.is_late else 1 if taking.has_failed and (given.only or taking.has_lost or not taking.changes) else 0
