@@ -52,6 +52,16 @@ class DayOfPlaying(OfAGame):
         answer = run("play", self.game, stdin=keys.encode())
         self.assertEqual(answer.out.count("the next level"), 1)
 
+    def test_what_wins_all_levels_must_be_solved(self) -> None:
+        """The first two recordings do: from the first level on, and the second alone. Without its last key one ends before the win."""
+        for number, level in ((0, 1), (1, 2)):
+            keys = "".join("wasd"[it] if it != "undo" else "z" for it in self.entries[number][1][1])
+            for pressed, demands in ((keys, ["solved"]), (keys + "d", ["solved"]), (keys[:-1], [])):
+                suite = self.room / f"{number}-{len(pressed)}.json"
+                self.assertEqual(run("play", self.game, "--level", level, "--save", "mine", suite, stdin=pressed.encode()).status, 0)
+                self.assertEqual(json.loads(suite.read_text(encoding="utf-8"))[0][2:], demands)
+                self.assertEqual(run("test", self.game, suite).status, 0)
+
     def test_a_game_that_is_refused_is_reported(self) -> None:
         self.with_rule("[ > Player | Create ] -> [ ]")
         self.assert_refused(run("play", self.game), "has a name that is not there: `Create` (near: `crate`)")

@@ -137,12 +137,20 @@ class DayOfSolving(OfLevels):
         saved = self.room / "solved.json"
         self.assertEqual(run("solve", self.game, "--save", saved).status, 0)
         entries = json.loads(saved.read_text(encoding="utf-8"))
-        self.assertEqual([(name, body[0], len(body[1]), body[3]) for name, body in entries], [("level 1, solved in 33 presses", "", 33, 0), ("level 2, solved in 16 presses", "", 16, 1)])
+        self.assertEqual([(name, body[0], len(body[1]), body[3], demands) for name, body, *demands in entries], [("level 1, solved in 33 presses", "", 33, 0, []), ("level 2, solved in 16 presses", "", 16, 1, ["solved"])])
         answer = run("test", self.game, saved)
         self.assertEqual((answer.status, answer.out.splitlines()[:2]), (0, ["passed, solved up to level 1: level 1, solved in 33 presses", "passed, solved: level 2, solved in 16 presses"]))
         again = run("solve", self.game, "--level", 2, "--save", saved)
         self.assertIn("solve: level 2, solved in 16 presses: it is in ", again.errors)
         self.assertEqual(json.loads(saved.read_text(encoding="utf-8")), entries)
+
+    def test_a_solution_of_the_last_level_fails_that_no_longer_wins_it(self) -> None:
+        """No frame shows the last win: without the demand it would pass."""
+        saved = self.room / "solved.json"
+        self.assertEqual(run("solve", self.game, "--level", 2, "--save", saved).status, 0)
+        self.write("game.txt", self.source.replace("All Target on Crate", "No Target"))
+        answer = run("test", self.game, saved)
+        self.assertEqual((answer.status, "passed: no longer solved: not solved" in answer.out), (1, True))
 
     def test_a_level_that_can_not_be_won_and_one_of_which_nothing_is_known(self) -> None:
         self.assertIsNone(shortest(read(DEAD)))
@@ -234,7 +242,7 @@ class DayOfMending(OfLevels):
         """A crate is pushed onto the target; then the player must stand there, who has to push once more."""
         game, recordings = self.with_level(1, "######\n#P*O.#\n######"), self.room / "won.json"
         self.assertEqual(run("solve", game, "--level", 2, "--save", recordings).status, 0)
-        (name, body, *_), = json.loads(recordings.read_text(encoding="utf-8"))
+        (name, body, _), = json.loads(recordings.read_text(encoding="utf-8"))
         recordings.write_text(json.dumps([[name, body]]), encoding="utf-8")
         self.commit()
         self.write("game.txt", game.read_text(encoding="utf-8").replace("All Target on Crate", "All Target on Player"))
@@ -555,8 +563,8 @@ LEVELS
     def test_it_is_saved_without_an_input_and_is_solvable(self) -> None:
         game, saved = self.with_levels(self.AT_ONCE), self.room / "saved.json"
         self.assertEqual(run("solve", game, "--save", saved).status, 0)
-        ((name, body),) = json.loads(saved.read_text(encoding="utf-8"))
-        self.assertEqual((name, body[1], body[3]), ("level 1, won as it loads", [], 0))
+        ((name, body, demand),) = json.loads(saved.read_text(encoding="utf-8"))
+        self.assertEqual((name, body[1], body[3], demand), ("level 1, won as it loads", [], 0, "solved"))
         answer = run("test", game, saved, "--solved", "*", "--solvable")
         self.assertEqual(answer.status, 0, answer.out)
 

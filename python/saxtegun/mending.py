@@ -95,8 +95,9 @@ def recorded(entry: Entry, reached: Reached, of: Sessions) -> Entry:
 
 
 def won(entry: Entry, level: int, of: Sessions, engine: Engine) -> Entry:
-    """A session that wins the level of this number, with the level that it reaches as its recorded one."""
-    return recorded(entry, reached_of(entry, level, of, engine), of)
+    """A session that wins the level of this number, with the level that it reaches as its recorded one. It must be solved, if it is: no frame shows the last win."""
+    reached = reached_of(entry, level, of, engine)
+    return recorded(entry, reached, of)._replace(is_solved_wanted=reached.standing.is_over)
 
 
 def wins_wanted(entry: Entry, before: Optional[int]) -> Optional[int]:

@@ -304,6 +304,11 @@ def value_of(entry: Entry) -> List[Any]:
     return [entry.name, [entry.source, entry.inputs, entry.level, entry.index]]
 
 
+def demands_of(entry: Entry) -> List[str]:
+    """What stands behind the body of an entry, by which it must be solved."""
+    return [DEMAND] if entry.is_solved_wanted else []
+
+
 def written_entry(entry: Entry) -> str:
     return json.dumps(value_of(entry), ensure_ascii=False, separators=(",", ":"))
 

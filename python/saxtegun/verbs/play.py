@@ -12,8 +12,9 @@ count.
 With --save NAME SESSIONS.json what you played is added there at the end, also
 where you end it by Ctrl-C or close the window. Its
 last level is the recorded one, and the empty text stands in place of the
-game's: `saxtegun test GAME.txt SESSIONS.json` plays it. If standard input is no
-terminal, its letters are the keys.
+game's: `saxtegun test GAME.txt SESSIONS.json` plays it. If all levels are won, it
+must be solved then (its entry says "solved"). If standard input is no terminal,
+its letters are the keys.
 
 Exit status: 0, or 2 if the game is refused."""
 from __future__ import annotations
@@ -36,8 +37,8 @@ from saxtegun.levelsets import count_of_levels, entries_of_levels
 from saxtegun.lines import Run
 from saxtegun.open_sessions import Closed, OpenSession, opened
 from saxtegun.playing import Engine, runs_of, shown_beyond
-from saxtegun.sessions import MOST_BYTES, Entry, Input, Sessions, check_name, guard_size, read_or_new, with_more
-from saxtegun.solutions import MOST_INPUTS
+from saxtegun.sessions import MOST_BYTES, Entry, Input, Sessions, check_name, demands_of, guard_size, read_or_new, with_more
+from saxtegun.solutions import MOST_INPUTS, with_one_more
 from saxtegun.terminal import CLEAR, KEYS, Screen, fitted, lettered, screen_now
 
 USAGE = "play GAME.txt [--level N] [--save NAME SESSIONS.json] [--letters]"
@@ -167,16 +168,31 @@ class Play:
         game = game_of(self.source)
         return lettered(game, rows) if screen is None or not rows else fitted(game, rows, screen, self.given.letters)
 
+    def is_solved(self) -> bool:
+        """Whether all levels are won, which only one more input shows. It isn't known where the program fails."""
+        if self.last.kind == "over" or len(self.inputs) >= MOST_INPUTS:
+            return self.last.kind == "over"
+        try:
+            run = shown_beyond(with_one_more([self.entry()])[0], self.count, self.engine._replace(workers=1))
+        except Refused:
+            return False
+        return bool(run.frames) and run.frames[-1].kind == "over"
+
+    def recording(self, name: str) -> List[Any]:
+        """What was played, as an entry of a sessions file. It must be solved, if it is."""
+        return [name, ["", self.inputs, self.last.level, self.index], *demands_of(self.entry()._replace(is_solved_wanted=self.is_solved()))]
+
     def save(self, name: str, path: str) -> None:
         """Adds what was played to a file, or where that fails writes it to standard output: it is lost in no case."""
-        value = [name, ["", self.inputs, self.last.level, self.index]]
+        value = self.recording(name)
         entry = json.dumps(value, ensure_ascii=False, separators=(",", ":"))
         try:
             append(path, entry)
         except Refused as why:
             advice = "keep it, and call saxtegun add" if len(entry.encode()) < MOST_BYTES else f"no sessions file takes it, which has {MOST_BYTES // 2**20} MiB at most"
             raise Refused(f"{why}; what was played {handed_out(in_plain_letters(value))}: {advice}") from None
-        say(f"play: {name}: {plural(len(self.inputs), 'input')} saved in {path}")
+        solved = "".join(f", {it}" for it in value[2:])
+        say(f"play: {name}: {plural(len(self.inputs), 'input')} saved in {path}{solved}")
 
 
 def in_plain_letters(value: object) -> str:

@@ -12,8 +12,9 @@ of a level that no presses win without one it isn't known whether it can be won.
 
 With --save each solution is added to SESSIONS.json as a recording of its level,
 with the empty text in place of the game's: `saxtegun test GAME.txt SESSIONS.json`
-plays it. A level that has a recording with these presses there gets no second
-one.
+plays it. That of the last level must then be solved (its entry says "solved"): no
+frame shows the last win. A level that has a recording with these presses there
+gets no second one.
 
 Exit status: 0 all are solved, 1 some level can't be won, 2 of some level it
 isn't known, or something is refused."""
@@ -30,7 +31,7 @@ from saxtegun.files import guard_output, guard_places, locked, write_whole
 from saxtegun.levelsets import count_of_levels
 from saxtegun.playing import Engine
 from saxtegun.recordings import Known, Names
-from saxtegun.sessions import Entry, Sessions, guard_size, read_or_new, with_more
+from saxtegun.sessions import Entry, Sessions, demands_of, guard_size, read_or_new, with_more
 from saxtegun.mending import guard_game, won
 from saxtegun.solving import SECONDS, Answer, Bounds, Solved, Unsolvable, add_bounds, bounds_of, presses_told, told
 from saxtegun.texts import GameText, over, read_named
@@ -102,11 +103,12 @@ def save(path: str, entry: Entry, game: GameText) -> None:
     """Adds a recording to a sessions file as it is at this moment, if it isn't there."""
     with locked(path):
         old = read_or_new(path)
-        if Known(over(old, game).entries).like(entry) is not None:
+        if Known(over(old, game).entries).like(entry._replace(is_solved_wanted=False)) is not None:
             say(f"solve: {entry.name}: it is in {cut(path)} already")
             return
         name = Names(it.name for it in old.entries).free(entry.name)
-        text = with_more(old, [json.dumps([name, ["", entry.inputs, entry.level, entry.index]], ensure_ascii=False)])
+        value = [name, ["", entry.inputs, entry.level, entry.index], *demands_of(entry)]
+        text = with_more(old, [json.dumps(value, ensure_ascii=False)])
         guard_size(path, text, len(old.entries) + 1, FULL)
         write_whole(path, text)
     say(f"solve: {name}: added to {cut(path)}")
