@@ -118,7 +118,7 @@ class Time(Programs):
         answer = run("test", suite, "--program", program, "--timeout", ENOUGH)
         counts = "1 session: 1 passed, 0 differ, 0 stopped, 0 refused, 1 of which it isn't known whether they are solved"
         told = f"session 0, a: passed: whether it is solved had no answer in its time\n{counts}; 0 solved, 0 solved in part, 0 not solved, 1 not answered\n"
-        self.assertEqual((answer.status, answer.out.partition("\n")[2]), (2, told))
+        self.assertEqual((answer.status, answer.out), (2, told))
         explained = run("explain", suite, "--program", program, "--timeout", ENOUGH)
         self.assertEqual((explained.status, explained.out.splitlines()[-1]), (2, counts))
 

@@ -111,7 +111,11 @@ def lost_among(sessions: Sessions, runs: Sequence[Run], wanted: Collection[int],
     """Which of these sessions differ, and no longer win what they won or must win, in words; by their numbers."""
     differing = [it for it in runs if it.close == "differs" and it.number in wanted]
     entries = [sessions.entries[it.number] for it in differing]
-    ends = solved_of(entries, differing, sessions, engine)
+    try:
+        ends = solved_of(entries, differing, sessions, engine)
+    except Refused:
+        # what was played can be accepted all the same
+        return {}
     unsolved = {entries[it].number: no_longer(end) for it, end in ends.items() if entries[it].is_solved_wanted and end != SOLVED}
     return {**lost_wins(entries, differing, ends, game, sessions, engine), **unsolved}
 
