@@ -52,6 +52,23 @@ class DayOfPlaying(OfAGame):
         answer = run("play", self.game, stdin=keys.encode())
         self.assertEqual(answer.out.count("the next level"), 1)
 
+    def test_what_was_played_without_a_file_is_written_out(self) -> None:
+        answer = run("play", self.game, "--level", 2, stdin=b"dq")
+        name, (source, inputs, level, index) = json.loads(answer.out.splitlines()[-1])
+        self.assertEqual((answer.status, name, source, inputs, index), (0, "level 2", "", [3], 1))
+        self.assertEqual(answer.errors, "play: not saved: what was played stands on standard output: saxtegun add takes it\n")
+        self.assertEqual(run("test", self.game, self.write_entries([[name, [source, inputs, level, index]]])).status, 0)
+        self.assertEqual(run("play", self.game, stdin=b"q").errors, "")
+
+    def test_what_is_interrupted_without_a_file_is_written_out(self) -> None:
+        with self.playing() as ran:
+            assert ran.stdin is not None
+            ran.stdin.write(b"da")
+            self.wait_for(ran, b"2 inputs")
+            ran.send_signal(signal.SIGINT)
+            out, _ = ran.communicate()
+        self.assertEqual((ran.returncode, json.loads(out.splitlines()[-1])[1][1]), (0, [3, 1]))
+
     def test_what_wins_all_levels_must_be_solved(self) -> None:
         """The first two recordings do: from the first level on, and the second alone. Without its last key one ends before the win."""
         for number, level in ((0, 1), (1, 2)):
@@ -198,8 +215,19 @@ class DayOfTerminals(OfAGame):
         window.press(b"z")
         self.assertEqual(window.until(": 2 inputs").split(CLEAR)[-1], f"{START}Simple Block Pushing Game: 2 inputs")
         window.press(b"q")
+        window.until("press Enter: ")
+        window.press(b"\r")
         self.assertIn(" icanon", window.until("over"))
 
+    def test_what_was_played_without_a_file_may_be_saved_at_the_end(self) -> None:
+        self.write("mine.json", '[["level 1", ["", [], "", 0]]]')
+        window = self.window(80, 30, "; echo over", NO_COLOR="1")
+        for keys, words in ((b"d", "1 input"), (b"q", "press Enter: "), (f"{self.game}\r".encode(), "press Enter: "), (f"{self.room}/mine.json\r".encode(), "1 input saved in ")):
+            window.press(keys)
+            self.assertNotIn("over", window.until(words))
+        window.until("over")
+        entries = json.loads((self.room / "mine.json").read_text(encoding="utf-8"))
+        self.assertEqual([(name, body[1]) for name, body in entries], [("level 1", []), ("level 1 (2)", [3])])
 
     def test_a_window_that_is_closed_saves_what_was_played(self) -> None:
         suite, errors = self.room / "mine.json", self.room / "errors"

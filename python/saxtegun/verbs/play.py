@@ -10,8 +10,9 @@ leaves the game, fg goes on. --level N starts at the N-th level; messages don't
 count.
 
 With --save NAME SESSIONS.json what you played is added there at the end, also
-where you end it by Ctrl-C or close the window. Its
-last level is the recorded one, and the empty text stands in place of the
+where you end it by Ctrl-C or close the window. Without it you are asked at the
+end for a file; where you name none, or there is no terminal, the recording goes
+to standard output. Its last level is the recorded one, and the empty text stands in place of the
 game's: `saxtegun test GAME.txt SESSIONS.json` plays it. If all levels are won, it
 must be solved then (its entry says "solved"). If standard input is no terminal,
 its letters are the keys.
@@ -37,6 +38,7 @@ from saxtegun.levelsets import count_of_levels, entries_of_levels
 from saxtegun.lines import Run
 from saxtegun.open_sessions import Closed, OpenSession, opened
 from saxtegun.playing import Engine, runs_of, shown_beyond
+from saxtegun.recordings import Names
 from saxtegun.sessions import MOST_BYTES, Entry, Input, Sessions, check_name, demands_of, guard_size, read_or_new, with_more
 from saxtegun.solutions import MOST_INPUTS, with_one_more
 from saxtegun.terminal import CLEAR, KEYS, Screen, fitted, lettered, screen_now
@@ -182,6 +184,10 @@ class Play:
         """What was played, as an entry of a sessions file. It must be solved, if it is."""
         return [name, ["", self.inputs, self.last.level, self.index], *demands_of(self.entry()._replace(is_solved_wanted=self.is_solved()))]
 
+    def hand_out(self) -> None:
+        """Writes what was played to standard output."""
+        say(f"play: not saved: what was played {handed_out(in_plain_letters(self.recording(f'level {self.given.level}')))}: saxtegun add takes it")
+
     def save(self, name: str, path: str) -> None:
         """Adds what was played to a file, or where that fails writes it to standard output: it is lost in no case."""
         value = self.recording(name)
@@ -198,6 +204,23 @@ class Play:
 def in_plain_letters(value: object) -> str:
     """A value as JSON without any letter by which a stranger's names would command a terminal."""
     return json.dumps(value, separators=(",", ":")).replace("\x7f", "\\u007f")
+
+
+def place_offered(play: Play) -> Optional[List[str]]:
+    """Under which name and in which file what was played is saved, where whoever played it at a terminal names one."""
+    name = f"level {play.given.level}"
+    while play.inputs and sys.stdin.isatty():
+        print("save it? name a file of recordings, as recordings.json, or press Enter: ", end="", file=sys.stderr, flush=True)
+        path = sys.stdin.readline().strip()
+        if not path:
+            return None
+        try:
+            free = Names(it.name for it in read_or_new(path).entries).free(name)
+            guard_saving(free, path)
+            return [free, path]
+        except Refused as why:
+            say(f"play: {why}")
+    return None
 
 
 def press_keys(play: Play) -> None:
@@ -240,6 +263,7 @@ def main(given: Namespace) -> int:
         try:
             with play.kept_open():
                 press_keys(play)
+            given.save = given.save or place_offered(play)
         finally:
             on_signals(pass_over)
     except KeyboardInterrupt:
@@ -250,4 +274,6 @@ def main(given: Namespace) -> int:
         on_signals(signal.SIG_IGN)
         if given.save:
             play.save(*given.save)
+        elif play.inputs:
+            play.hand_out()
     return 0
