@@ -7,9 +7,11 @@ import unittest
 from typing import Any, Iterator, List, Tuple
 
 from tool import TOP, InARoom, plays, run
-from saxtegun.differences import placed_told, scan_told
+from saxtegun.differences import placed_told, property_told, scan_told
 from saxtegun.games import game_of
 from saxtegun.levels import Labels, in_rows, read_cells, width_of
+from saxtegun.lines import Frame, Run
+from saxtegun.sessions import Entry
 
 HEAD = """title Small
 %s
@@ -136,6 +138,23 @@ class DayOfDifferences(InARoom):
         for rule in ("late [ Mark ] -> [ Crate ]", "[ > Player | Mark ] -> [ > Player | Dot ]", "[ > Player | Crate ] -> [ > Player | Box ]", "[ > Player | Mark ] -> [ > Player | stationary Crate ]"):
             self.assertEqual((placed_told(HEAD % ("", rule, "", "p.")), rule), ("", rule))
         self.assertIn("places `crate`", placed_told(HEAD % ("", "[ > Player | Mark ] -> [ > Player | Crate ]", "", "p.")))
+
+    def test_a_property_is_named_only_where_the_first_member_may_decide(self) -> None:
+        """Behind `no` all members are absent, whichever comes first; and in a direction one player stands before one thing."""
+        for rule, level, is_named in (
+            ("[ Player | no Thing ] -> [ | Player ]", "pp.bc", False),
+            ("[ > Player | Thing ] -> [ > Player | > Thing ]", "p.bc", False),
+            ("[ > Player | Thing ] -> [ > Player | > Thing ]", "ppbc", True),
+            ("[ > Player | ... | Thing ] -> [ > Player | ... | > Thing ]", "p.bc", True),
+            ("[ > Player | Thing ] -> [ > Player | > Thing ]", "ppbb", False),
+            ("[ > Player ] [ Thing ] -> [ > Player ] [ ]", "p.bc", True),
+        ):
+            source = HEAD % ("", rule, "", level)
+            names = {"p": " player", "b": " box", "c": " crate", ".": ""}
+            text = "".join(f"background{names[letter]}:{number},\n" for number, letter in enumerate(level))
+            entry = Entry(0, "a", source, [], "", 0, {}, False)
+            told = property_told(entry, Run(0, "a", "differs", None, [Frame(0, "start", text)]))
+            self.assertEqual(bool(told), is_named, (rule, level))
 
     def test_a_game_without_such_a_form_is_told_nothing(self) -> None:
         self.assertNotIn("the site", run("explain", TOP / "examples/block-pushing.json").out)

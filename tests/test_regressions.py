@@ -55,6 +55,16 @@ class DayOfCommits(InAGitFolder):
         # the stale one had not passed over the committed text either
         self.assertNotIn(SAYS, answer.out.partition("a recording that has gone stale")[2])
 
+    def test_of_what_passed_over_the_committed_text_no_difference_from_the_site_is_told(self) -> None:
+        """The rule that has the form of one changes nothing. The last session had not passed."""
+        self.source = self.source.replace("O = Target\n", "O = Target\nSolid = Wall or Crate\n").replace(RULE, f"{RULE}\nlate [ Solid ] [ Target ] -> [ Solid ] [ Target ]")
+        self.write("game.txt", self.source)
+        self.commit()
+        self.with_rule(STUCK)
+        told = run("test", self.game, self.recordings).out.partition("session 4, ")
+        self.assertEqual(["the site may decide otherwise: `solid` in the rule" in it for it in (told[0], told[2])], [False, True])
+        self.assertIn(SAYS, told[0])
+
     def test_a_session_that_passes_and_no_longer_wins_fails(self) -> None:
         """No frame shows the last win. Without crates on targets to win by, the second level is not won where it was; the first two sessions won it."""
         self.write("game.txt", self.source.replace("All Target on Crate", "No Target"))

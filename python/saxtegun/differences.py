@@ -2,27 +2,33 @@
 from __future__ import annotations
 
 import re
+from collections import Counter
 from functools import lru_cache, reduce
-from itertools import islice
+from itertools import chain, islice
 from operator import or_
-from typing import Dict, FrozenSet, Iterator, List, NamedTuple, Optional, Sequence, Tuple
+from typing import Dict, FrozenSet, Iterator, List, Mapping, NamedTuple, Optional, Sequence, Tuple
 
 from saxtegun.budget import EXPLAINING
 from saxtegun.commands import cut, fold
 from saxtegun.descriptions import Words, before, description_of
 from saxtegun.games import Game, game_of
+from saxtegun.levels import Labels, read_cells
 from saxtegun.lines import Run
 from saxtegun.sessions import Entry
 
 PAGE = "docs/differences.md"
 START = "run_rules_on_level_start"
+GAP = "..."
+HINT = "the site may decide otherwise: "
 MARKS = {"[", "]", "|"}
 # So many words of a rule are looked at.
 MOST_WORDS = 500
 # So many names that rules move are looked at.
 MOST_NAMES = 1000
-# So many properties of a source are looked at.
+# So many properties on the left of rules are looked at.
 MOST_PROPERTIES = 50
+# So many other names of a row are looked at.
+MOST_BESIDE = 8
 # A command of a rule behind a comment, in so many letters of a line.
 BEHIND_A_COMMENT = re.compile(r"\([^()]*\)\s*(?:again|win|restart|cancel|checkpoint|message|sfx[0-9]+)\b", re.I)
 MOST_LETTERS = 1000
@@ -34,11 +40,19 @@ BEFORE_A_NAME = {"no", "action", "stationary", "moving", *TURNING, *DIRECTIONS}
 
 
 class Property(NamedTuple):
-    """A property whose members share a layer, with the first rule that names it on its left."""
+    """A property whose members share a layer, in a row on the left of a rule, with the objects that each other name of the row stands for. What stands behind
+    `no` is none: all its members are absent, whichever comes first."""
 
     name: str
     members: FrozenSet[str]
     line: int
+    beside: Tuple[FrozenSet[str], ...]
+
+    def may_decide(self, cells: Mapping[FrozenSet[str], int]) -> bool:
+        """Whether it may matter in a level which member comes first: two are met, and nothing else of the row is in one cell alone, where a row fits once in a
+        direction. `cells` says how often each cell stands there."""
+        met = frozenset(chain.from_iterable(cells))
+        return len(self.members & met) > 1 and all(sum(count for cell, count in cells.items() if not it.isdisjoint(cell)) > 1 for it in self.beside)
 
 
 def rules_of(source: str) -> Iterator[Words]:
@@ -52,26 +66,32 @@ def sides_of(line: Words) -> Tuple[Sequence[str], Sequence[str]]:
     return left, words[len(left) + 1 :]
 
 
-def names_on_the_left(source: str) -> Dict[str, int]:
-    """The words on the left of rules, each with the first line that has it."""
-    found: Dict[str, int] = {}
-    for line in rules_of(source):
-        for word in before("->", line.words):
-            found.setdefault(word, line.number)
-    return found
+def rows_in(words: Sequence[str]) -> Iterator[List[str]]:
+    """The names in each row of a side that stand behind no `no`, with its marks and other words."""
+    row: List[str] = []
+    for above, word in zip(("", *words), words):
+        if above != "no":
+            row.append(word)
+        if word == "]":
+            yield row
+            row = []
+
+
+def properties_in(row: Sequence[str], line: int, game: Game) -> Iterator[Property]:
+    """The properties of one layer in a row."""
+    of = {it: frozenset(game.members(it)) for it in EXPLAINING.each(dict.fromkeys(row))}
+    names = [] if GAP in row else [it for it in of if of[it]][:MOST_BESIDE]
+    for name, members in of.items():
+        if game.is_property(name) and len(members) > 1 and len({game.layers.get(it) for it in members}) == 1:
+            yield Property(name, members, line, tuple(of[it] for it in names if it != name))
 
 
 @lru_cache(maxsize=64)
 def properties_of(source: str) -> Tuple[Property, ...]:
-    """The properties of one layer that stand on the left of a rule: the first of them, since a source may have many."""
+    """The properties of one layer that stand on the left of rules: the first of them, since a source may have many."""
     game = game_of(source)
-    found: List[Property] = []
-    named = ((name, line) for name, line in names_on_the_left(source).items() if game.is_property(name))
-    for name, line in islice(named, MOST_PROPERTIES):
-        members = game.members(name)
-        if len(members) > 1 and len({game.layers.get(it) for it in members}) == 1:
-            found.append(Property(name, frozenset(members), line))
-    return tuple(found)
+    rows = ((row, line.number) for line in rules_of(source) for row in rows_in(sides_of(line)[0]))
+    return tuple(islice((it for row, number in rows for it in properties_in(row, number, game)), MOST_PROPERTIES))
 
 
 @lru_cache(maxsize=64)
@@ -185,12 +205,21 @@ def start_told(entry: Entry, run: Run) -> str:
     return "a level was won by its first tick: on the site that tick wins nothing" if is_won and START in keywords_of(entry.source) else ""
 
 
+def cells_met(run: Run) -> Iterator[Mapping[FrozenSet[str], int]]:
+    """The cells of each level that a session begins or loads, by their names, and how often each stands there."""
+    for frame in EXPLAINING.each(it for it in run.frames if it.kind in ("start", "load")):
+        labels = Labels()
+        counts = Counter(read_cells(frame.level, labels) or [])
+        yield {frozenset(map(fold, labels.names[it])): count for it, count in counts.items()}
+
+
 def property_told(entry: Entry, run: Run) -> str:
-    """A property of which two different members were met, or nothing."""
-    names = set(re.findall(r"[^ ,:\n]+", fold(run.frames[0].level))) if run.frames else set()
-    for it in properties_of(entry.source):
-        if len(it.members & names) > 1:
-            return f"`{cut(it.name)}` in the rule on line {it.line} stands for objects of one layer: on the site the first place counts, not the first member"
+    """A property of which it may have mattered which member comes first, or nothing."""
+    properties = properties_of(entry.source)
+    for cells in cells_met(run) if properties else ():
+        for it in EXPLAINING.each(properties):
+            if it.may_decide(cells):
+                return f"`{cut(it.name)}` in the rule on line {it.line} stands for objects of one layer: on the site the first place counts, not the first member"
     return ""
 
 
@@ -205,4 +234,4 @@ def input_told(entry: Entry) -> str:
 def likely(entry: Entry, run: Run) -> Optional[str]:
     """The difference that a session has most likely met, in a sentence, or None."""
     told = input_told(entry) or start_told(entry, run) or property_told(entry, run) or rule_told(entry.source) or scan_told(entry.source) or placed_told(entry.source)
-    return f"the site may decide otherwise: {told} ({PAGE})" if told else None
+    return f"{HINT}{told} ({PAGE})" if told else None

@@ -34,6 +34,7 @@ from typing import Dict, List, NamedTuple, Optional, Tuple
 from saxtegun.budget import EXPLAINING, SECONDS
 from saxtegun.commands import Refused, add_playing, cut, fail, plural, printable, say
 from saxtegun.descriptions import expect
+from saxtegun.differences import HINT
 from saxtegun.explanations import fault_in, summary, told
 from saxtegun.failures import Failure, annotation, markdown, once
 from saxtegun.file_watch import times_of, wait_for_save
@@ -202,7 +203,9 @@ def failures_of(suite: Suite, though_passed: Dict[int, str], given: Namespace, h
         found[entry.number] = Failure(f"{place}, {cut(entry.name)}", run.close, sentence, below, game if is_of_game else path, fault[1] if is_of_game and fault else 1)
     # once all is told that needs no other text to be played
     for number, where in divergences(suite.game, suite.sessions.entries, suite.runs, suite.sessions, engine_of(given)).items():
-        found[number] = found[number]._replace(below=[*found[number].below, *where])
+        # what passed over the committed text is no recording of the site's that is decided otherwise here
+        below = [it for it in found[number].below if not it.startswith(HINT)]
+        found[number] = found[number]._replace(below=[*below, *where])
     return list(found.values())
 
 
