@@ -621,6 +621,43 @@ class DayOfRestarts(OfAGame):
         self.assertRegex(run("solve", game, "--levels", 1).out, "presse?s? wins it without a restart by a rule, and longer ones")
 
 
+@plays
+class DayOfOtherInputs(OfAGame):
+    """Games in which no presses win, and a restart or a tick does: the restart key leads into the midst of a press, a tick finds a player who stands still."""
+
+    HEAD = "title Bomb\n%sOBJECTS\nBackground .\nblack\nPlayer p\nwhite\nFuse f\nred\nBomb b\nred\nLEGEND\nCOLLISIONLAYERS\nBackground\nPlayer\nFuse\nBomb\nRULES\n%s\nWINCONDITIONS\nLEVELS\n\npf.\n"
+    WIN = "[ right Player ] [ Bomb ] -> [ right Player ] [ Bomb ] win"
+    KEPT = f"{WIN}\n[ stationary Player ] [ Bomb ] -> [ stationary Player ] [ ]\n[ action Player ] [ Fuse ] -> [ action Player ] [ Bomb ] checkpoint again"
+    TICKING = f"{WIN}\n[ stationary Player ] [ Fuse ] -> [ stationary Player ] [ Bomb ]\n[ action Player ] [ Bomb ] -> [ action Player ] [ ]"
+    NOT_TRIED = "no presses win it; `{}` was not tried{}"
+
+    def test_it_is_not_known_whether_an_input_that_is_not_tried_wins(self) -> None:
+        kept = self.NOT_TRIED.format("restart", ", and a checkpoint may be kept")
+        for prelude, rules, inputs, words, said in (
+            ("", self.KEPT, [4, "restart", 3], (), kept),
+            ("realtime_interval 0.5\n", self.TICKING, ["tick", 3], ("--ticks-as-recorded",), self.NOT_TRIED.format("tick", "")),
+        ):
+            game, recordings = self.write("game.txt", self.HEAD % (prelude, rules)), self.write_entries([["won", ["", inputs, "", 0]]])
+            self.assertIn("; 1 solved, ", run("test", game, recordings, *words).out)
+            answer = run("solve", game, *words)
+            self.assertEqual((answer.status, answer.out), (2, f"level 1: not known: {said}\n0 solved, 0 can't be won, 1 not known\n"))
+            stays = self.write_entries([["stays", ["", [], "background player:0,background fuse:1,background:2,\n", 0]]])
+            answer = run("test", game, stays, "--solvable", *words)
+            self.assertEqual((answer.status, f"level 1: not known: {said}\n" in answer.out), (2, True))
+
+    def test_what_no_restart_nor_tick_changes_can_not_be_won(self) -> None:
+        for prelude, rules in (("norestart\n", self.KEPT), ("", self.KEPT.replace(" checkpoint", "")), ("", self.TICKING)):
+            answer = run("solve", self.write("game.txt", self.HEAD % (prelude, rules)))
+            self.assertEqual((answer.status, answer.out.splitlines()[0]), (1, "level 1: can't be won: no presses win it"))
+
+    def test_the_longest_beginning_is_one_behind_a_tick(self) -> None:
+        """A press up lights nothing, the tick does, and behind that the action key puts it out."""
+        game = self.write("game.txt", self.HEAD % ("realtime_interval 0.5\n", self.TICKING))
+        recordings = self.write_entries([["lost", ["", [0, "tick", 4, 0], "", 0], "solved"]])
+        answer = run("mend", game, recordings, "--ticks-as-recorded")
+        self.assertIn(": mended: 2 of its 4 inputs stay, and 1 press follows; ", answer.out)
+
+
 class RulesThatRestart(unittest.TestCase):
     def test_a_command_of_a_rule_is_known_from_other_words(self) -> None:
         for rule, wanted in (("[ Player ] -> restart", True), ("[ Player ] -> [ Player ] again RESTART", True), ("[ Player ] -> [ Player ] message restart", False), ("[ Player ] -> [ Player ] (restart)", False), ("[ Player | Restart ] -> [ Player | Restart ]", False)):

@@ -16,8 +16,8 @@ from saxtegun.solutions import MOST_INPUTS, NOT_ANSWERED, SOLVED, solved_of
 from saxtegun.solving import LATE, Answer, Bounds, Solved, Unasked, Unsolvable, has_restarts, solution_of, solutions_of, told, unknown_told
 from saxtegun.texts import GameText
 
-# The inputs that lead back to an earlier level.
-TAKING_BACK = ("undo", "restart")
+# The inputs that may lead out of a level that no presses win any more.
+LEADING_OUT = ("undo", "restart", "tick")
 # So many levels are kept where it is first asked about beginnings.
 FEW_LEVELS = 20_000
 
@@ -139,11 +139,11 @@ class Mender:
         return solutions_of([entry._replace(inputs=entry.inputs[:it]) for it in counts], self.bounds if is_full else self.bounds.at_most(FEW_LEVELS))
 
     def kept(self, entry: Entry, standing: Standing) -> Kept:
-        """The longest beginning of a session from which the level can be won in which it stands. Only what takes back leads out of a level that is lost."""
+        """The longest beginning of a session from which the level can be won in which it stands. No press leads out of a level that is lost."""
         has_more = self.bounds.levels is None or self.bounds.levels > FEW_LEVELS
         of = Beginnings(lambda counts, is_full: self.ask_all(entry, counts, is_full), standing.begin, standing.played, has_more)
-        takes_back = any(it in TAKING_BACK for it in entry.inputs[standing.begin : standing.played]) or has_restarts(entry.source)
-        return longest_of_all(of) if takes_back else longest(of)
+        leads_out = any(it in LEADING_OUT for it in entry.inputs[standing.begin : standing.played]) or has_restarts(entry.source)
+        return longest_of_all(of) if leads_out else longest(of)
 
     def way_on(self, entry: Entry, standing: Standing) -> Union[Mended, Left]:
         """The longest beginning of a session from which the level can be won in which it stands, and a shortest way on."""

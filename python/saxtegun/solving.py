@@ -11,7 +11,7 @@ from typing import Any, List, NamedTuple, Optional, Sequence, Tuple, Union
 from saxtegun.commands import Refused, add_ticks, cut, plural, seconds_in
 from saxtegun.descriptions import before, description_of
 from saxtegun.differences import START, keywords_of
-from saxtegun.games import game_of
+from saxtegun.games import CLOCK, game_of
 from saxtegun.processes import Unanswered, watched
 from saxtegun.programs import solver_words
 from saxtegun.sessions import Entry, Input, is_number, written_entry
@@ -24,6 +24,8 @@ SECONDS, WITHIN = 60.0, 600.0
 # The presses in words, by their numbers.
 WORDS = ("up", "left", "down", "right", "action")
 MOST_PRESS = len(WORDS) - 1
+# The inputs of which none is tried.
+RESTART, TICK = "restart", "tick"
 # Why a session stands in no level.
 NO_LEVEL = {"over": "all levels are won", "stopped": "the session was stopped before", "refused": "the game is refused"}
 
@@ -44,6 +46,12 @@ class OnlyByRestart(NamedTuple):
     """No list of presses wins without a restart by a rule. What one leads to isn't searched."""
 
 
+class Untried(NamedTuple):
+    """No list of presses wins. These other inputs weren't tried, and may lead where no press does."""
+
+    inputs: Tuple[str, ...]
+
+
 class OutOfBounds(NamedTuple):
     """No list of so many presses wins; behind that there are more levels than were kept. Where rules restart, one may by such a restart."""
 
@@ -58,7 +66,7 @@ class Unasked(NamedTuple):
     why: str
 
 
-Answer = Union[Solved, Unsolvable, OnlyByRestart, OutOfBounds, Unasked]
+Answer = Union[Solved, Unsolvable, OnlyByRestart, Untried, OutOfBounds, Unasked]
 
 
 class Bounds(NamedTuple):
@@ -148,16 +156,17 @@ def solutions_of(entries: Sequence[Entry], bounds: Bounds) -> List[Answer]:
         raise Refused(f"{CANT_ASK}{why.strerror}") from None
     if len(answers) < len(entries):
         return solutions_of(entries[:1], bounds) if len(entries) > 1 else answers
-    return [as_known(answer, it) for answer, it in zip(answers, entries)]
+    return [as_known(answer, it, bounds.has_ticks) for answer, it in zip(answers, entries)]
 
 
-def as_known(answer: Answer, entry: Entry) -> Answer:
-    """What an answer says of a game that may switch keys off, or have rules that restart a level."""
+def as_known(answer: Answer, entry: Entry, has_ticks: bool) -> Answer:
+    """What an answer says of a game that may switch keys off, have rules that restart a level, or have more inputs than presses."""
     switch = switched_off(entry.source, answer.inputs) if isinstance(answer, Solved) else None
     if switch is not None:
         return Unasked(f"the fewest presses that win have one that the game switches off by `{switch}`")
     if isinstance(answer, Unasked) or not may_restart_elsewhere(entry):
-        return answer
+        inputs = untried_in(entry.source, has_ticks) if isinstance(answer, Unsolvable) else ()
+        return Untried(inputs) if inputs else answer
     return answer._replace(has_restarts=True) if isinstance(answer, (Solved, OutOfBounds)) else OnlyByRestart()
 
 
@@ -166,6 +175,13 @@ def may_restart_elsewhere(entry: Entry) -> bool:
     it, unless a checkpoint is kept or rules run at the start."""
     source = entry.source
     return has_restarts(source) and (bool(entry.inputs) or gives(source, "checkpoint") or START in keywords_of(source))
+
+
+def untried_in(source: str, has_ticks: bool) -> Tuple[str, ...]:
+    """The inputs by which a game may be won though no presses win it: a restart leads to a checkpoint, which may have been kept in the midst of a press; a tick
+    of its clock runs the rules as no press does."""
+    may_keep = gives(source, "checkpoint") and switched_off(source, [RESTART]) is None
+    return (*([RESTART] if may_keep else []), *([TICK] if has_ticks and CLOCK in keywords_of(source) else []))
 
 
 def has_restarts(source: str) -> bool:
@@ -228,6 +244,9 @@ def unknown_told(answer: Answer) -> str:
         return f"no list of up to {presses} wins it{apart(answer.has_restarts)}, and longer ones lead to more than {levels} of play, as many as are kept (--levels)"
     if isinstance(answer, OnlyByRestart):
         return f"no presses win it{apart(True)}"
+    if isinstance(answer, Untried):
+        names, were = " and ".join(f"`{it}`" for it in answer.inputs), "was" if len(answer.inputs) == 1 else "were"
+        return f"no presses win it; {names} {were} not tried{', and a checkpoint may be kept' if RESTART in answer.inputs else ''}"
     return answer.why if isinstance(answer, Unasked) else ""
 
 

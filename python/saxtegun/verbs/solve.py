@@ -5,7 +5,9 @@ A line a level says how it is: solved in so many presses, and no fewer win it;
 or won as it loads, without a press; or no presses win it; or nothing is known,
 since more levels of play were reached than are kept, or time was over. The
 presses stand below it. --level N looks at the N-th level alone; messages don't
-count. Of a game with a clock presses alone are tried, and no tick between them.
+count. Presses alone are tried: of a game with a clock, or with `checkpoint`, where
+a restart may lead elsewhere, it isn't known of a level that no presses win
+whether a tick or the restart key wins it.
 Where a rule gives `restart`, what such a restart leads to isn't searched. In a
 game with `checkpoint` or `run_rules_on_level_start` it may be another beginning:
 of a level that no presses win without one it isn't known whether it can be won.
