@@ -645,6 +645,12 @@ class DayOfOtherInputs(OfAGame):
             answer = run("test", game, stays, "--solvable", *words)
             self.assertEqual((answer.status, f"level 1: not known: {said}\n" in answer.out), (2, True))
 
+    def test_a_level_that_a_recording_wins_is_solvable(self) -> None:
+        game, recordings = self.write("game.txt", self.HEAD % ("", self.KEPT)), self.write_entries([["won", ["", [4, "restart", 3], "", 0]]])
+        self.assertEqual(run("accept", recordings, "--game", game, "--in-place").status, 0)
+        answer = run("test", game, recordings, "--solvable", "--quiet")
+        self.assertEqual((answer.status, answer.out), (0, "1 session: 1 passed, 0 differ, 0 stopped, 0 refused; 1 solved, 0 solved in part, 0 not solved\n"))
+
     def test_what_no_restart_nor_tick_changes_can_not_be_won(self) -> None:
         for prelude, rules in (("norestart\n", self.KEPT), ("", self.KEPT.replace(" checkpoint", "")), ("", self.TICKING)):
             answer = run("solve", self.write("game.txt", self.HEAD % (prelude, rules)))

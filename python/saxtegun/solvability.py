@@ -1,7 +1,7 @@
 """Whether each level of a game can be won. One that can't is a failure, and so is one of which it isn't known."""
 from __future__ import annotations
 
-from typing import List
+from typing import Collection, List
 
 from saxtegun.beginnings import answer_of
 from saxtegun.commands import Refused
@@ -15,11 +15,11 @@ from saxtegun.texts import GameText
 UNSOLVABLE, UNKNOWN = "unsolvable", "not known"
 
 
-def levels_not_won(game: GameText, bounds: Bounds, engine: Engine) -> List[Failure]:
-    """The levels of a game for which no solution is found."""
+def levels_not_won(game: GameText, bounds: Bounds, engine: Engine, won: Collection[int] = ()) -> List[Failure]:
+    """The levels of a game for which no solution is found. Those that recordings win need none."""
     found: List[Failure] = []
     count = count_of_levels(game.source)
-    for level in range(1, count + 1):
+    for level in (it for it in range(1, count + 1) if it not in won):
         try:
             answer: Answer = answer_of(game, level, bounds, engine)
         except Refused as why:

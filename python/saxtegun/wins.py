@@ -3,7 +3,7 @@ from __future__ import annotations
 
 import os
 from time import monotonic
-from typing import Dict, Mapping, Optional, Sequence
+from typing import Dict, Mapping, Optional, Sequence, Set
 
 from saxtegun.budget import EXPLAINING, UsedUp
 from saxtegun.commands import Refused
@@ -30,6 +30,16 @@ def wins_over(entries: Sequence[Entry], text: Optional[str], of: Sessions, engin
     runs = runs_of(before, of, engine)
     ends = solved_of(before, runs, of, engine)
     return {it.number: wins_of(run) + (ends.get(place) == SOLVED) for place, (it, run) in enumerate(zip(before, runs)) if run.close == "passed"}
+
+
+def levels_won(entries: Sequence[Entry], runs: Sequence[Run], ends: Mapping[int, str], source: str) -> Set[int]:
+    """The numbers of the levels of a source that sessions over it win, which ended so."""
+    found: Set[int] = set()
+    for place, (entry, run) in enumerate(zip(entries, runs)):
+        wins = wins_of(run) + (ends.get(place) == SOLVED)
+        if wins and entry.source == source:
+            found.update(range(first_level(entry), first_level(entry) + wins))
+    return found
 
 
 def lost_wins(entries: Sequence[Entry], runs: Sequence[Run], ends: Mapping[int, str], game: Optional[GameText], of: Sessions, engine: Engine) -> Dict[int, str]:

@@ -13,9 +13,9 @@ and what makes them follow game.txt.
 session also says whether it is solved (all levels), solved up to a level, or
 not. A session that --solved names must be solved, and so must an entry with a
 further element, [name, [..], "solved"]; otherwise it fails. With --solvable a
-level of game.txt fails too that no presses win; where it isn't known within
---levels and --within, or none win without a restart by a rule, there is no whole
-answer. If game.txt lies in a git folder, a session that broke since the last
+level of game.txt fails too that no session wins, and no presses win; where that
+isn't known within --levels and --within, or since other inputs or a restart by a
+rule may win it, there is no whole answer. If game.txt lies in a git folder, a session that broke since the last
 commit says at which input its frames first part from those of the committed
 text, and by which rule; and one fails that passes, and wins fewer levels. With --watch all is played again at each save of a file
 that was read, until you stop it. With --timeout N a session that isn't answered
@@ -53,7 +53,7 @@ from saxtegun.solvability import UNKNOWN, UNSOLVABLE, levels_not_won
 from saxtegun.solving import add_bounds, bounds_of
 from saxtegun.texts import GameText, elsewhere_told, file_of, of_another_text, over, read_game, remark, split_files
 from saxtegun.ticks import forget, ticks_property, ticks_told
-from saxtegun.wins import lost_wins
+from saxtegun.wins import levels_won, lost_wins
 
 # How a session ends of which it isn't known whether it solves its game.
 UNKNOWN_ENDS = (NOT_PLAYED, NOT_ANSWERED)
@@ -186,6 +186,14 @@ def unsolved_in(suite: Suite, given: Namespace) -> Dict[int, str]:
     return {**lost, **{number: no_longer(end) for number, end in passed.items() if number in wanted and end != SOLVED}}
 
 
+def levels_in(suite: Suite, given: Namespace) -> List[Failure]:
+    """The levels of the game that no session wins, and for which no solution is found, where there must be one."""
+    if suite.game is None or not given.solvable:
+        return []
+    won = levels_won(suite.sessions.entries, suite.runs, suite.solved, suite.game.source)
+    return levels_not_won(suite.game, bounds_of(given), engine_of(given), won)
+
+
 def failures_of(suite: Suite, though_passed: Dict[int, str], given: Namespace, hung: Finder) -> List[Failure]:
     paths = split_files(given.files)[1]
     found: Dict[int, Failure] = {}
@@ -273,7 +281,7 @@ def test(given: Namespace) -> int:
     suite.unanswered.extend(it for it, why in unsolved.items() if why == UNKNOWN_END)
     though_passed = {**unsolved, **suite.elsewhere}
     failures = once(failures_of(suite, though_passed, given, hung))
-    levels = levels_not_won(suite.game, bounds_of(given), engine_of(given)) if given.solvable and suite.game else []
+    levels = levels_in(suite, given)
     failures += levels
     write_files(suite, failures, though_passed, tell(suite, failures, unsolved, given), given, hung, levels)
     return 2 if any(it.close == UNKNOWN for it in levels) or suite.unanswered or any(it.close == UNANSWERED for it in suite.runs) else 1 if failures else 0
