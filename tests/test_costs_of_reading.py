@@ -100,7 +100,7 @@ def led(size: int) -> None:
     sides = Side("one", entry, Text(source, "", "columns")), Side("the other", entry, Text(source, "", "columns"))
     parted = Parted(acts(*first), acts(*behind), None, ([acts(it) for it in first], [acts(it) for it in behind]))
     sentence = Telling(sides, 0, parted).told().sentence
-    if not sentence.endswith(": acts in one, not in the other"):
+    if ": acts in one, not in the other; " not in sentence:
         raise AssertionError(sentence)
 
 

@@ -394,6 +394,22 @@ class DayOfWhy(OfAGame):
         ])  # fmt: skip
         self.assertIn(f"    in the new text, {new}:26: [ > Player | no Crate ] -> [ > Player | ]\n", answer.out)
 
+    def test_a_rule_that_both_texts_have_is_not_blamed_alone(self) -> None:
+        """Before it one was inserted that moves both crates; or one was moved behind which it acted."""
+        push, two = "[ > Player | Crate ] -> [ > Player | > Crate ]", "[ > Player | Crate | Crate ] -> [ > Player | > Crate | > Crate ]"
+        spike, back = "[ > Player | Crate ] -> [ > Player | Spike ]", "[ > Player | Spike ] -> [ > Player | Crate ]"
+        where = "session 0, a: input 0 (right), early rule on line"
+        for level, old_rules, new_rules, told, named in (
+            ("pcc.", push, f"{two}\n{push}", f"{where} 26: acts in the new text, not in the old text; the early rule on line 26 acts in the old text, not in the new text", [("n", 26, two), ("o", 26, push), ("n", 27, push)]),
+            ("pcc.", f"{two}\n{push}", push, f"{where} 26: acts in the old text, not in the new text; the early rule on line 26 acts in the new text, not in the old text", [("o", 26, two), ("n", 26, push), ("o", 27, push)]),
+            ("pc.", f"{spike}\n{back}", f"{back}\n{spike}", f"{where} 27: acts in the old text, not in the new text, though both have it", [("o", 27, back), ("n", 26, back)]),
+        ):
+            source = WALK.replace("#p.#", level)
+            old, new = (self.write(f"{name}.txt", source.replace("RULES\n", f"RULES\n{rules}\n")) for name, rules in (("o", old_rules), ("n", new_rules)))
+            lines = run("why", new, self.write_entries([["a", ["", [3], ""]]]), "--session", "a", "--old", old).out.splitlines()
+            self.assertEqual(lines[0], told)
+            self.assertEqual([it.partition(", ")[2] for it in lines if ".txt:" in it], [f"{self.room}/{name}.txt:{number}: {rule}" for name, number, rule in named])
+
     def test_an_input_that_only_one_text_takes_leads_to_why(self) -> None:
         """In the old text the first press wins, which shows the same frame, and play is over."""
         source = WALK.replace("#p.#", "p..")

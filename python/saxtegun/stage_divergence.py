@@ -172,6 +172,11 @@ class Led(NamedTuple):
     drawing: List[str]
 
 
+def does_told(stage: Stage) -> str:
+    """What a group does."""
+    return "acts" if stage.is_changed else f"gives {', '.join(stage.commands)}"
+
+
 class Telling:
     """Tells at which stage two texts of a game part."""
 
@@ -199,16 +204,28 @@ class Telling:
             return self.alone(number, (one, other)[number])
         if not one.is_block or self.is_counterpart(one, other):
             return self.both(one, other)
-        for number, it in enumerate((one, other)):
-            if not self.acts_in(1 - number, it):
-                return self.alone(number, it)
+        alone = [number for number, it in enumerate((one, other)) if not self.acts_in(1 - number, it)]
+        if alone:
+            return self.apart((one, other), alone)
         behind = stage_told(other, self.new)
         return Led(f"{self.named(0, one)}: acts here in {self.name(0)}, in {self.name(1)} behind the {behind}", self.rules(0, one), [])
 
+    def apart(self, stages: Tuple[Stage, Stage], alone: Sequence[int]) -> Led:
+        """That groups act in one text, of these numbers, and not in the other: first one that only one text has. One that both have isn't blamed alone: what acts
+        in its place is told too."""
+        first = min(alone, key=lambda number: self.is_in_both(number, stages[number]))
+        led, second = self.alone(first, stages[first]), 1 - first
+        if len(alone) == 1 and not self.is_in_both(first, stages[first]):
+            return led
+        where = f"not in {self.name(first)}" if second in alone else "in its place"
+        what = f"{stage_told(stages[second], self.sides[second].text.source)} {does_told(stages[second])} in {self.name(second)}, {where}"
+        more = [it for it in self.rules(second, stages[second]) if it not in led.rules]
+        return Led(f"{led.sentence}; the {what}", [*led.rules, *more], led.drawing)
+
     def alone(self, number: int, stage: Stage) -> Led:
         """That a group acts in one text and not in the other."""
-        does = "acts" if stage.is_changed else f"gives {', '.join(stage.commands)}"
-        sentence = f"{self.named(number, stage)}: {does} in {self.name(number)}, not in {self.name(1 - number)}"
+        both = ", though both have it" if self.old != self.new and self.is_in_both(number, stage) else ""
+        sentence = f"{self.named(number, stage)}: {does_told(stage)} in {self.name(number)}, not in {self.name(1 - number)}{both}"
         return Led(sentence, self.rules(number, stage), drawn(stage, self.parted.before, self.sides[number].text))
 
     def both(self, one: Stage, other: Stage) -> Led:
@@ -250,6 +267,11 @@ class Telling:
             return [*own, f"in {self.name(1 - number)} there is no such rule"]
         pair = (stage.lines, there) if number == 0 else (there, stage.lines)
         return [*own, *self.rules_in(1 - number, there)] if stage.lines != there or self.is_edited(*pair) else own
+
+    def is_in_both(self, number: int, stage: Stage) -> bool:
+        """Whether both texts have the rule lines of a group of this one."""
+        there = self.lines_there(number, stage.lines)
+        return bool(there) and not self.is_edited(*((stage.lines, there) if number == 0 else (there, stage.lines)))
 
     def is_edited(self, lines: Sequence[int], others: Sequence[int]) -> bool:
         """Whether rule lines of the old text are others in the new."""
