@@ -3,7 +3,7 @@
 import { plural } from "./elements.mjs";
 import { inputTold } from "./faults.mjs";
 import { refusalTold } from "./session-file.mjs";
-import { chosenStage, coverageOf, inputsOfLine, isComplete, levelsAround, lineNow, linesNeverActed, stagesNow } from "./staging.mjs";
+import { chosenStage, coverageOf, inputsOfLine, isComplete, isNothingPlayed, levelsAround, lineNow, linesNeverActed, stagesNow } from "./staging.mjs";
 import { shortened } from "./texts.mjs";
 import { there } from "./there.mjs";
 /** @typedef {import("./state").State} State */
@@ -58,12 +58,15 @@ export const inputCalled = (inputs, taken) => (taken === 0 ? "the start" : `inpu
 
 const faultTold = (fault) => (fault === "no-stages" ? "The engine in this page gives no stages." : `The engine gave no stages: ${refusalTold(fault)}.`);
 
+const NOTHING_PLAYED = "Nothing is played, so no rule runs.";
+
 // What stands above the stages.
 /** @param {State} state */
 export function stagesTold(state) {
   const came = stagesNow(state);
   if (came === null) return "";
   if (came.fault !== null) return faultTold(came.fault);
+  if (came.stages.length === 0 && isNothingPlayed(state)) return NOTHING_PLAYED;
   const { numbers } = came.wanted, where = numbers.map((number) => inputCalled(state.work.inputs, number)).join(" and ");
   return came.stages.length === 0 ? `No rule runs at ${where}.` : `Stages of ${where}:`;
 }
@@ -83,6 +86,7 @@ export function coverageTold(state) {
   const { isCovered, fault, isStopped } = state.staging, line = lineNow(state), coverage = coverageOf(state);
   if (!isCovered && line === null) return "";
   if (fault !== null) return faultTold(fault);
+  if (isNothingPlayed(state)) return NOTHING_PLAYED;
   const count = inputsOfLine(state).length;
   const where = line === null ? "" : ` The group or loop of line ${line} acted ${count === 0 ? "nowhere" : `in ${plural(count, "input")}`}${isComplete(coverage) ? "" : " so far"}.`;
   if (!isComplete(coverage)) return `${isStopped ? "Stopped" : "Looked through"}: ${coverage.done} of ${plural(coverage.total, "input")}.${where}`;

@@ -202,11 +202,15 @@ export function inputsOfLine(state) {
 /** @param {State} state */
 export const lookedAtActed = (state, input) => withStaging(lookedAtInput(state, input), { came: null, sought: lineNow(state) });
 
+// Whether nothing is played, as of a text that is refused: then nothing is known of its rules.
+/** @param {State} state */
+export const isNothingPlayed = (state) => isPlayed(state) && framesOf(state).length === 0 && allOf(actedLines(state)).size === 0;
+
 // The lines of rules that never acted, once it is asked for them and all inputs are looked through.
 /** @param {State} state */
 export function linesNeverActed(state) {
   const { isOpen, isCovered } = state.staging;
-  if (!isOpen || !isCovered || !isComplete(coverageOf(state))) return [];
+  if (!isOpen || !isCovered || !isComplete(coverageOf(state)) || isNothingPlayed(state)) return [];
   const acted = allOf(actedLines(state));
   return ruleLinesOf(sourceOf(state)).filter((line) => !acted.has(line));
 }

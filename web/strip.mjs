@@ -17,9 +17,10 @@ export class Strip {
     at("slider").addEventListener("input", () => act.frame(Number(at("slider").value)));
   }
 
-  mark(input, number) {
-    const button = makeButton("", markOf(input), () => this.act.input(number));
-    button.title = `input ${number}: ${inputTold(input)}`;
+  // The mark of an input, behind which so many are taken. It is called by its number, from 0.
+  mark(input, taken) {
+    const button = makeButton("", markOf(input), () => this.act.input(taken));
+    button.title = `input ${taken - 1}: ${inputTold(input)}`;
     button.setAttribute("aria-label", button.title);
     button.tabIndex = -1;
     return button;

@@ -7,8 +7,10 @@ import { actedBy, stagesBy } from "../../web/page-engine.mjs";
 import { framesOf, shownOf } from "../../web/replaying.mjs";
 import { coverageTold, headingsTold, stageShown, stageTold, stagesTold } from "../../web/stage-words.mjs";
 import { chosenStage, coverageOf, coverageStopped, covered, inputsOfLine, lineNow, linePointedAt, linesMarked, lookedAtActed, opened, stageChosen, stageStepped, stagesNow } from "../../web/staging.mjs";
+import { Strip } from "../../web/strip.mjs";
 import { edited, lookedAtInput, pressed } from "../../web/work.mjs";
 import { Bench, GAME, module } from "./bench.mjs";
+import { putDocument, takeDocument } from "./stand-ins.mjs";
 /** @typedef {Pick<import("../../engine/saxtegun").Engine, "stages">} Stages */
 
 const it = (name, act) => test(name, { skip: module === undefined && "there is no module" }, act);
@@ -114,6 +116,29 @@ it("lines that never acted are grey once all inputs are looked through", async (
   assert.deepEqual([coverageOf(bench.state), linesMarked(bench.state).never, coverageTold(bench.state)], [{ done: 4, total: 4 }, [RULE + 1], "1 line of rules never acted (grey)."]);
   await bench.act(covered);
   assert.deepEqual([linesMarked(bench.state).never, coverageTold(bench.state)], [[], ""]);
+});
+
+it("of a text that is refused nothing is played, and no rule is said not to act", async () => {
+  const bench = await staged(new Told(), [], GAME.replace("[ > Player | Crate ] ->", "[ > Player | Create ] ->"));
+  bench.engine.stages = async () => ({ stages: [], fault: null });
+  bench.engine.acted = async () => ({ lines: [[]], fault: null });
+  await bench.act(opened, true);
+  await bench.act(covered);
+  await lookedThrough(bench);
+  const told = "Nothing is played, so no rule runs.";
+  assert.deepEqual([stagesTold(bench.state), coverageTold(bench.state), linesMarked(bench.state).never], [told, told, []]);
+  await bench.act(edited, GAME);
+  assert.equal(stagesTold(bench.state), "No rule runs at the start.");
+});
+
+it("the marks of inputs count them from 0, as all else does", () => {
+  const stand = () => ({ addEventListener() {}, setAttribute() {} });
+  putDocument({ getElementById: stand, createElement: stand });
+  try {
+    assert.deepEqual([0, 1].map((number) => new Strip({}).mark([3, "undo"][number], number + 1).title), ["input 0: right", "input 1: undo"]);
+  } finally {
+    takeDocument();
+  }
 });
 
 it("which lines never acted is worked out once, and lists of lines that are alike are held once", async () => {
