@@ -2,7 +2,7 @@
 // @ts-check
 // engine/replay.mjs [--workers N] [--order rows|columns] [FILE]: the program's command line, lines and exit statuses, for Node 20 and later. With more than one
 // worker a file is cut and its parts are played side by side; without the option one plays. Of a standard stream that is closed Node doesn't know.
-// SAXTEGUN_MODULE may name another module than out/saxtegun.wasm.
+// SAXTEGUN_MODULE may name another module than out/saxtegun.wasm, in whose place a clone in which it isn't built has the released one.
 import { Refusal, loadNamed, open, readInput, run, told } from "./streams.mjs";
 
 const OPTION = /^(--order|--workers)(?:=(.*))?$/s;

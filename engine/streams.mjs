@@ -1,6 +1,6 @@
 // @ts-check
 // The streams of the command lines of this folder, as the program reads and writes them.
-import { openSync, readSync, writeSync } from "node:fs";
+import { existsSync, openSync, readSync, writeSync } from "node:fs";
 import { pathToFileURL } from "node:url";
 import { load } from "./saxtegun.mjs";
 
@@ -64,8 +64,13 @@ function writeLines(lines) {
   }
 }
 
-// The engine of the module that SAXTEGUN_MODULE names, or of the one beside this file.
-export const loadNamed = () => load(MODULE ? pathToFileURL(MODULE) : undefined);
+// The engine of the module that SAXTEGUN_MODULE names, or else of the one that is built here, or of the one that is released, as ./saxtegun takes it.
+export function loadNamed() {
+  const places = MODULE ? [pathToFileURL(MODULE)] : ["out/saxtegun.wasm", "../released/saxtegun.wasm"].map((name) => new URL(name, import.meta.url));
+  const found = places.find((it) => existsSync(it));
+  if (found === undefined) throw new Refusal(MODULE ? `there is no module at ${MODULE}` : "no module is built here, by engine/build, and none is released");
+  return load(found);
+}
 
 // Writes the lines of an answer, and gives its status.
 export function told(answer) {

@@ -141,6 +141,25 @@ class TheStages(OnStages):
 
 
 @unittest.skipUnless(NODE, "there is no node")
+class TheModule(InARoom):
+    """Which module the command lines of engine/ take: in a clone none is built."""
+
+    def test_where_none_is_built_the_released_one_plays(self) -> None:
+        for folder in ("engine", "released"):
+            (self.room / folder).mkdir()
+        for file in ENGINE.glob("*.mjs"):
+            shutil.copy2(file, self.room / "engine")
+        example, (name, value) = TOP / "examples/block-pushing.json", ("SAXTEGUN_MODULE", str(self.room / "none"))
+        command, env = [NODE, self.room / "engine/replay.mjs", example], {it: value for it, value in os.environ.items() if it != name}
+        told = [subprocess.run(command, env={**env, **more}, stdout=subprocess.PIPE, stderr=subprocess.PIPE, check=False) for more in ({}, {name: value})]
+        self.assertEqual([it.stderr.decode() for it in told], ["no module is built here, by engine/build, and none is released\n", f"there is no module at {value}\n"])
+        shutil.copy2(TOP / "released/saxtegun.wasm", self.room / "released")
+        played = subprocess.run(command, env=env, stdout=subprocess.PIPE, stderr=subprocess.PIPE, check=False)
+        self.assertEqual((played.returncode, played.stderr, played.stdout.count(b'"close":')), (1, b"", 5))
+        self.assertEqual([it.returncode for it in told], [2, 2])
+
+
+@unittest.skipUnless(NODE, "there is no node")
 class OpenSessions(unittest.TestCase):
     """Tests the glue of open sessions, without a module and over the one that is built; the second name begins with Engine, by which ./check finds it."""
 
