@@ -11,6 +11,7 @@ import subprocess
 import sys
 from concurrent.futures import FIRST_COMPLETED, Future, ThreadPoolExecutor, wait
 from pathlib import Path
+from time import monotonic
 from typing import Callable, Dict, List, Optional, Sequence, Set, Tuple, Union
 
 from crates import Uses, lanes_for_checks, read_crates, read_uses
@@ -22,16 +23,41 @@ SOURCES = ("src", "specs", "proofs")
 # and proofs, as fits the others: so many seconds, and one more for so many lines.
 SECONDS = re.compile(r"^(\w+) (\d+)$", re.M)
 LEAST, LINES_OF_A_SECOND = 30, 50
+# So many times as long a slow machine takes: where that file says 9 minutes of four processors, 32 were measured.
+SLOWEST = 4
 # What a check takes at most, as docs/proving.md tells, with some room.
 MEMORY_OF_A_CHECK = 4_000_000_000
 PROVED = re.compile(r"rt: (\w+) (?:proved$|is kept)")
 NOT_PROVED = re.compile(r"^rt: (\w+) NOT PROVED$", re.M)
 
 
-def say_what_is_proved(crates: Uses, left: Set[str]) -> None:
-    """Says which crates may be proved now, since all below them are, and how many are left."""
+class Progress:
+    """How long proofs take here: as long as dev/proof-seconds.txt has it of another machine, until by those that are done this one is known."""
+
+    def __init__(self, names: Sequence[str], lanes: int) -> None:
+        seconds = seconds_of_proofs()
+        self.of = {it: seconds.get(it, MIDDLING) for it in names}
+        self.lanes, self.begin = lanes, monotonic()
+
+    def told(self, left: Set[str]) -> str:
+        """How long those take that are left."""
+        todo = sum(self.of[it] for it in left)
+        done = sum(self.of.values()) - todo
+        if not done:
+            return f"{minutes_told(todo / self.lanes)} as dev/proof-seconds.txt has it, and up to {SLOWEST} times as long on a slow machine"
+        return minutes_told((monotonic() - self.begin) * todo / done)
+
+
+def minutes_told(seconds: float) -> str:
+    count = max(1, round(seconds / 60))
+    return f"about {count} {'minute' if count == 1 else 'minutes'}"
+
+
+def say_what_is_proved(crates: Uses, left: Set[str], progress: Progress) -> None:
+    """Says which crates may be proved now, since all below them are, how many are left, and how long these take."""
     ready = [it for it in left if not left & set(crates[it])]
-    print(f"proving {', '.join(sorted(ready))}; {len(left)} left", file=sys.stderr, flush=True)
+    if left:
+        print(f"proving {', '.join(sorted(ready))}; {len(left)} left: {progress.told(left)}", file=sys.stderr, flush=True)
 
 
 class Kit:
@@ -79,7 +105,8 @@ def sources_of(name: str) -> List[Path]:
 
 
 def seconds_of_proofs() -> Dict[str, int]:
-    """About how many seconds the proof of each crate takes, as dev/proof-seconds.txt or else its lines say."""
+    """About how many seconds the proof of each crate takes, as dev/proof-seconds.txt or else its lines say: which crate comes first depends on it,
+    and what is said of time."""
     file = TOP / "dev/proof-seconds.txt"
     measured = dict(SECONDS.findall(file.read_text(encoding="utf-8"))) if file.is_file() else {}
     return {it: int(measured[it]) if it in measured else LEAST + lines_of(it) // LINES_OF_A_SECOND for it in read_crates(TOP)}
@@ -103,9 +130,10 @@ def in_lanes(crates: Uses, names: Sequence[str], prove: Callable[[str, int], boo
     not, or None."""
     lanes, heavy, left = lanes_for_checks(MEMORY_OF_A_CHECK), weights(crates, names), set(names)
     running: Dict[Future[bool], Tuple[str, int]] = {}
+    progress = Progress(names, lanes)
     with ThreadPoolExecutor(len(names)) as pool:
         while left:
-            say_what_is_proved(crates, left)
+            say_what_is_proved(crates, left, progress)
             busy = {name: jobs for name, jobs in running.values()}
             ready = sorted((it for it in left if it not in busy and not left & set(crates[it])), key=lambda it: -heavy[it])
             for place, name in enumerate(ready):
@@ -193,7 +221,8 @@ def prove_by_ci(crates: Uses, names: Sequence[str], room: Path) -> Optional[str]
     left, last = set(names), names[-1]
     log = new_log(last)
     furnish(room, names)
-    say_what_is_proved(crates, left)
+    progress = Progress(names, lanes_for_checks(MEMORY_OF_A_CHECK))
+    say_what_is_proved(crates, left, progress)
     with log.open("w", encoding="utf-8") as written:
         with subprocess.Popen(["rt", "ci"], cwd=room, stdin=subprocess.DEVNULL, stdout=subprocess.PIPE, stderr=subprocess.STDOUT, text=True, errors="replace") as ran:
             for line in ran.stdout or ():
@@ -202,7 +231,7 @@ def prove_by_ci(crates: Uses, names: Sequence[str], room: Path) -> Optional[str]
                 if proved and proved[1] in left:
                     left.remove(proved[1])
                     if left:
-                        say_what_is_proved(crates, left)
+                        say_what_is_proved(crates, left, progress)
     if ran.returncode != 0 or not all(made_of(it, room).exists() for it in names):
         return log_of_failed(log, last)
     for it in names:

@@ -3,10 +3,15 @@ from __future__ import annotations
 
 import os
 import subprocess
+import sys
 import unittest
 from typing import List, Tuple
+from unittest import mock
 
-from tool import CRATE, OnSmallCrates, run
+from tool import CRATE, TOP, OnSmallCrates, run
+
+sys.path.insert(0, str(TOP / "dev"))
+import proving
 
 PROGRAM = """//! A program that writes nothing.
 
@@ -30,7 +35,9 @@ class Build(OnSmallCrates):
     def test_a_program_is_built_and_told_what_it_waits_for(self) -> None:
         answer = run(self.tool, "high")
         self.assertEqual((answer.status, answer.out), (0, ""), answer.errors)
-        self.assertEqual(answer.errors.splitlines(), ["proving low; 2 left", "proving high; 1 left"])
+        first, second = answer.errors.splitlines()
+        self.assertRegex(first, "^proving low; 2 left: about [12] minutes? as dev/proof-seconds.txt has it, and up to 4 times as long on a slow machine$")
+        self.assertRegex(second, "^proving high; 1 left: about [0-9]+ minutes?$")
         self.assertEqual(subprocess.run([self.room / "crates/high/out/high"]).returncode, 0)
 
     def test_what_is_not_proved_is_reported(self) -> None:
@@ -56,6 +63,15 @@ class Weighed(OnSmallCrates):
         self.write("dev/proof-seconds.txt", "# The seconds of each.\nlow 7\ngone 9\n")
         answer = run(self.write("dev/weighing.py", "import proving\nprint(proving.seconds_of_proofs())\n"))
         self.assertEqual((answer.out, answer.errors), ("{'low': 7, 'middle': 35, 'high': 30}\n", ""))
+
+
+class HowLong(unittest.TestCase):
+    def test_what_is_left_is_told_by_what_is_done(self) -> None:
+        """Of 600 s on another machine 100 took 400 s here, so the 500 that are left take 2,000: 33 minutes."""
+        with mock.patch.object(proving, "seconds_of_proofs", return_value={"a": 100, "b": 200, "c": 300}), mock.patch.object(proving, "monotonic", side_effect=[1000.0, 1400.0]):
+            progress = proving.Progress(["a", "b", "c"], 4)
+            self.assertEqual(progress.told({"a", "b", "c"}), "about 2 minutes as dev/proof-seconds.txt has it, and up to 4 times as long on a slow machine")
+            self.assertEqual(progress.told({"b", "c"}), "about 33 minutes")
 
 
 class Taken(OnSmallCrates):
