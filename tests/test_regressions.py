@@ -100,6 +100,18 @@ class DayOfCommits(InAGitFolder):
         self.assertEqual((answer.status, json.loads(answer.out)), (1, json.loads(recordings.read_text(encoding="utf-8"))))
         self.assertIn("differs, not accepted: no longer solved: not solved: mend it by", answer.errors)
 
+    def test_what_no_longer_wins_the_level_before_its_recorded_one_is_not_accepted(self) -> None:
+        """Nothing else says so: no text is committed, and nothing must be solved. What ends in the level where it was recorded is accepted."""
+        solved = self.room / "solved.json"
+        self.assertEqual(run("solve", self.game, "--level", 1, "--save", solved).status, 0)
+        shutil.rmtree(self.room / ".git")
+        self.with_rule(STUCK)
+        answer = run("accept", solved, "--game", self.game)
+        self.assertEqual((answer.status, json.loads(answer.out)), (1, json.loads(solved.read_text(encoding="utf-8"))))
+        self.assertIn("differs, not accepted: still in level 1, and the recorded level looks like level 2: mend it by", answer.errors)
+        answer = run("accept", self.recordings, "--game", self.game, "--only", "a recording*")
+        self.assertEqual(answer.status, 0, answer.errors)
+
     def test_the_report_and_the_summary_are_of_the_same_run(self) -> None:
         self.with_rule(STUCK)
         run("test", self.game, self.recordings, "--markdown", self.room / "m.md")

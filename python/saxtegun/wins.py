@@ -3,7 +3,7 @@ from __future__ import annotations
 
 import os
 from time import monotonic
-from typing import Dict, Mapping, Optional, Sequence, Set
+from typing import Dict, Mapping, NamedTuple, Optional, Sequence, Set
 
 from saxtegun.budget import EXPLAINING, UsedUp
 from saxtegun.commands import Refused
@@ -42,24 +42,36 @@ def levels_won(entries: Sequence[Entry], runs: Sequence[Run], ends: Mapping[int,
     return found
 
 
-def lost_wins(entries: Sequence[Entry], runs: Sequence[Run], ends: Mapping[int, str], game: Optional[GameText], of: Sessions, engine: Engine) -> Dict[int, str]:
-    """Which sessions win fewer levels over the text at hand than over the committed one, which they pass, in words; by their numbers. `ends` are how they
-    ended, by their places. None where there is no such text, or no time left to explain."""
-    places = [it for it, end in ends.items() if end not in (SOLVED, NOT_PLAYED, NOT_ANSWERED) and game and entries[it].source == game.source]
-    if game is None or not places or not EXPLAINING.is_left():
+class Before(NamedTuple):
+    """How many levels a session won over the committed text, and the number of the last one there."""
+
+    wins: int
+    level: int
+
+
+def wins_before(entries: Sequence[Entry], game: Optional[GameText], of: Sessions, engine: Engine) -> Dict[int, Before]:
+    """What sessions over the text at hand won over the committed one, those that pass over it; by their numbers. None where there is no such text, or no time
+    left to explain."""
+    asked = [it for it in entries if game and it.source == game.source]
+    if game is None or not asked or not EXPLAINING.is_left():
         return {}
-    now = {entries[it].number: wins_of(runs[it]) for it in places}
     try:
         with EXPLAINING.spent():
             text = text_before(game)
             in_time = engine._replace(end=min(engine.end, monotonic() + EXPLAINING.seconds_left() / 2))
-            before = wins_over([entries[it] for it in places], text, of, in_time)
-            lost = [entries[it]._replace(source=text or "") for it in places if before.get(entries[it].number, 0) > now[entries[it].number]]
-            return {it.number: lost_told(first_level(it) + before[it.number] - 1, game) for it in lost}
+            wins = wins_over(asked, text, of, in_time)
+            first = {it.number: first_level(it._replace(source=text or "")) for it in asked if it.number in wins}
+            return {number: Before(count, first[number] + count - 1) for number, count in wins.items()}
     except (Refused, UsedUp):
         # what was played is told all the same
         return {}
 
 
-def lost_told(level: int, game: GameText) -> str:
-    return f"it won level {level} over the committed {os.path.basename(game.path)}, and no longer does"
+def lost_wins(entries: Sequence[Entry], runs: Sequence[Run], ends: Mapping[int, str], before: Mapping[int, Before], game: Optional[GameText]) -> Dict[int, str]:
+    """Which sessions win fewer levels than before, in words; by their numbers. `ends` are how they ended, by their places, as far as that is known."""
+    found: Dict[int, str] = {}
+    for place, end in ends.items():
+        was = before.get(entries[place].number)
+        if game and was and end not in (NOT_PLAYED, NOT_ANSWERED) and was.wins > wins_of(runs[place]) + (end == SOLVED):
+            found[entries[place].number] = f"it won level {was.level} over the committed {os.path.basename(game.path)}, and no longer does"
+    return found

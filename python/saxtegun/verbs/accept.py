@@ -13,9 +13,10 @@ Look first at what you accept, by `saxtegun report` or `saxtegun explain`. Or
 let --review show one after the other, with both levels, and ask: what you
 accept then replaces SESSIONS, unless standard output goes to a file or a program.
 
-A session that won more levels over the committed text of GAME.txt, or that must be
-solved and isn't, is accepted only with --anyway, or where --review asks: see
-whether saxtegun mend makes it win again. With LINES nothing is known of that.
+A session that won more levels over the committed text of GAME.txt, or else by its
+recorded level, or that must be solved and isn't, is accepted only with --anyway,
+or where --review asks: see whether saxtegun mend makes it win again. With LINES
+nothing is known of that.
 
 With --reindex no level is accepted: a recording that doesn't pass is tried in
 the other levels, up to 1,000 of them, as when levels were inserted or moved;
@@ -38,17 +39,19 @@ from argparse import ArgumentParser, Namespace
 from contextlib import contextmanager
 from typing import Collection, Dict, Iterable, Iterator, List, Mapping, Optional, Sequence, Tuple, Union
 
+from saxtegun.budget import EXPLAINING, UsedUp
 from saxtegun.commands import Ended, Refused, add_game, add_playing, add_ticks, cut, plural, printable, say, seconds_in
-from saxtegun.descriptions import expect
+from saxtegun.descriptions import Undescribed, expect
 from saxtegun.explanations import UNREADABLE, Ending, heading, source_told, told
 from saxtegun.files import guard_output, guard_places, is_output_kept, write_again
+from saxtegun.levelsets import first_level, level_of_recorded, still_in, wins_of
 from saxtegun.lines import UNANSWERED, Run
 from saxtegun.playing import Engine, engine_of, lines_or_played
 from saxtegun.reindexing import WITHIN, reindexed
 from saxtegun.sessions import Entry, Sessions, changed, chosen, guard_size, read_sessions
 from saxtegun.solutions import SOLVED, no_longer, solved_of
 from saxtegun.texts import GameText, over, read_game, say_others, say_untested
-from saxtegun.wins import lost_wins
+from saxtegun.wins import lost_wins, wins_before
 
 USAGE = "accept SESSIONS [LINES] [--only PATTERN..] [--review|--reindex] [--anyway] [--in-place] [--game GAME.txt] [--order rows|columns] [>NEW]"
 ASKED = "accept it? y: yes, n: no, a: it and all that follow, q: none of those that follow "
@@ -107,8 +110,20 @@ class Review:
                 return False
 
 
+def still_told(entry: Entry, run: Run, order: str) -> str:
+    """That a session stays in a level before the one that its recorded level is of, or nothing, also where there is no time to see."""
+    try:
+        with EXPLAINING.spent():
+            recorded = level_of_recorded(entry, order)
+            is_before = recorded is not None and first_level(entry) + wins_of(run) < recorded.level
+            return still_in(entry, run, order) or "" if is_before else ""
+    except (Undescribed, UsedUp):
+        return ""
+
+
 def lost_among(sessions: Sessions, runs: Sequence[Run], wanted: Collection[int], game: Optional[GameText], engine: Engine) -> Dict[int, str]:
-    """Which of these sessions differ, and no longer win what they won or must win, in words; by their numbers."""
+    """Which of these sessions differ, and no longer win what they won or must win, in words; by their numbers. Where the committed text doesn't say what they won,
+    the recorded level does."""
     differing = [it for it in runs if it.close == "differs" and it.number in wanted]
     entries = [sessions.entries[it.number] for it in differing]
     try:
@@ -117,7 +132,9 @@ def lost_among(sessions: Sessions, runs: Sequence[Run], wanted: Collection[int],
         # what was played can be accepted all the same
         return {}
     unsolved = {entries[it].number: no_longer(end) for it, end in ends.items() if entries[it].is_solved_wanted and end != SOLVED}
-    return {**lost_wins(entries, differing, ends, game, sessions, engine), **unsolved}
+    before = wins_before(entries, game, sessions, engine)
+    still = {it.number: still_told(sessions.entries[it.number], it, engine.order) for it in differing if it.number not in before}
+    return {**still, **lost_wins(entries, differing, ends, before, game), **unsolved}
 
 
 def write(sessions: Sessions, changes: Mapping[int, Tuple[str, Union[str, int]]], given: Namespace) -> None:

@@ -53,7 +53,7 @@ from saxtegun.solvability import UNKNOWN, UNSOLVABLE, levels_not_won
 from saxtegun.solving import add_bounds, bounds_of
 from saxtegun.texts import GameText, elsewhere_told, file_of, of_another_text, over, read_game, remark, split_files
 from saxtegun.ticks import forget, ticks_property, ticks_told
-from saxtegun.wins import levels_won, lost_wins
+from saxtegun.wins import levels_won, lost_wins, wins_before
 
 # How a session ends of which it isn't known whether it solves its game.
 UNKNOWN_ENDS = (NOT_PLAYED, NOT_ANSWERED)
@@ -182,7 +182,9 @@ def unsolved_in(suite: Suite, given: Namespace) -> Dict[int, str]:
     """Why sessions fail that passed, and must be solved, or won more levels over the committed text."""
     passed = {it.number: suite.solved.get(it.number, NOT_PLAYED) for it in suite.runs if it.close == "passed"}
     wanted = {it.number for it in suite.sessions.entries if must_be_solved(it, given.solved)}
-    lost = lost_wins(suite.sessions.entries, suite.runs, passed, suite.game, suite.sessions, engine_of(given))
+    unsolved = [it for it in suite.sessions.entries if passed.get(it.number) not in (None, SOLVED)]
+    before = wins_before(unsolved, suite.game, suite.sessions, engine_of(given))
+    lost = lost_wins(suite.sessions.entries, suite.runs, passed, before, suite.game)
     return {**lost, **{number: no_longer(end) for number, end in passed.items() if number in wanted and end != SOLVED}}
 
 
