@@ -149,14 +149,18 @@ class TheModule(InARoom):
             (self.room / folder).mkdir()
         for file in ENGINE.glob("*.mjs"):
             shutil.copy2(file, self.room / "engine")
-        example, (name, value) = TOP / "examples/block-pushing.json", ("SAXTEGUN_MODULE", str(self.room / "none"))
-        command, env = [NODE, self.room / "engine/replay.mjs", example], {it: value for it, value in os.environ.items() if it != name}
-        told = [subprocess.run(command, env={**env, **more}, stdout=subprocess.PIPE, stderr=subprocess.PIPE, check=False) for more in ({}, {name: value})]
-        self.assertEqual([it.stderr.decode() for it in told], ["no module is built here, by engine/build, and none is released\n", f"there is no module at {value}\n"])
+        missing = str(self.room / "none")
+        for module, said in (("", "no module is built here, by engine/build, and none is released\n"), (missing, f"there is no module at {missing}\n")):
+            refused = self.played_by(module)
+            self.assertEqual((refused.returncode, refused.stderr.decode()), (2, said))
         shutil.copy2(TOP / "released/saxtegun.wasm", self.room / "released")
-        played = subprocess.run(command, env=env, stdout=subprocess.PIPE, stderr=subprocess.PIPE, check=False)
+        played = self.played_by("")
         self.assertEqual((played.returncode, played.stderr, played.stdout.count(b'"close":')), (1, b"", 5))
-        self.assertEqual([it.returncode for it in told], [2, 2])
+
+    def played_by(self, module: str) -> subprocess.CompletedProcess[bytes]:
+        """The example, played in the room by this module, or by the one that it takes where none is named."""
+        command = [NODE, str(self.room / "engine/replay.mjs"), str(TOP / "examples/block-pushing.json")]
+        return subprocess.run(command, env={**os.environ, "SAXTEGUN_MODULE": module}, stdout=subprocess.PIPE, stderr=subprocess.PIPE, check=False)
 
 
 @unittest.skipUnless(NODE, "there is no node")

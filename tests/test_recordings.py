@@ -7,7 +7,7 @@ import subprocess
 import sys
 import unittest
 from pathlib import Path
-from typing import Tuple
+from typing import List, Tuple
 
 from day import EXAMPLE, OnSessions, lines_of_example
 from tool import PROGRAM, TOP, plays, run
@@ -178,9 +178,10 @@ class Accept(OnSessions):
 
     def test_what_is_accepted_is_kept_where_standard_output_keeps_nothing(self) -> None:
         """Of the recordings of the example the last one alone differs."""
-        for words in ([], ["--in-place"]):
+        calls: List[List[str]] = [[], ["--in-place"]]
+        for words in calls:
             sessions = self.write("sessions.json", EXAMPLE.read_text(encoding="utf-8"))
-            command = [sys.executable, TOP / "saxtegun", "accept", sessions, self.lines, "--review", *words]
+            command = [sys.executable, str(TOP / "saxtegun"), "accept", str(sessions), str(self.lines), "--review", *words]
             ran = subprocess.run(command, input=b"y\n", stdout=subprocess.DEVNULL, stderr=subprocess.PIPE)
             self.assertEqual((ran.returncode, sessions.read_text(encoding="utf-8")), (0, run("accept", EXAMPLE, self.lines).out))
 
