@@ -2,15 +2,19 @@
 // Where the site may decide otherwise: which of the differences of docs/differences.md a session that differs has the form of. The twin of
 // python/saxtegun/differences.py.
 import { before, descriptionOf, settingsOf } from "./descriptions.mjs";
-import { TextMap, among, distinct, firstsOf } from "./text-map.mjs";
-import { fold, shortened } from "./texts.mjs";
+import { Labels, readCells } from "./level-text.mjs";
+import { TextMap, distinct } from "./text-map.mjs";
+import { shortened } from "./texts.mjs";
 import { there } from "./there.mjs";
 
 const WHERE_TOLD = "docs/differences.md";
 const MOST_OF_A_RULE = 500; // words of a rule that are looked at,
 const MOST_OF_A_LINE = 1000; // and letters of its line
 const MOST_MOVED = 1000; // names that rules move that are looked at
-const MOST_PROPERTIES = 50; // properties of a source that are looked at
+const MOST_PROPERTIES = 50; // properties on the left of rules that are looked at
+const MOST_BESIDE = 8; // other names of a row that are looked at
+const MOST_LEVELS = 20; // levels of a session in which it is looked for what is met
+const GAP = "...";
 const BEHIND_A_COMMENT = /\([^()]*\)\s*(?:again|win|restart|cancel|checkpoint|message|sfx\d+)\b/i;
 
 const ROW_MARKS = ["[", "]", "|"];
@@ -30,17 +34,48 @@ function sidesOf({ words }) {
 
 const isLate = ({ words }) => before("[", words).includes("late");
 
-// The words on the left of rules, [[word, line]]: each with the first line that has it.
-function namesOnTheLeft(rules) {
-  const pairs = rules.flatMap(({ line, words }) => before("->", words).map((word) => [word, line])), lines = firstsOf(pairs);
-  return distinct(pairs.map(([word]) => word)).map((word) => [word, lines.get(word)]);
+// The words in each row of a side that stand behind no `no`.
+function rowsIn(words) {
+  const rows = [];
+  let row = [];
+  words.forEach((word, at) => {
+    if (words[at - 1] !== "no") row.push(word);
+    if (word !== "]") return;
+    rows.push(row);
+    row = [];
+  });
+  return rows;
 }
 
-// The properties of one layer that stand on the left of a rule, [{ name, members, line }]: the first of them, since a source may have many.
+// The objects that names of a game stand for. Each name is gone through once, since many rows may have one name of many objects.
+class Members {
+  constructor(game) {
+    this.game = game;
+    this.known = new TextMap();
+  }
+
+  of(name) {
+    if (!this.known.has(name)) this.known.set(name, distinct(this.game.members(name)));
+    return this.known.get(name);
+  }
+}
+
+// The properties of one layer in a row, [{ name, line, members, beside }], with the objects that each other name of the row stands for.
+function propertiesIn(row, line, members) {
+  const { game } = members, named = distinct(row).map((name) => ({ name, its: members.of(name) })), layersOf = (its) => new Set(its.map((it) => game.layers.get(it)));
+  const others = row.includes(GAP) ? [] : named.filter(({ its }) => its.length > 0).slice(0, MOST_BESIDE);
+  return named.filter(({ name, its }) => game.isProperty(name) && its.length > 1 && layersOf(its).size === 1)
+    .map(({ name, its }) => ({ name, line, members: its, beside: others.filter((it) => it.name !== name).map((it) => it.its) }));
+}
+
+// The properties of one layer that stand on the left of rules: the first of them, since a source may have many.
 function propertiesOf(game, rules) {
-  const named = namesOnTheLeft(rules).filter(([name]) => game.isProperty(name)).slice(0, MOST_PROPERTIES);
-  return named.map(([name, line]) => ({ name, line, members: game.members(name) }))
-    .filter(({ members }) => members.length > 1 && new Set(members.map((it) => game.layers.get(it))).size === 1);
+  const found = [], members = new Members(game);
+  for (const rule of rules) {
+    found.push(...rowsIn(sidesOf(rule).left).flatMap((row) => propertiesIn(row, rule.line, members)));
+    if (found.length >= MOST_PROPERTIES) break;
+  }
+  return found.slice(0, MOST_PROPERTIES);
 }
 
 // Whether a comment stands directly before a command of a rule that has both.
@@ -144,11 +179,29 @@ function startTold(source, frames) {
   return isWon && hasKeyword(source, START) ? "a level was won by its first tick: on the site that tick wins nothing" : "";
 }
 
-// A property of which two different members stood in the first level, or nothing.
-function propertyTold(game, rules, level) {
-  const names = among(fold(level ?? "").match(/[^ ,:\n]+/g) ?? []);
-  const met = propertiesOf(game, rules).find(({ members }) => members.filter((it) => names.has(it)).length > 1);
-  return met === undefined ? "" : `\`${shortened(met.name)}\` in the rule on line ${met.line} stands for objects of one layer: on the site the first place counts, not the first member`;
+// How often each name stands in a level.
+function namesMet(text) {
+  const labels = new Labels(), counts = new Map(), met = new TextMap();
+  for (const label of readCells(text, labels) ?? []) counts.set(label, (counts.get(label) ?? 0) + 1);
+  for (const [label, count] of counts) for (const name of labels.names[label]) met.set(name, (met.get(name) ?? 0) + count);
+  return met;
+}
+
+// Whether it may matter in a level which member of a property comes first: two are met, and nothing else of the row stands there but once, where a row fits
+// once in a direction.
+function mayDecide({ members, beside }, met) {
+  const isTwice = (its) => its.reduce((all, it) => all + (met.get(it) ?? 0), 0) > 1;
+  return members.filter((it) => met.has(it)).length > 1 && beside.every(isTwice);
+}
+
+// A property of which it may have mattered which member comes first, or nothing.
+function propertyTold(game, rules, frames) {
+  const properties = propertiesOf(game, rules), levels = properties.length === 0 ? [] : frames.filter(({ kind }) => kind === "start" || kind === "load").slice(0, MOST_LEVELS);
+  for (const { level } of levels) {
+    const met = namesMet(level), found = properties.find((it) => mayDecide(it, met));
+    if (found) return `\`${shortened(found.name)}\` in the rule on line ${found.line} stands for objects of one layer: on the site the first place counts, not the first member`;
+  }
+  return "";
 }
 
 // An input that the site heeds not, or nothing.
@@ -160,7 +213,7 @@ function heedlessTold(source, inputs) {
 // The difference that a session has most likely met, in a sentence without its end, or null.
 export function likelyTold({ source, game, inputs, frames }) {
   const { rules } = descriptionOf(source);
-  const told = heedlessTold(source, inputs) || startTold(source, frames) || propertyTold(game, rules, frames[0]?.level) || ruleTold(source, rules) || scanTold(rules)
+  const told = heedlessTold(source, inputs) || startTold(source, frames) || propertyTold(game, rules, frames) || ruleTold(source, rules) || scanTold(rules)
     || placedTold(game, rules);
   return told === "" ? null : `the site may decide otherwise: ${told} (${WHERE_TOLD})`;
 }

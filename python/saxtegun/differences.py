@@ -4,7 +4,7 @@ from __future__ import annotations
 import re
 from collections import Counter
 from functools import lru_cache, reduce
-from itertools import chain, islice
+from itertools import islice
 from operator import or_
 from typing import Dict, FrozenSet, Iterator, List, Mapping, NamedTuple, Optional, Sequence, Tuple
 
@@ -29,6 +29,8 @@ MOST_NAMES = 1000
 MOST_PROPERTIES = 50
 # So many other names of a row are looked at.
 MOST_BESIDE = 8
+# In so many levels of a session it is looked for what is met.
+MOST_LEVELS = 20
 # A command of a rule behind a comment, in so many letters of a line.
 BEHIND_A_COMMENT = re.compile(r"\([^()]*\)\s*(?:again|win|restart|cancel|checkpoint|message|sfx[0-9]+)\b", re.I)
 MOST_LETTERS = 1000
@@ -48,11 +50,10 @@ class Property(NamedTuple):
     line: int
     beside: Tuple[FrozenSet[str], ...]
 
-    def may_decide(self, cells: Mapping[FrozenSet[str], int]) -> bool:
-        """Whether it may matter in a level which member comes first: two are met, and nothing else of the row is in one cell alone, where a row fits once in a
-        direction. `cells` says how often each cell stands there."""
-        met = frozenset(chain.from_iterable(cells))
-        return len(self.members & met) > 1 and all(sum(count for cell, count in cells.items() if not it.isdisjoint(cell)) > 1 for it in self.beside)
+    def may_decide(self, met: Mapping[str, int]) -> bool:
+        """Whether it may matter in a level which member comes first: two are met, and nothing else of the row stands there but once, where a row fits once in a
+        direction. `met` says how often each name stands there."""
+        return sum(it in met for it in self.members) > 1 and all(sum(met.get(it, 0) for it in its) > 1 for its in self.beside)
 
 
 def rules_of(source: str) -> Iterator[Words]:
@@ -77,9 +78,22 @@ def rows_in(words: Sequence[str]) -> Iterator[List[str]]:
             row = []
 
 
-def properties_in(row: Sequence[str], line: int, game: Game) -> Iterator[Property]:
+class Members:
+    """The objects that names of a game stand for. Each name is gone through once, since many rows may have one name of many objects."""
+
+    def __init__(self, game: Game) -> None:
+        self.game = game
+        self.known: Dict[str, FrozenSet[str]] = {}
+
+    def of(self, name: str) -> FrozenSet[str]:
+        if name not in self.known:
+            self.known[name] = frozenset(self.game.members(name))
+        return self.known[name]
+
+
+def properties_in(row: Sequence[str], line: int, known: Members) -> Iterator[Property]:
     """The properties of one layer in a row."""
-    of = {it: frozenset(game.members(it)) for it in EXPLAINING.each(dict.fromkeys(row))}
+    game, of = known.game, {it: known.of(it) for it in EXPLAINING.each(dict.fromkeys(row))}
     names = [] if GAP in row else [it for it in of if of[it]][:MOST_BESIDE]
     for name, members in of.items():
         if game.is_property(name) and len(members) > 1 and len({game.layers.get(it) for it in members}) == 1:
@@ -89,9 +103,9 @@ def properties_in(row: Sequence[str], line: int, game: Game) -> Iterator[Propert
 @lru_cache(maxsize=64)
 def properties_of(source: str) -> Tuple[Property, ...]:
     """The properties of one layer that stand on the left of rules: the first of them, since a source may have many."""
-    game = game_of(source)
+    known = Members(game_of(source))
     rows = ((row, line.number) for line in rules_of(source) for row in rows_in(sides_of(line)[0]))
-    return tuple(islice((it for row, number in rows for it in properties_in(row, number, game)), MOST_PROPERTIES))
+    return tuple(islice((it for row, number in rows for it in properties_in(row, number, known)), MOST_PROPERTIES))
 
 
 @lru_cache(maxsize=64)
@@ -205,20 +219,23 @@ def start_told(entry: Entry, run: Run) -> str:
     return "a level was won by its first tick: on the site that tick wins nothing" if is_won and START in keywords_of(entry.source) else ""
 
 
-def cells_met(run: Run) -> Iterator[Mapping[FrozenSet[str], int]]:
-    """The cells of each level that a session begins or loads, by their names, and how often each stands there."""
-    for frame in EXPLAINING.each(it for it in run.frames if it.kind in ("start", "load")):
+def names_met(run: Run) -> Iterator[Mapping[str, int]]:
+    """The names in each level that a session begins or loads, and how often each stands there."""
+    for frame in EXPLAINING.each(islice((it for it in run.frames if it.kind in ("start", "load")), MOST_LEVELS)):
         labels = Labels()
         counts = Counter(read_cells(frame.level, labels) or [])
-        yield {frozenset(map(fold, labels.names[it])): count for it, count in counts.items()}
+        met: Counter[str] = Counter()
+        for label, count in counts.items():
+            met.update(dict.fromkeys(labels.names[label], count))
+        yield met
 
 
 def property_told(entry: Entry, run: Run) -> str:
     """A property of which it may have mattered which member comes first, or nothing."""
     properties = properties_of(entry.source)
-    for cells in cells_met(run) if properties else ():
+    for met in names_met(run) if properties else ():
         for it in EXPLAINING.each(properties):
-            if it.may_decide(cells):
+            if it.may_decide(met):
                 return f"`{cut(it.name)}` in the rule on line {it.line} stands for objects of one layer: on the site the first place counts, not the first member"
     return ""
 
