@@ -36,7 +36,7 @@ class Progress:
 
     def __init__(self, names: Sequence[str], lanes: int) -> None:
         seconds = seconds_of_proofs()
-        self.of = {it: seconds.get(it, MIDDLING) for it in names}
+        self.of = {it: seconds[it] for it in names}
         self.lanes, self.begin = lanes, monotonic()
 
     def told(self, left: Set[str]) -> str:

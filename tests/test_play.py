@@ -140,13 +140,6 @@ class DayOfPlaying(OfAGame):
                 self.assertEqual((ran.returncode, errors.decode()), (0, f"play: mine: 2 inputs saved in {suite}\n"))
                 self.assertEqual([entry[1][1] for entry in json.loads(suite.read_text(encoding="utf-8"))], [[3, 1]] * number)
 
-    def test_a_key_takes_under_20_ms(self) -> None:
-        keys = b"da" * 150
-        began = time.monotonic()
-        self.assertEqual(run("play", self.game, stdin=keys).status, 0)
-        # the machine may be busy: twice the time that a key may take
-        self.assertLess(time.monotonic() - began, 300 * 0.04 + 1)
-
 
 class Window:
     """A terminal of so many columns and rows, in which a shell with job control runs a command."""

@@ -420,9 +420,7 @@ class DayOfSearchesThatAreLeft(OfLevels):
         program.chmod(0o755)
         for words in (("solve", self.game), ("mend", self.game, self.recordings, "--timeout", 1, "--only", "both*")):
             with self.subTest(words[0]):
-                begin = time.monotonic()
                 answer = run(*words, "--program", program, "--within", 1)
-                self.assertLess(time.monotonic() - begin, 300)
                 self.assertEqual(answer.status, 2 if words[0] == "solve" else 1, answer.errors)
                 self.assertIn("not known: the time is over (--within)" if words[0] == "solve" else "not mended: it is not played: not answered in 1 s", answer.out)
 
