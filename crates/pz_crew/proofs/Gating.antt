@@ -10,7 +10,8 @@ use Rattle.pz_claims.specs.Holders.{Ending, Holding, Makes}
 use Rattle.pz_claims.specs.Rule.{times, Once}
 use Rattle.pz_crew.specs.Pieces.{pieces_at}
 use Rattle.pz_crew.specs.Gates.{MayPassUpTo, MayPassIn, MayPassFor, MayPassAll, HasStop, IsPassed}
-use Rattle.pz_crew.specs.Lane.{Sends}
+use Rattle.pz_crew.specs.Lane.{All as Token, Sends}
+use Rattle.pz_crew.specs.Worked.{handed_back}
 use Rattle.pz_crew.specs.Recorded.{Gathered, taken_of}
 use Rattle.pz_crew.specs.Sent.{messages_of, messages_for}
 use Rattle.pz_crew.specs.declared.fault.ReplayFault.{ReplayFault}
@@ -19,6 +20,7 @@ use Rattle.pz_crew.specs.declared.lane.End.{End}
 use Rattle.pz_crew.specs.declared.lane.End.TheVariants as end
 use Rattle.pz_crew.specs.declared.lane.Message.TheVariants as messages
 use Rattle.pz_crew.specs.declared.recorder.Inbox.{Inbox}
+use Rattle.pz_crew.specs.declared.work.Done.{Done}
 use Rattle.pz_crew.specs.declared.work.Worked.{Worked}
 use Rattle.pz_crew.proofs.Completing.{counts, once_yes}
 
@@ -146,3 +148,9 @@ held passes sessions session (number ∷ numbers) one h =
 pub all_passed : {T : Type 0} → (passes : ℕ → ℕ → Type 0) (sessions : List (List T)) (numbers : List ℕ) (total : ℕ) → total ≡ length sessions → Once total numbers → MayPassFor passes sessions numbers → MayPassAll passes sessions
 all_passed passes sessions numbers total many once h session within =
     held passes sessions session numbers (once session ∙ once_yes session total (omega arith)) h
+
+-- a worker that finishes its lane, whether or not that gives a token, has sent what may pass
+pub passed_so : {T : Type 0} → (passes : ℕ → ℕ → Type 0) (sessions : List (List T)) (done : Done T) (sent : Option (Token T)) → IfSome sent (λ all. all ≡ record { lane = done.sender.lane; sent = done.sender.sent })
+    → IsPassed passes sessions (handed_back done) → IsPassed passes sessions (record { end = done.end; ended = done.ended; sent = sent })
+passed_so passes sessions done None is h = record { finished = h.finished; broken = λ _. tt }
+passed_so {T = T} passes sessions done (Some all) is h = subst (λ (a : Token T). IsPassed passes sessions (record { end = done.end; ended = done.ended; sent = Some a })) (sym is) h

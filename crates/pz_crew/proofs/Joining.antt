@@ -19,7 +19,7 @@ use Rattle.pz_crew.specs.Workers.{IsDone, IsSettled, IsOpened}
 use Rattle.pz_crew.specs.declared.recorder.Inbox.{Inbox}
 use Rattle.pz_crew.specs.declared.work.Worked.{Worked}
 use Rattle.pz_crew.specs.declared.fault.ReplayFault.{ReplayFault}
-use Rattle.pz_crew.specs.declared.fault.ReplayFault.TheVariants.{Memory, Workers, GateClosed}
+use Rattle.pz_crew.specs.declared.fault.ReplayFault.TheVariants.{Memory, Workers, GateClosed, LaneLost}
 
 get_or_snoc : {T : Type 0} → (ts : List (List (Message T))) (j : ℕ) → get_or (ts ++ [] ∷ []) j [] ≡ get_or ts j []
 get_or_snoc [] zero = refl
@@ -181,6 +181,9 @@ not_workers out h is = only_memory Workers (λ (e : Workers ≡ Memory). cc) out
 
 pub not_closed : {A : Type 0} (out : Result A ReplayFault) → IfErr out (λ f. f ≡ Memory) → out ≡ Err GateClosed → ⊥
 not_closed out h is = only_memory GateClosed (λ (e : GateClosed ≡ Memory). cc) out h is
+
+pub not_lost : {A : Type 0} (out : Result A ReplayFault) → IfErr out (λ f. f ≡ Memory) → out ≡ Err LaneLost → ⊥
+not_lost out h is = only_memory LaneLost (λ (e : LaneLost ≡ Memory). cc) out h is
 
 -- what was lent to the recorder, and came back as it is now, is all that there is
 pub all_back : {T : Type 0} → (many : ℕ) (old lent new : List (Inbox T)) → many ≡ length old → lent ≡ old → map lane_of new ≡ map lane_of lent → take many (new ++ drop (length new) old) ≡ new

@@ -4,16 +4,17 @@ use Rattle.std.proofs.Math.Seq.{take-append-add}
 use Rattle.std.proofs.lemmas.List.{append-nil, length-map, map-append, take_at}
 use Rattle.std.proofs.lemmas.List.Elements.{All-push}
 use Rattle.std.proofs.lemmas.Option.{IfSome_then}
-use Rattle.std.specs.Prelude.{Some}
+use Rattle.std.specs.Prelude.{Option, Some}
 use Rattle.pz_claims.specs.Holders.{Ending, Holding, Numbers}
 use Rattle.pz_crew.specs.Pieces.{pieces_at}
-use Rattle.pz_crew.specs.Lane.{LaneId, Sends}
-use Rattle.pz_crew.specs.Sent.{messages_of, messages_for}
-use Rattle.pz_crew.specs.Worked.{IsWorked}
+use Rattle.pz_crew.specs.Lane.{All as Token, LaneId, Sends}
+use Rattle.pz_crew.specs.Sent.{messages_of, messages_for, sent_for}
+use Rattle.pz_crew.specs.Worked.{IsWorked, handed_back}
 use Rattle.pz_crew.specs.declared.lane.End.{End}
 use Rattle.pz_crew.specs.declared.lane.End.TheVariants.{Finished, Memory, GateClosed}
 use Rattle.pz_crew.specs.declared.lane.Message.{Message}
 use Rattle.pz_crew.specs.declared.lane.Message.TheVariants as messages
+use Rattle.pz_crew.specs.declared.work.Done.{Done}
 use Rattle.pz_crew.specs.declared.work.Worked.{Worked}
 
 -- the items shown are the first of the session
@@ -117,3 +118,13 @@ ends_whole claims sessions lane seat ended before worked table here so_far of nu
       sends = rw some (of ∙ table, IfSome_then worked.sent sent (λ all is. ap (λ a. a.sent) is ∙ rw (so_far, numbers) refl));
       breaks = λ other. absurd (other ends);
     }
+
+-- a worker that finishes its lane, whether or not that gives a token, has worked
+pub worked_so : {T : Type 0} → (claims : Numbers) (sessions : List (List T)) (lane : LaneId) (done : Done T) (sent : Option (Token T)) → IfSome sent (λ all. all ≡ record { lane = done.sender.lane; sent = done.sender.sent })
+    → IsWorked claims sessions lane (handed_back done) → IsWorked claims sessions lane (record { end = done.end; ended = done.ended; sent = sent })
+worked_so claims sessions lane done None is h = record { token = tt; seat = h.seat; finished = h.finished; sends = of_table done.ended h.sends; breaks = λ _. tt }
+  where
+    of_table : (e : Option Ending) → IfSome e (λ ended. (ended.of ≡ claims) × (done.sender.sent ≡ sent_for sessions ended.numbers)) → IfSome e (λ ended. (ended.of ≡ claims) × Unit {0})
+    of_table None s = tt
+    of_table (Some ended) s = (s.0, tt)
+worked_so {T = T} claims sessions lane done (Some all) is h = subst (λ (a : Token T). IsWorked claims sessions lane (record { end = done.end; ended = done.ended; sent = Some a })) (sym is) h

@@ -1,7 +1,6 @@
 -- Small cases of the faults, worked by hand.
 use Rattle.std.proofs.Common.{◌≡◌, Some, None, refl}
 use Rattle.pz_crew.specs.Faults.{first_fault, fault_at}
-use Rattle.pz_crew.specs.Lane.{All}
 use Rattle.pz_crew.specs.declared.fault.ReplayFault.TheVariants.{Memory, Workers, GateClosed, LaneLost}
 use Rattle.pz_crew.specs.declared.lane.End.TheVariants as end
 
@@ -26,9 +25,9 @@ one_alone = refl
 none_at_all : first_fault None None ≡ None
 none_at_all = refl
 
--- no lane is lost where a worker hands its token back, nor where it broke off
-whole : {T : Type 0} → (all : All T) → fault_at end.Finished (Some all) ≡ None
-whole all = refl
+-- a worker that found no number left has none
+finished : fault_at end.Finished ≡ None
+finished = refl
 
-broken_off : fault_at {T = Unit {0}} end.GateClosed None ≡ Some GateClosed
+broken_off : fault_at end.GateClosed ≡ Some GateClosed
 broken_off = refl

@@ -1,11 +1,9 @@
 -- Which fault is answered if there are several.
 use Rattle.std.specs.Prelude.{ℕ, nat_lt, if◌then◌else◌, Option, Some, None, Result, Ok, Err}
-use Rattle.pz_crew.specs.Lane.{All}
 use Rattle.pz_crew.specs.declared.fault.ReplayFault.{ReplayFault}
 use Rattle.pz_crew.specs.declared.fault.ReplayFault.TheVariants as fault
 use Rattle.pz_crew.specs.declared.lane.End.{End}
 use Rattle.pz_crew.specs.declared.lane.End.TheVariants as end
-use Rattle.pz_crew.specs.declared.work.Worked.{Worked}
 
 -- the place of a fault in the order of faults
 abbrev pub rank : ReplayFault → ℕ
@@ -20,15 +18,11 @@ first_fault None other = other
 first_fault (Some one) None = Some one
 first_fault (Some one) (Some other) = Some (if nat_lt (rank other) (rank one) then other else one)
 
--- the fault of a worker that ended so and hands back this token; if it finished without one, its lane is lost
-abbrev pub fault_at : {T : Type 0} → End → Option (All T) → Option ReplayFault
-fault_at end.Memory sent = Some fault.Memory
-fault_at end.GateClosed sent = Some fault.GateClosed
-fault_at end.Finished None = Some fault.LaneLost
-fault_at end.Finished (Some all) = None
-
-abbrev pub fault_of : {T : Type 0} → Worked T → Option ReplayFault
-fault_of worked = fault_at worked.end worked.sent
+-- the fault of a worker that ended so
+abbrev pub fault_at : End → Option ReplayFault
+fault_at end.Memory = Some fault.Memory
+fault_at end.GateClosed = Some fault.GateClosed
+fault_at end.Finished = None
 
 -- the fault that is answered, if one is
 abbrev pub fault_in : {A : Type 0} → Result A ReplayFault → Option ReplayFault

@@ -1,5 +1,5 @@
 -- What a worker hands back.
-use Rattle.std.specs.Prelude.{◌≡◌, ◌≢◌, ◌<◌, ℕ, List, [], ◌∷◌, ◌++◌, All, take, IfSome, IsSome}
+use Rattle.std.specs.Prelude.{◌≡◌, ◌≢◌, ◌<◌, ℕ, List, [], ◌∷◌, ◌++◌, All, take, Some, IfSome, IsSome}
 use Rattle.pz_claims.specs.Holders.{Numbers}
 use Rattle.pz_crew.specs.Lane.{LaneId}
 use Rattle.pz_crew.specs.Sent.{messages_for, sent_for}
@@ -7,7 +7,12 @@ use Rattle.pz_crew.specs.declared.lane.End.{End}
 use Rattle.pz_crew.specs.declared.lane.End.TheVariants.{Finished}
 use Rattle.pz_crew.specs.declared.lane.Message.{Message}
 use Rattle.pz_crew.specs.declared.lane.Message.TheVariants.{Last}
+use Rattle.pz_crew.specs.declared.work.Done.{Done}
 use Rattle.pz_crew.specs.declared.work.Worked.{Worked}
+
+-- what a worker that is done hands back, if its end of the lane stands for the token: either names all that was sent
+abbrev pub handed_back : {T : Type 0} → Done T → Worked T
+handed_back done = record { end = done.end; ended = done.ended; sent = Some (record { lane = done.sender.lane; sent = done.sender.sent }) }
 
 -- some first messages of sessions with numbers below n, and then the last message with its end
 pub record IsBroken {T : Type 0} (n : ℕ) (sessions : List (List T)) (end : End) (sent : List (Message T)) : Type 0 where

@@ -10,24 +10,12 @@ use Rattle.pz_crew.specs.Worked.{IsWorked}
 use Rattle.pz_crew.specs.declared.lane.End.TheVariants.{GateClosed}
 use Rattle.pz_crew.specs.declared.recorder.Inbox.{Inbox}
 use Rattle.pz_crew.specs.declared.work.Worked.{Worked}
-use Rattle.pz_crew.specs.declared.workers.Started.{Started}
-use Rattle.pz_crew.specs.declared.workers.Started.TheVariants.{Runs, HasRun}
 
 -- what a worker owes that was given a lane: what it sent are sessions that it claimed, all of which may pass; and if the gate was closed to
 -- it, the gate may stop a piece
 abbrev pub Keeps : {T : Type 0} → Numbers → List (List T) → (ℕ → ℕ → Type 0) → (ℕ → ℕ → Type 0) → LaneId → Worked T → Type 0
 Keeps claims sessions passes stops lane worked =
     IsWorked claims sessions lane worked × IsPassed passes sessions worked × (worked.end ≡ GateClosed → HasStop stops sessions)
-
--- a worker that was started has this of its handle, if it runs in a thread of its own
-abbrev pub IfRuns : {H T : Type 0} → Started H T → (H → Type 0) → Type 0
-IfRuns (Runs handle) holds = holds handle
-IfRuns (HasRun worked) holds = Unit {0}
-
--- a worker that was started has this of what it handed back, if it has run in the calling thread
-abbrev pub IfHasRun : {H T : Type 0} → Started H T → (Worked T → Type 0) → Type 0
-IfHasRun (Runs handle) holds = Unit {0}
-IfHasRun (HasRun worked) holds = holds worked
 
 -- `lists` has the numbers of each of so many further workers: what they sent is recorded beside what was taken at the inboxes, and the
 -- maker, which was `before` and is now `after`, has their numbers

@@ -141,4 +141,14 @@ impl<T: Drop> Taker<T> {
     {
         self.consumer.slots_after(&mut all.finished)
     }
+
+    /// The same where the end that sends is there, which names all that was sent on it.
+    pub(crate) fn left_beside(&mut self, sender: &mut Sender<T>) -> usize
+        requires { sender.old.lane ≡ self.old.lane }
+        ensures taken { (self.new.lane ≡ self.old.lane) × (self.new.taken ≡ self.old.taken) }
+        ensures rest { sender.old.sent ≡ self.new.taken ++ self.new.known }
+        ensures count { result ≡ length self.new.known }
+    {
+        self.consumer.slots_beside(&mut sender.producer)
+    }
 }

@@ -1,8 +1,7 @@
 //! The replay of a job, by several workers.
 
-ghost use Rattle.std.specs.Prelude.{◌≡◌, ◌≢◌, ◌↔◌, ◌⊎◌, ◌<◌, ◌≤◌, [], length, replicate, All, Err, IfOk};
+ghost use Rattle.std.specs.Prelude.{◌≡◌, ◌≢◌, ◌↔◌, ◌⊎◌, ◌<◌, ◌≤◌, [], length, replicate, Err, IfOk};
 ghost use Rattle.pz_crew.specs.Gates.{HasStop, MayPassAll, MayPassFor};
-ghost use Rattle.pz_crew.specs.Pieces.{IsShort};
 ghost use Rattle.pz_crew.specs.Workers.{IsAll};
 
 use crate::fault::ReplayFault;
@@ -33,81 +32,11 @@ fn crew_for(workers: usize, sessions: usize) -> usize
     workers.min(sessions).max(1)
 }
 
-/// How many workers there may be, how many messages each lane holds, and whether the calling thread is one of the workers.
-#[derive(Clone, Copy)]
-struct Crew {
-    workers: usize,
-    capacity: usize,
-    plays_too: bool,
-}
-
-/// What every session of a job shows, played by such a crew.
-fn replay_by<'a, P: Playable + Sync, R: Threads + Wait + Sync, G: Gate + Sync>(
-    rt: &'a R,
-    alloc: Global,
-    played: &'a P,
-    crew: Crew,
-    gate: &'a G,
-) -> Result<Sessions<P::Piece>, ReplayFault>
-where
-    P::Run: Send,
-    requires capacity { 1 ≤ crew.capacity }
-    ensures workers { (result ≡ Err ReplayFault.Workers) ↔ ((crew.workers ≡ 0) ⊎ (MOST_WORKERS < crew.workers)) }
-    ensures sessions { IfOk result (λ s. s ≡ P.sessions played.now) }
-    ensures passed { IfOk result (λ _. MayPassAll (G.may_pass gate.now) (P.sessions played.now)) }
-    ensures closed { result ≡ Err ReplayFault.GateClosed → HasStop (G.may_stop gate.now) (P.sessions played.now) }
-{
-    if crew.workers == 0 || crew.workers > MOST_WORKERS {
-        return Err(ReplayFault::Workers);
-    }
-    let count = played.count();
-    let Ok(blank) = Sessions::blank(alloc, count) else {
-        return Err(ReplayFault::Memory);
-    };
-    let Ok((claims, maker)) = Claims::new(alloc, count) else {
-        return Err(ReplayFault::Memory);
-    };
-    let bell = Parker::new();
-    let table = &claims;
-    let ring = &bell;
-    let started = crew_for(crew.workers, count);
-    let all = thread::scope(
-        thread::scope_env(),
-        rt,
-        |scope| -> Result<(Maker, Sessions<P::Piece>), ReplayFault>
-            requires { (1 ≤ crew.capacity) × (1 ≤ started) × (started ≤ MOST_WORKERS) × (maker.of ≡ table.now) ×
-                (maker.made ≡ 0) × (maker.joined ≡ 0) × (maker.numbers ≡ []) ×
-                (table.now.total ≡ length (P.sessions played.now)) ×
-                (blank ≡ replicate (length (P.sessions played.now)) []) }
-            ensures { IfOk result (λ made. IsAll (P.sessions played.entry.now) table.entry.now started made.0 made.1) ×
-                IfOk result (λ made. MayPassFor (G.may_pass gate.entry.now)
-                (P.sessions played.entry.now) made.0.numbers) ×
-                (result ≡ Err ReplayFault.GateClosed →
-                HasStop (G.may_stop gate.entry.now) (P.sessions played.entry.now)) ×
-                (result ≢ Err ReplayFault.Workers) }
-        {
-            let shared = Shared {
-                rt,
-                alloc,
-                claims: table,
-                played,
-                gate,
-                bell: ring,
-                capacity: crew.capacity,
-                plays_too: crew.plays_too,
-            };
-            all_started(scope, &shared, maker, started, blank)
-        },
-    );
-    let (maker, sessions) = all?;
-    claims.close(maker);
-    Ok(sessions)
-}
-
 /// What every session of a job shows, by session number. At most so many workers play the sessions, each in a thread of its own and over a
-/// lane that holds `capacity` messages; the calling thread records. No worker is started without a session for it. Err: `Workers`, if
-/// their number is not from 1 to 64, which is tested first; else `Memory`, if a growth or the start of a thread was refused;
-/// `GateClosed`, if the gate answered false; or `LaneLost`. Of several the one named first is answered. Rule `program.threads`.
+/// lane that holds `capacity` messages; the calling thread records while they play. No worker is started without a session for it. Err:
+/// `Workers`, if their number is not from 1 to 64, which is tested first; else `Memory`, if a growth or the start of a thread was refused;
+/// or `GateClosed`, if the gate answered false. Of several the one named first is answered. No lane is lost: each worker hands its end
+/// back. Rule `program.threads`.
 pub fn replay_with<'a, P: Playable + Sync, R: Threads + Wait + Sync, G: Gate + Sync>(
     rt: &'a R,
     alloc: Global,
@@ -123,38 +52,50 @@ where
     ensures sessions { IfOk result (λ s. s ≡ P.sessions played.now) }
     ensures passed { IfOk result (λ _. MayPassAll (G.may_pass gate.now) (P.sessions played.now)) }
     ensures closed { result ≡ Err ReplayFault.GateClosed → HasStop (G.may_stop gate.now) (P.sessions played.now) }
+    ensures whole { result ≢ Err ReplayFault.LaneLost }
 {
-    let crew = Crew {
-        workers,
-        capacity,
-        plays_too: false,
+    if workers == 0 || workers > MOST_WORKERS {
+        return Err(ReplayFault::Workers);
+    }
+    let count = played.count();
+    let Ok(blank) = Sessions::blank(alloc, count) else {
+        return Err(ReplayFault::Memory);
     };
-    replay_by(rt, alloc, played, crew, gate)
-}
-
-/// The same, where the calling thread is the last of the workers, and records once it has played; if another worker's thread can't be
-/// made, the calling thread does its work too. Each session is one piece at most, so each lane holds all that a worker can send, and
-/// no worker ever waits for room.
-pub fn replay_along<'a, P: Playable + Sync, R: Threads + Wait + Sync, G: Gate + Sync>(
-    rt: &'a R,
-    alloc: Global,
-    played: &'a P,
-    workers: usize,
-    gate: &'a G,
-) -> Result<Sessions<P::Piece>, ReplayFault>
-where
-    P::Run: Send,
-    requires short { All IsShort (P.sessions played.now) }
-    ensures workers { (result ≡ Err ReplayFault.Workers) ↔ ((workers ≡ 0) ⊎ (MOST_WORKERS < workers)) }
-    ensures sessions { IfOk result (λ s. s ≡ P.sessions played.now) }
-    ensures passed { IfOk result (λ _. MayPassAll (G.may_pass gate.now) (P.sessions played.now)) }
-    ensures closed { result ≡ Err ReplayFault.GateClosed → HasStop (G.may_stop gate.now) (P.sessions played.now) }
-{
-    // (a message for each session, and the last one)
-    let crew = Crew {
-        workers,
-        capacity: played.count() + 1,
-        plays_too: true,
+    let Ok((claims, maker)) = Claims::new(alloc, count) else {
+        return Err(ReplayFault::Memory);
     };
-    replay_by(rt, alloc, played, crew, gate)
+    let bell = Parker::new();
+    let table = &claims;
+    let ring = &bell;
+    let started = crew_for(workers, count);
+    let all = thread::scope(
+        thread::scope_env(),
+        rt,
+        |scope| -> Result<(Maker, Sessions<P::Piece>), ReplayFault>
+            requires { (1 ≤ capacity) × (1 ≤ started) × (started ≤ MOST_WORKERS) × (maker.of ≡ table.now) ×
+                (maker.made ≡ 0) × (maker.joined ≡ 0) × (maker.numbers ≡ []) ×
+                (table.now.total ≡ length (P.sessions played.now)) ×
+                (blank ≡ replicate (length (P.sessions played.now)) []) }
+            ensures { IfOk result (λ made. IsAll (P.sessions played.entry.now) table.entry.now started made.0 made.1) ×
+                IfOk result (λ made. MayPassFor (G.may_pass gate.entry.now)
+                (P.sessions played.entry.now) made.0.numbers) ×
+                (result ≡ Err ReplayFault.GateClosed →
+                HasStop (G.may_stop gate.entry.now) (P.sessions played.entry.now)) ×
+                (result ≢ Err ReplayFault.Workers) × (result ≢ Err ReplayFault.LaneLost) }
+        {
+            let shared = Shared {
+                rt,
+                alloc,
+                claims: table,
+                played,
+                gate,
+                bell: ring,
+                capacity,
+            };
+            all_started(scope, &shared, maker, started, blank)
+        },
+    );
+    let (maker, sessions) = all?;
+    claims.close(maker);
+    Ok(sessions)
 }

@@ -4,7 +4,7 @@ ghost use Rattle.std.specs.Prelude.{◌≡◌, ◌≢◌, ◌<◌, ◌++◌, ◌
 ghost use Rattle.pz_crew.specs.Gates.{HasStop, HasStopIn, IsPassed, MayPassIn, MayPassUpTo};
 ghost use Rattle.pz_crew.specs.Pieces.{pieces_at};
 ghost use Rattle.pz_crew.specs.Sent.{messages_of};
-ghost use Rattle.pz_crew.specs.Worked.{IsWorked};
+ghost use Rattle.pz_crew.specs.Worked.{IsWorked, handed_back};
 ghost use Rattle.pz_crew.specs.declared.lane.End.TheVariants.{Finished, GateClosed};
 ghost use Rattle.pz_crew.specs.declared.lane.Message.TheVariants.{Last};
 
@@ -34,6 +34,14 @@ pub struct Worked<T> {
     pub end: End,
     pub ended: Option<Ended>,
     pub sent: Option<SentAll<T>>,
+}
+
+/// What a worker has once its work is done: its end of the lane, too.
+#[derive(Drop)]
+pub(crate) struct Done<T> {
+    pub end: End,
+    pub ended: Option<Ended>,
+    pub sender: Sender<T>,
 }
 
 /// Tries until the message is sent, with a pause after each time that the lane was full, in which the recorder takes what is there.
@@ -130,31 +138,31 @@ fn end_work<T: Drop, R: Wait>(
     sender: Sender<T>,
     end: End,
     ended: Option<Ended>,
-) -> Worked<T>
+) -> Done<T>
     ensures end { result.end ≡ end }
     ensures ended { result.ended ≡ ended }
-    ensures sent { IfSome result.sent
+    ensures sent { IfSome (handed_back result).sent
         (λ all. all ≡ record { lane = sender.lane; sent = sender.sent ++ Last end ∷ [] }) }
 {
     let mut sender = sender;
     send(rt, bell, &mut sender, Message::Last(end));
     bell.unpark();
-    let sent = sender.finish();
-    Worked { end, ended, sent }
+    Done { end, ended, sender }
 }
 
-/// A worker's whole run, on a seat that holds nothing and a lane on which nothing was sent.
-pub fn work<P: Playable, R: Wait, G: Gate>(
+/// A worker's whole run, on a seat that holds nothing and a lane on which nothing was sent. The lane's end is handed back as it is: whoever
+/// holds both ends knows what was sent, while a lane that is finished may give no token.
+pub(crate) fn work_to_end<P: Playable, R: Wait, G: Gate>(
     rt: &R,
     duty: &Duty<'_, P, G>,
     seat: Seat,
     sender: Sender<P::Piece>,
-) -> Worked<P::Piece>
+) -> Done<P::Piece>
     requires seat { (seat.of ≡ duty.now.claims.now) × (seat.numbers ≡ []) }
     requires sender { sender.sent ≡ [] }
     requires job { duty.now.claims.now.total ≡ length (P.sessions duty.now.played.now) }
-    ensures worked { IsWorked duty.now.claims.now (P.sessions duty.now.played.now) sender.lane result }
-    ensures passed { IsPassed (G.may_pass duty.now.gate.now) (P.sessions duty.now.played.now) result }
+    ensures worked { IsWorked duty.now.claims.now (P.sessions duty.now.played.now) sender.lane (handed_back result) }
+    ensures passed { IsPassed (G.may_pass duty.now.gate.now) (P.sessions duty.now.played.now) (handed_back result) }
     ensures closed { result.end ≡ GateClosed → HasStop (G.may_stop duty.now.gate.now) (P.sessions duty.now.played.now) }
 {
     let mut seat = seat;
@@ -173,4 +181,23 @@ pub fn work<P: Playable, R: Wait, G: Gate>(
         }
     }
     unreachable!()
+}
+
+/// A worker's whole run, on a seat that holds nothing and a lane on which nothing was sent, which is finished.
+pub fn work<P: Playable, R: Wait, G: Gate>(
+    rt: &R,
+    duty: &Duty<'_, P, G>,
+    seat: Seat,
+    sender: Sender<P::Piece>,
+) -> Worked<P::Piece>
+    requires seat { (seat.of ≡ duty.now.claims.now) × (seat.numbers ≡ []) }
+    requires sender { sender.sent ≡ [] }
+    requires job { duty.now.claims.now.total ≡ length (P.sessions duty.now.played.now) }
+    ensures worked { IsWorked duty.now.claims.now (P.sessions duty.now.played.now) sender.lane result }
+    ensures passed { IsPassed (G.may_pass duty.now.gate.now) (P.sessions duty.now.played.now) result }
+    ensures closed { result.end ≡ GateClosed → HasStop (G.may_stop duty.now.gate.now) (P.sessions duty.now.played.now) }
+{
+    let Done { end, ended, sender } = work_to_end(rt, duty, seat, sender);
+    let sent = sender.finish();
+    Worked { end, ended, sent }
 }

@@ -1,21 +1,21 @@
 //! The workers, each with a lane to the recorder, in one scope of threads.
 
-ghost use Rattle.std.specs.Prelude.{◌≡◌, ◌≢◌, ◌+◌, ◌++◌, ◌≤◌, [], map, length, replicate, All, IfOk, IfErr, IfSome, IfNone, IsSome, ◌⊎◌, None, Err, IsOk};
+ghost use Rattle.std.specs.Prelude.{◌≡◌, ◌≢◌, ◌+◌, ◌++◌, ◌≤◌, [], map, length, replicate, All, IfOk, IfErr, IfSome, IfNone, IsSome, ◌⊎◌, Err, IsOk};
 ghost use Rattle.pz_claims.specs.declared.limits.TheConstants.{MOST_SEATS};
 ghost use Rattle.pz_crew.specs.declared.lane.End.TheVariants.{GateClosed as gate_closed};
 ghost use Rattle.pz_crew.specs.Gates.{HasStop, MayPassFor};
-ghost use Rattle.pz_crew.specs.Workers.{IfHasRun, IfRuns, IsAll, IsDone, IsOpened, IsSettled, Keeps};
-ghost use Rattle.pz_crew.specs.Faults.{fault_in, fault_of, first_fault};
+ghost use Rattle.pz_crew.specs.Workers.{IsAll, IsDone, IsOpened, IsSettled, Keeps};
+ghost use Rattle.pz_crew.specs.Faults.{fault_at, fault_in, first_fault};
 ghost use Rattle.pz_crew.specs.Sent.{sent_for};
 ghost use Rattle.pz_crew.specs.Recorded.{Gathered, HasEnded, IsHonest, IsRecorded, lane_of, taken_of};
-ghost use Rattle.pz_crew.specs.Worked.{IsWorked};
+ghost use Rattle.pz_crew.specs.Worked.{IsWorked, handed_back};
 
 use crate::fault::ReplayFault;
 use crate::gate::Gate;
-use crate::lane::{End, Sender, SentAll, lane};
+use crate::lane::{End, Sender, lane};
 use crate::playing::Playable;
 use crate::recorder::{Inbox, Sessions, record};
-use crate::work::{Duty, Worked, work};
+use crate::work::{Done, Duty, work_to_end};
 use pz_claims::{Claims, Ended, Maker, Seat};
 use std::alloc::Global;
 use std::snapshot::Snapshot;
@@ -32,8 +32,6 @@ pub(crate) struct Shared<'e, P, R, G> {
     pub gate: &'e G,
     pub bell: &'e Parker,
     pub capacity: usize,
-    /// Whether the calling thread is the last of the workers, and does the work of each whose thread can't be made.
-    pub plays_too: bool,
 }
 
 /// What is promised of a worker.
@@ -45,41 +43,28 @@ struct Task<'a, P: Playable, G> {
     lane: Snapshot<Sender<P::Piece>>,
 }
 
-impl<'a, P: Playable, G: Gate> Promise<Worked<P::Piece>> for Task<'a, P, G> {
-    ghost kept_by = { λ task worked.
+impl<'a, P: Playable, G: Gate> Promise<Done<P::Piece>> for Task<'a, P, G> {
+    ghost kept_by = { λ task done.
         Keeps task.claims.now (P.sessions task.played.now) (G.may_pass task.gate.now)
-        (G.may_stop task.gate.now) task.lane.value.lane worked };
+        (G.may_stop task.gate.now) task.lane.value.lane (handed_back done) };
 }
 
-/// A worker that was started: it runs in a thread of its own, or has run in the calling one.
-#[derive(Drop)]
-pub(crate) enum Started<H, T> {
-    Runs(H),
-    HasRun(Worked<T>),
-}
-
-/// Starts a worker, in the calling thread if it is there that the worker runs, or if no thread can be made and the calling thread plays
-/// too. No run leaves the thread that makes it. But what is known of runs is known in another thread only if they may be sent.
+/// Starts a worker in a thread of its own. No run of a session leaves the thread that makes it. But what is known of runs is known in
+/// another thread only if they may be sent.
 fn start<'s, 'e, P: Playable + Sync, R: Threads + Wait + Sync, G: Gate + Sync>(
     scope: &'s Scope<'s, &'e ()>,
     shared: &Shared<'e, P, R, G>,
     seat: Seat,
     sender: Sender<P::Piece>,
-    runs_here: bool,
-) -> Option<Started<PromisedHandle<Worked<P::Piece>, Task<'e, P, G>>, P::Piece>>
+) -> Option<PromisedHandle<Done<P::Piece>, Task<'e, P, G>>>
 where
     P::Run: Send,
     requires seat { (seat.of ≡ shared.now.claims.now) × (seat.numbers ≡ []) }
     requires sender { sender.sent ≡ [] }
     requires job { shared.now.claims.now.total ≡ length (P.sessions shared.now.played.now) }
-    ensures runs { IfSome result
-        (λ started. IfRuns started
+    ensures { IfSome result
         (λ h. (h.promise.claims.now ≡ shared.now.claims.now) × (h.promise.played.now ≡ shared.now.played.now) ×
-        (h.promise.gate.now ≡ shared.now.gate.now) × (h.promise.lane.value.lane ≡ sender.lane))) }
-    ensures has_run { IfSome result
-        (λ started. IfHasRun started
-        (Keeps shared.now.claims.now (P.sessions shared.now.played.now) (G.may_pass shared.now.gate.now)
-        (G.may_stop shared.now.gate.now) sender.lane)) }
+        (h.promise.gate.now ≡ shared.now.gate.now) × (h.promise.lane.value.lane ≡ sender.lane)) }
 {
     let (rt, alloc) = (shared.rt, shared.alloc);
     let (claims, played, gate) = (shared.claims, shared.played, shared.gate);
@@ -90,11 +75,11 @@ where
         gate,
         lane: Snapshot::of(&sender),
     };
-    let run = move || -> Worked<P::Piece>
+    let run = move || -> Done<P::Piece>
         requires { (seat.of ≡ claims.now) × (seat.numbers ≡ []) × (sender.sent ≡ []) ×
             (claims.now.total ≡ length (P.sessions played.now)) }
         ensures { Keeps claims.entry.now (P.sessions played.entry.now) (G.may_pass gate.entry.now)
-            (G.may_stop gate.entry.now) sender.lane result }
+            (G.may_stop gate.entry.now) sender.lane (handed_back result) }
     {
         let duty = Duty {
             alloc,
@@ -103,40 +88,24 @@ where
             gate,
             bell,
         };
-        work(rt, &duty, seat, sender)
+        work_to_end(rt, &duty, seat, sender)
     };
-    if runs_here {
-        return Some(Started::HasRun(run()));
-    }
-    match scope.spawn_with(task, run) {
-        Ok(handle) => Some(Started::Runs(handle)),
-        Err(refused) if shared.plays_too => {
-            let run = refused.value;
-            Some(Started::HasRun(run()))
-        }
-        Err(_) => None,
-    }
+    scope.spawn_with(task, run).ok()
 }
 
-/// What a worker hands back, once it has ended.
+/// What a worker has, once it is done.
 fn join<'e, P: Playable + Sync, R: Threads + Wait + Sync, G: Gate + Sync>(
     shared: &Shared<'e, P, R, G>,
     lane: Snapshot<Sender<P::Piece>>,
-    started: Started<PromisedHandle<Worked<P::Piece>, Task<'e, P, G>>, P::Piece>,
-) -> Worked<P::Piece>
-    requires runs { IfRuns started
-        (λ h. (h.promise.claims.now ≡ shared.now.claims.now) × (h.promise.played.now ≡ shared.now.played.now) ×
-        (h.promise.gate.now ≡ shared.now.gate.now) × (h.promise.lane.value.lane ≡ lane.value.lane)) }
-    requires has_run { IfHasRun started
-        (Keeps shared.now.claims.now (P.sessions shared.now.played.now) (G.may_pass shared.now.gate.now)
-        (G.may_stop shared.now.gate.now) lane.value.lane) }
+    started: PromisedHandle<Done<P::Piece>, Task<'e, P, G>>,
+) -> Done<P::Piece>
+    requires { (started.promise.claims.now ≡ shared.now.claims.now) ×
+        (started.promise.played.now ≡ shared.now.played.now) ×
+        (started.promise.gate.now ≡ shared.now.gate.now) × (started.promise.lane.value.lane ≡ lane.value.lane) }
     ensures { Keeps shared.now.claims.now (P.sessions shared.now.played.now) (G.may_pass shared.now.gate.now)
-        (G.may_stop shared.now.gate.now) lane.value.lane result }
+        (G.may_stop shared.now.gate.now) lane.value.lane (handed_back result) }
 {
-    match started {
-        Started::Runs(worker) => worker.join(shared.rt),
-        Started::HasRun(worked) => worked,
-    }
+    started.join(shared.rt)
 }
 
 /// Records all that the workers send.
@@ -166,82 +135,76 @@ fn gather<T: Drop, R: Wait>(
 /// What was taken at the inbox is all that was sent on its lane.
 fn confirm<P: Playable>(
     mut inbox: Inbox<P::Piece>,
-    mut sent: SentAll<P::Piece>,
+    mut sender: Sender<P::Piece>,
     played: &P,
     ended: &Ended,
 )
-    requires lane { sent.lane ≡ inbox.taker.lane }
+    requires lane { sender.lane ≡ inbox.taker.lane }
     requires inbox { IsHonest inbox × HasEnded inbox }
-    requires sent { sent.sent ≡ sent_for (P.sessions played.now) ended.now.numbers }
+    requires sent { sender.sent ≡ sent_for (P.sessions played.now) ended.now.numbers }
     ensures { taken_of inbox ≡ sent_for (P.sessions played.now) ended.now.numbers }
 {
-    inbox.taker.left(&mut sent);
+    inbox.taker.left_beside(&mut sender);
 }
 
 /// The first of the fault below and that of the worker, if there is any.
 fn first_fault<T>(
     below: &Result<(Maker, Sessions<T>), ReplayFault>,
-    worked: &Worked<T>,
+    end: End,
 ) -> Option<ReplayFault>
-    ensures { result ≡ first_fault (fault_in below.now) (fault_of worked.now) }
+    ensures { result ≡ first_fault (fault_in below.now) (fault_at end) }
 {
-    match (below, worked.end) {
+    match (below, end) {
         (Err(ReplayFault::Memory), _) | (_, End::Memory) => Some(ReplayFault::Memory),
         (Err(ReplayFault::Workers), _) => Some(ReplayFault::Workers),
         (Err(ReplayFault::GateClosed), _) | (_, End::GateClosed) => Some(ReplayFault::GateClosed),
         (Err(ReplayFault::LaneLost), _) => Some(ReplayFault::LaneLost),
-        (Ok(_), End::Finished) => match &worked.sent {
-            None => Some(ReplayFault::LaneLost),
-            Some(_) => None,
-        },
+        (Ok(_), End::Finished) => None,
     }
 }
 
-/// Adds what one worker handed back to what the workers below it made. Of two faults the first is handed up.
+/// Adds what one worker has to what the workers below it made. Of two faults the first is handed up.
 fn settle<P: Playable>(
     claims: &Claims,
     played: &P,
     below: Result<(Maker, Sessions<P::Piece>), ReplayFault>,
-    worked: Worked<P::Piece>,
+    done: Done<P::Piece>,
     inbox: Inbox<P::Piece>,
 ) -> Result<(Maker, Sessions<P::Piece>), ReplayFault>
     requires maker { IfOk below (λ made. made.0.of ≡ claims.now) }
-    requires worked { IsWorked claims.now (P.sessions played.now) inbox.taker.lane worked }
+    requires worked { IsWorked claims.now (P.sessions played.now) inbox.taker.lane (handed_back done) }
     requires inbox { IsHonest inbox × HasEnded inbox }
     ensures settled { IfOk result
         (λ made. IfOk below (λ before. IsSettled (P.sessions played.now) inbox before.0 before.1 made.0 made.1)) }
     ensures below { IfOk result (λ _. IsOk below) }
     ensures joined { IfOk result
         (λ made. IfOk below (λ before.
-        IfSome worked.ended (λ ended. made.0.numbers ≡ before.0.numbers ++ ended.numbers) × IsSome worked.ended)) }
-    ensures first { fault_in result ≡ first_fault (fault_in below) (fault_of worked) }
+        IfSome done.ended (λ ended. made.0.numbers ≡ before.0.numbers ++ ended.numbers) × IsSome done.ended)) }
+    ensures first { fault_in result ≡ first_fault (fault_in below) (fault_at done.end) }
     ensures workers { result ≡ Err ReplayFault.Workers → below ≡ Err ReplayFault.Workers }
-    ensures lost { result ≡ Err ReplayFault.LaneLost → (worked.sent ≡ None) ⊎ (below ≡ Err ReplayFault.LaneLost) }
+    ensures lost { result ≡ Err ReplayFault.LaneLost → below ≡ Err ReplayFault.LaneLost }
     ensures closed { IfErr result
-        (λ fault. fault ≡ ReplayFault.GateClosed → (worked.end ≡ End.GateClosed) ⊎
+        (λ fault. fault ≡ ReplayFault.GateClosed → (done.end ≡ End.GateClosed) ⊎
         (below ≡ Err ReplayFault.GateClosed)) }
 {
-    if let Some(fault) = first_fault(&below, &worked) {
+    if let Some(fault) = first_fault(&below, done.end) {
         drop(below);
-        drop(worked);
+        drop(done);
         drop(inbox);
         return Err(fault);
     }
     let Ok((maker, sessions)) = below else {
         unreachable!();
     };
-    let Worked {
+    let Done {
         end: _,
         ended,
-        sent,
-    } = worked;
+        sender,
+    } = done;
     let Some(ended) = ended else {
         unreachable!();
     };
-    let Some(sent) = sent else {
-        unreachable!();
-    };
-    confirm(inbox, sent, played, &ended);
+    confirm(inbox, sender, played, &ended);
     let maker = claims.join(maker, ended);
     Ok((maker, sessions))
 }
@@ -290,6 +253,7 @@ where
     ensures whole { IfOk result
         (λ made. IsDone (P.sessions shared.now.played.now) maker left inboxes.new.items made.0 made.1) }
     ensures workers { result ≢ Err ReplayFault.Workers }
+    ensures lost { result ≢ Err ReplayFault.LaneLost }
     ensures passed { MayPassFor (G.may_pass shared.now.gate.now) (P.sessions shared.now.played.now) maker.numbers →
         IfOk result (λ made. MayPassFor (G.may_pass shared.now.gate.now)
         (P.sessions shared.now.played.now) made.0.numbers) }
@@ -306,18 +270,17 @@ where
     };
     let (maker, seat) = shared.claims.split(maker);
     let of = Snapshot::of(&sender);
-    let runs_here = shared.plays_too && left == 1;
-    let Some(started) = start(scope, shared, seat, sender, runs_here) else {
+    let Some(started) = start(scope, shared, seat, sender) else {
         drop(inboxes.pop());
         drop(gather(rt, shared.bell, maker, inboxes, sessions));
         return Err(ReplayFault::Memory);
     };
     let below = run_workers(scope, shared, maker, left - 1, inboxes, sessions);
-    let worked = join(shared, of, started);
+    let done = join(shared, of, started);
     let Some(inbox) = inboxes.pop() else {
         unreachable!()
     };
-    settle(shared.claims, shared.played, below, worked, inbox)
+    settle(shared.claims, shared.played, below, done, inbox)
 }
 
 /// Plays a job with so many workers: the maker that has joined them all, and the items of each session.
@@ -336,6 +299,7 @@ where
     requires job { shared.now.claims.now.total ≡ length (P.sessions shared.now.played.now) }
     requires blank { blank ≡ replicate (length (P.sessions shared.now.played.now)) [] }
     ensures workers { result ≢ Err ReplayFault.Workers }
+    ensures lost { result ≢ Err ReplayFault.LaneLost }
     ensures all { IfOk result
         (λ made. IsAll (P.sessions shared.now.played.now) shared.now.claims.now workers made.0 made.1) }
     ensures passed { IfOk result

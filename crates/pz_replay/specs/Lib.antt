@@ -1,3 +1,4 @@
+pub mod Telling
 pub use Rattle.pz_claims.specs.Holders
 pub use Rattle.pz_crew.specs.Gates
 pub use Rattle.pz_crew.specs.Lane

@@ -1,5 +1,6 @@
 //! A job whose sessions are played by the rules, each in pieces of one item.
 
+use crate::telling::Telling;
 use pz_case::item::Item;
 use pz_case::job::Job;
 use pz_crew::playing::{Playable, Playing};
@@ -67,4 +68,12 @@ impl<'a> Playable for AsItems<'a> {
             given: 0,
         })
     }
+}
+
+impl<'a> Telling for AsItems<'a> {
+    ghost job = { λ played. played.job.now };
+
+    ghost pieces = { λ _ _ shown. shown.items };
+
+    fn tells(&self) {}
 }

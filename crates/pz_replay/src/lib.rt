@@ -7,6 +7,7 @@ mod as_items;
 pub mod item_lane;
 mod naming;
 pub mod replaying;
+pub mod telling;
 
 pub use item_lane::{Message, Sender, SentAll, Taker, Worked};
 pub use pz_case::recording::{Record, Recording};
@@ -18,4 +19,5 @@ pub use pz_crew::replaying::MOST_WORKERS;
 pub use pz_lines::fault::{Cause, WriteFault};
 pub use pz_lines::output::Output;
 pub use pz_lines::writing::write_recording;
-pub use replaying::{CAPACITY, replay, replay_with, work};
+pub use replaying::{CAPACITY, replay, replay_told, replay_with, work};
+pub use telling::Telling;

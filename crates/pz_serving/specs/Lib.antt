@@ -1,6 +1,7 @@
 pub mod CommandLine
 pub mod Serving
 pub mod AsLines
+pub use Rattle.pz_replay.specs.Telling
 pub use Rattle.pz_console.specs.Failures
 pub use Rattle.pz_console.specs.Options
 pub use Rattle.pz_console.specs.Reading

@@ -1,5 +1,5 @@
 -- From the bytes of a file of sessions to the lines of their recording and an exit status.
-use Rattle.std.specs.Prelude.{◌≡◌, ◌≢◌, ◌↔◌, ◌≤◌, ◌+◌, ℕ, Bool, true, false, List, if◌then◌else◌, Option, IfSome, Result, Ok, Err, IsOk}
+use Rattle.std.specs.Prelude.{◌≡◌, ◌≢◌, ◌↔◌, ◌≤◌, ◌+◌, ℕ, Bool, true, false, List, if◌then◌else◌, Option, IfSome, Result, Ok, Err}
 use Rattle.std.specs.IoError.{error_kind}
 use Rattle.std.specs.declared.io.Error.{Error}
 use Rattle.std.specs.declared.io.ErrorKind.{ErrorKind}
@@ -34,12 +34,11 @@ pub record WritesPart (order : Order) (bytes : List ℕ) (cut : WriteFault) (old
   pub ended : EndsFor cut (text_of (shown_of order entries)) old new
 
 -- what playing sessions leaves in its output, if it ends so: all lines of what they show, as many first bytes as a fault of writing
--- tells, or nothing, if memory was refused or a worker's lane was lost
+-- tells, or nothing, if memory was refused. No worker's lane is lost
 abbrev pub Plays : List Record → Writes → Writes → Result Bool Failure → Type 0
 Plays shown old new (Ok passed) = (passed ≡ all_passed shown) × HasWritten (text_of shown) old new
 Plays shown old new (Err (failure.WriteFault cut)) = EndsFor cut (text_of shown) old new
 Plays shown old new (Err failure.Memory) = new ≡ old
-Plays shown old new (Err failure.LaneLost) = new ≡ old
 Plays shown old new (Err other) = ⊥
 
 -- these are the bytes of the input, if its bytes are known
@@ -57,12 +56,12 @@ pub record IsJobOf (order : Order) (input : Option (List ℕ)) (reads : Reads) (
 
 -- what a run over this input leaves in its output, if it ends so: nothing, unless sessions were read and replayed. The file's
 -- fault, the lines and whether all passed are those of one list of bytes, even if nobody knows the input's bytes before. The
--- command line and the opening of FILE come before it. A lane can be lost only if the entries of the file were read
+-- command line and the opening of FILE come before it. No lane is lost
 abbrev pub Serves : Order → Option (List ℕ) → Writes → Writes → Result Bool Failure → Type 0
 Serves order input old new (Ok passed) = (bytes : List ℕ) × AreOf input bytes × WritesAll order bytes passed old new
 Serves order input old new (Err (failure.WriteFault cut)) = (bytes : List ℕ) × AreOf input bytes × WritesPart order bytes cut old new
 Serves order input old new (Err (failure.File cause)) = (new ≡ old) × (bytes : List ℕ) × AreOf input bytes × (cause ≢ fault.Memory → sessions_in bytes ≡ Err cause)
-Serves order input old new (Err failure.LaneLost) = (new ≡ old) × (bytes : List ℕ) × AreOf input bytes × IsOk (sessions_in bytes)
+Serves order input old new (Err failure.LaneLost) = ⊥
 Serves order input old new (Err failure.BadLine) = ⊥
 Serves order input old new (Err failure.OpenFault) = ⊥
 Serves order input old new (Err other) = new ≡ old

@@ -1,24 +1,27 @@
-//! A job whose sessions are played as their lines, by workers that send them to one recorder.
+//! A job whose sessions are told in lines, replayed by workers that send them to one recorder, and written.
 
-ghost use Rattle.std.specs.Prelude.{◌≡◌, ◌≢◌, ◌⊎◌, ◌≤◌, ◌++◌, ◌&&◌, map, IfErr, IfOk, OnOk};
+ghost use Rattle.std.specs.Prelude.{◌≡◌, ◌≤◌, ◌++◌, ◌&&◌, List, map, None, IfOk, OnOk};
 ghost use Rattle.std.specs.List.{list_all};
+ghost use Rattle.std.specs.Thread.{IsSync};
 ghost use Rattle.pz_console.specs.declared.options.TheConstants.{MOST_WORKERS};
-ghost use Rattle.pz_console.specs.declared.failure.Failure.TheVariants.{LaneLost, Memory};
-ghost use Rattle.pz_crew.specs.declared.fault.ReplayFault.TheVariants.{GateClosed, Workers};
+ghost use Rattle.pz_case.specs.declared.case.Case.{Case};
+ghost use Rattle.pz_engine.specs.declared.engine.PlayedCase.{PlayedCase};
+ghost use Rattle.pz_replay.specs.Telling.{told};
 ghost use Rattle.pz_session.specs.Recording.{recording};
-ghost use Rattle.pz_serving.specs.AsLines.{IsWhole, lines_of, passed_of, pieces_in};
+ghost use Rattle.pz_serving.specs.AsLines.{HandsOn, lines_of, passed_of, pieces_in, pieces_of};
 
 use pz_case::case::Case;
 use pz_case::job::Job;
 use pz_console::failure::Failure;
-use pz_crew::fault::ReplayFault;
-use pz_crew::gate::Always;
 use pz_crew::playing::{Playable, Playing};
 use pz_crew::recorder::Sessions;
-use pz_crew::replaying::replay_along;
 use pz_engine::engine::{PlayedCase, play_case};
+use pz_lines::output::Output;
 use pz_lines::packed::PackedLines;
+use pz_lines::writing::write_packed;
+use pz_replay::{Always, CAPACITY, ReplayFault, Telling, replay_told};
 use std::alloc::{AllocError, Global};
+use std::io::Write;
 use std::sync::Wait;
 use std::thread::Threads;
 
@@ -55,13 +58,13 @@ struct AsLines<'a> {
 }
 
 impl<'a> Playable for AsLines<'a> {
-    ghost use Rattle.pz_serving.specs.AsLines.{pieces_of};
+    ghost use Rattle.pz_serving.specs.AsLines.{sessions_of};
 
     type Piece = PlayedCase;
 
     type Run = LinesRun<'a>;
 
-    ghost sessions = { λ played. pieces_of played.job.now };
+    ghost sessions = { λ played. sessions_of played.job.now };
 
     fn count(&self) -> usize {
         self.job.len()
@@ -75,6 +78,14 @@ impl<'a> Playable for AsLines<'a> {
             is_over: false,
         })
     }
+}
+
+impl<'a> Telling for AsLines<'a> {
+    ghost job = { λ played. played.job.now };
+
+    ghost pieces = { λ _. pieces_of };
+
+    fn tells(&self) {}
 }
 
 /// The lines of the sessions of a job, in their order, and whether all of these passed.
@@ -114,34 +125,64 @@ fn joined(alloc: Global, sessions: Sessions<PlayedCase>) -> Result<PlayedJob, Al
     Ok(played)
 }
 
-/// Why a job was not played, whose workers are as many as may be, and whose gate is always open.
-fn failure_of(fault: ReplayFault) -> Failure
-    requires workers { fault ≢ Workers }
-    requires open { fault ≢ GateClosed }
-    ensures { (result ≡ Memory) ⊎ (result ≡ LaneLost) }
-{
-    match fault {
-        ReplayFault::Memory => Failure::Memory,
-        ReplayFault::LaneLost => Failure::LaneLost,
-        ReplayFault::Workers | ReplayFault::GateClosed => unreachable!(),
+/// Whoever replays a job, told in lines. Nothing is known of an answer but that it may be given, and another may be given next. So
+/// whoever writes one can take the lines from that answer alone.
+pub(crate) trait Replays {
+    /// The job may be answered so.
+    ghost may_answer: { Self → List Case → List (List PlayedCase) → Type 0 };
+
+    fn replay<T: Threads + Wait + Sync>(
+        &self,
+        rt: &T,
+        alloc: Global,
+        job: &Job,
+    ) -> Result<Sessions<PlayedCase>, AllocError>
+        requires { IsSync T.row }
+        ensures { IfOk result (may_answer self.now job.now) };
+}
+
+/// So many workers.
+#[derive(Drop)]
+pub(crate) struct Crew {
+    pub workers: usize,
+    pub ghost some: { 1 ≤ workers },
+    pub ghost few: { workers ≤ MOST_WORKERS },
+}
+
+impl Replays for Crew {
+    ghost may_answer = { λ _ job answer. answer ≡ told pieces_of (recording job) };
+
+    fn replay<T: Threads + Wait + Sync>(
+        &self,
+        rt: &T,
+        alloc: Global,
+        job: &Job,
+    ) -> Result<Sessions<PlayedCase>, AllocError> {
+        let played = AsLines { job };
+        match replay_told(rt, alloc, &played, self.workers, CAPACITY, &Always) {
+            Ok(sessions) => Ok(sessions),
+            Err(ReplayFault::Memory) => Err(AllocError),
+            Err(ReplayFault::Workers | ReplayFault::GateClosed | ReplayFault::LaneLost) =>
+                unreachable!(),
+        }
     }
 }
 
-/// Plays a job by at most so many workers, of which the calling thread is one. All that the answer has was taken from their lanes.
-pub(crate) fn play_as_lines<T: Threads + Wait + Sync>(
+/// Replays a job, and writes the lines of that very answer; tells whether they tell that every session passed.
+pub(crate) fn replay_and_write<P: Replays, T: Threads + Wait + Sync, W: Write>(
+    replays: &P,
     rt: &T,
     alloc: Global,
     job: &Job,
-    workers: usize,
-) -> Result<PlayedJob, Failure>
-    requires some { 1 ≤ workers }
-    requires few { workers ≤ MOST_WORKERS }
-    ensures played { IfOk result (IsWhole (recording job.now)) }
-    ensures failed { IfErr result (λ failure. (failure ≡ Memory) ⊎ (failure ≡ LaneLost)) }
+    output: &mut Output<W>,
+) -> Result<bool, Failure>
+    requires { output.old.failure ≡ None }
+    ensures { HandsOn (P.may_answer replays.now job.now) output.old output.new result }
 {
-    let played = AsLines { job };
-    match replay_along(rt, alloc, &played, workers, &Always) {
-        Ok(sessions) => Ok(joined(alloc, sessions)?),
-        Err(fault) => Err(failure_of(fault)),
+    let answer = replays.replay(rt, alloc, job)?;
+    let played = joined(alloc, answer)?;
+    match write_packed(alloc, &played.texts, output) {
+        Ok(()) => Ok(played.passed),
+        Err(fault) => Err(Failure::WriteFault(fault)),
     }
 }

@@ -9,7 +9,7 @@ ghost use Rattle.pz_lines.specs.Writing.{Writes};
 ghost use Rattle.pz_session.specs.Recording.{recording};
 ghost use Rattle.pz_serving.specs.Serving.{IsJobOf, Plays, ReadsFor, Reports, Serves, ServesOpened, failure_at, status_of};
 
-use crate::as_lines::play_as_lines;
+use crate::as_lines::{Crew, replay_and_write};
 use pz_case::job::Job;
 use pz_console::counted::Counted;
 use pz_console::failure::{Failure, fail_with};
@@ -19,7 +19,6 @@ use pz_engine::sessions::decode;
 use pz_entries::fault::FileFault;
 use pz_job::job::prepare_with;
 use pz_lines::output::Output;
-use pz_lines::writing::write_packed;
 use std::alloc::Global;
 use std::io::{self, ErrorKind, Read, Write};
 use std::sync::Wait;
@@ -38,11 +37,7 @@ fn play_job<T: Threads + Wait + Sync, W: Write>(
     requires few { workers ≤ MOST_WORKERS }
     ensures played { Plays (recording job.now) output.old output.new result }
 {
-    let played = play_as_lines(rt, alloc, job, workers)?;
-    match write_packed(alloc, &played.texts, output) {
-        Ok(()) => Ok(played.passed),
-        Err(fault) => Err(Failure::WriteFault(fault)),
-    }
+    replay_and_write(&Crew { workers }, rt, alloc, job, output)
 }
 
 /// Reads a file of sessions, and makes the job of its entries.

@@ -1,8 +1,9 @@
 use Rattle.std.proofs.Common.{map, ap, ◌∙◌, ◌-◌, refl, sym, Err}
 use Rattle.pz_crew.specs.Recorded.{lane_of}
+use Rattle.pz_crew.specs.Worked.{handed_back}
 use Rattle.pz_crew.specs.declared.fault.ReplayFault.TheVariants.{Memory}
 use Rattle.pz_crew.proofs.Gating.{kept_by, settled_passed, settled_stop}
-use Rattle.pz_crew.proofs.Joining.{lanes_left, last_ended, last_lane, made_of, moved_maker, none_left, not_closed, not_workers, one_fewer, one_there, opens, others_ended, recorded_as, settles, some_left, taken_off, unopened, worked_on}
+use Rattle.pz_crew.proofs.Joining.{lanes_left, last_ended, last_lane, made_of, moved_maker, none_left, not_closed, not_lost, not_workers, one_fewer, one_there, opens, others_ended, recorded_as, settles, some_left, taken_off, unopened, worked_on}
 use Rattle.pz_crew.proofs.workers.+run_workers.Goals as goal
 
 -- Each goal is answered, since a search reads all that is known in so long a function.
@@ -21,6 +22,9 @@ returns-then-left-eq0-clause-whole g t c = none_left (g.P.Playable.sessions c.ar
 
 pub returns-then-left-eq0-clause-workers : goal.returns-then-left-eq0-clause-workers
 returns-then-left-eq0-clause-workers g t c = not_workers c.gather.result c.gather.ensures.fault
+
+pub returns-then-left-eq0-clause-lost : goal.returns-then-left-eq0-clause-lost
+returns-then-left-eq0-clause-lost g t c = not_lost c.gather.result c.gather.ensures.fault
 
 pub returns-then-left-eq0-clause-passed : goal.returns-then-left-eq0-clause-passed
 returns-then-left-eq0-clause-passed g t c = kept_by (g.G.Gate.may_pass c.args.shared.now.gate.now) (g.P.Playable.sessions c.args.shared.now.played.now) c.args.maker c.gather.new.inboxes.items c.args.sessions c.gather.result c.gather.ensures.done
@@ -47,6 +51,9 @@ returns-in_default-clause-whole g t c = tt
 
 pub returns-in_default-clause-workers : goal.returns-in_default-clause-workers
 returns-in_default-clause-workers g t c = not_workers (Err Memory) refl
+
+pub returns-in_default-clause-lost : goal.returns-in_default-clause-lost
+returns-in_default-clause-lost g t c = not_lost (Err Memory) refl
 
 pub returns-in_default-clause-passed : goal.returns-in_default-clause-passed
 returns-in_default-clause-passed g t c = λ _. tt
@@ -86,6 +93,9 @@ returns-in_default-start-clause-whole g t c = tt
 pub returns-in_default-start-clause-workers : goal.returns-in_default-start-clause-workers
 returns-in_default-start-clause-workers g t c = not_workers (Err Memory) refl
 
+pub returns-in_default-start-clause-lost : goal.returns-in_default-start-clause-lost
+returns-in_default-start-clause-lost g t c = not_lost (Err Memory) refl
+
 pub returns-in_default-start-clause-passed : goal.returns-in_default-start-clause-passed
 returns-in_default-start-clause-passed g t c = λ _. tt
 
@@ -119,7 +129,7 @@ settle-requires-clause-maker g t c κs within =
 pub settle-requires-clause-worked : goal.settle-requires-clause-worked
 settle-requires-clause-worked g t c κs within =
     let lane = last_lane c.args.inboxes.now.items c.open_lane.new.inboxes.items c.run_workers-below.new.inboxes.items c.pop-2.new.self.items c.in-Some-pop.inbox c.in-Some.sender.lane c.in-Some.ensures.some.1 c.run_workers-below.ensures.lanes c.in-Some-pop.ensures.items in
-    worked_on (g.P.Playable.sessions c.args.shared.now.played.now) c.args.shared.now.claims.now c.of-of.result.value.lane c.in-Some.sender.lane c.in-Some-pop.inbox.taker.lane c.join-worked.result (ap (λ s. s.lane) c.of-of.ensures) lane c.join-worked.ensures.0
+    worked_on (g.P.Playable.sessions c.args.shared.now.played.now) c.args.shared.now.claims.now c.of-of.result.value.lane c.in-Some.sender.lane c.in-Some-pop.inbox.taker.lane (handed_back c.join-done.result) (ap (λ s. s.lane) c.of-of.ensures) lane c.join-done.ensures.0
 
 pub settle-requires-clause-inbox : goal.settle-requires-clause-inbox
 settle-requires-clause-inbox g t c κs within = last_ended c.run_workers-below.new.inboxes.items c.pop-2.new.self.items c.in-Some-pop.inbox c.in-Some-pop.ensures.items c.run_workers-below.ensures.ended
@@ -139,11 +149,14 @@ returns-clause-whole g t c =
 pub returns-clause-workers : goal.returns-clause-workers
 returns-clause-workers g t c = λ is. c.run_workers-below.ensures.workers (c.settle.ensures.workers is)
 
+pub returns-clause-lost : goal.returns-clause-lost
+returns-clause-lost g t c = λ is. c.run_workers-below.ensures.lost (c.settle.ensures.lost is)
+
 pub returns-clause-passed : goal.returns-clause-passed
 returns-clause-passed g t c =
-    settled_passed (g.G.Gate.may_pass c.args.shared.now.gate.now) (g.P.Playable.sessions c.args.shared.now.played.now) c.split-maker.result.0 c.args.maker c.join-worked.result c.run_workers-below.result c.settle.result
-    (ap (λ made. made.numbers) c.split-maker.ensures.maker) c.run_workers-below.ensures.passed c.settle.ensures.joined c.settle.ensures.below c.join-worked.ensures.1
+    settled_passed (g.G.Gate.may_pass c.args.shared.now.gate.now) (g.P.Playable.sessions c.args.shared.now.played.now) c.split-maker.result.0 c.args.maker (handed_back c.join-done.result) c.run_workers-below.result c.settle.result
+    (ap (λ made. made.numbers) c.split-maker.ensures.maker) c.run_workers-below.ensures.passed c.settle.ensures.joined c.settle.ensures.below c.join-done.ensures.1
 
 pub returns-clause-closed : goal.returns-clause-closed
 returns-clause-closed g t c =
-    settled_stop (g.G.Gate.may_stop c.args.shared.now.gate.now) (g.P.Playable.sessions c.args.shared.now.played.now) c.join-worked.result c.run_workers-below.result c.settle.result c.join-worked.ensures.2 c.run_workers-below.ensures.closed c.settle.ensures.closed
+    settled_stop (g.G.Gate.may_stop c.args.shared.now.gate.now) (g.P.Playable.sessions c.args.shared.now.played.now) (handed_back c.join-done.result) c.run_workers-below.result c.settle.result c.join-done.ensures.2 c.run_workers-below.ensures.closed c.settle.ensures.closed

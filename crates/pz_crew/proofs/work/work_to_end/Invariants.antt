@@ -1,7 +1,7 @@
 use Rattle.std.proofs.Common.{◌≡◌, ◌<◌, All}
 use Rattle.pz_crew.specs.Gates.{MayPassFor}
 use Rattle.pz_crew.specs.Sent.{messages_for}
-use Rattle.pz_crew.proofs.work.work.Given as goal
+use Rattle.pz_crew.proofs.work.work_to_end.Given as goal
 
 abbrev pub invariant-loop : goal.invariant-loop
 invariant-loop g l = record {

@@ -1,17 +1,17 @@
-use Rattle.std.proofs.Common.{refl, sym, ◌∙◌, Ok, Err, arith}
+use Rattle.std.proofs.Common.{◌≡◌, refl, sym, ◌∙◌, Ok, Err, arith}
 use Rattle.std.proofs.lemmas.Result.{err_from_is_err_and}
-use Rattle.pz_crew.specs.declared.fault.ReplayFault.TheVariants.{Memory, Workers, GateClosed}
+use Rattle.pz_crew.specs.declared.fault.ReplayFault.TheVariants.{Memory, Workers, GateClosed, LaneLost}
 use Rattle.pz_crew.specs.declared.replaying.TheConstants.{MOST_WORKERS}
 use Rattle.pz_crew.proofs.Finishing.{answered, few_or_many, handed_on, no_answer, no_refusal, passed_on, some_made}
 use Rattle.pz_crew.proofs.Gating.{all_passed}
-use Rattle.pz_crew.proofs.Joining.{not_closed, not_workers}
-use Rattle.pz_crew.proofs.replaying.replay_by.Goals as goal
+use Rattle.pz_crew.proofs.Joining.{not_closed, not_lost, not_workers}
+use Rattle.pz_crew.proofs.replaying.replay_with.Goals as goal
 
-pub returns-then-crew-eq0-clause-workers : goal.returns-then-crew-eq0-clause-workers
-returns-then-crew-eq0-clause-workers g c = (λ _. few_or_many c.args.crew.workers MOST_WORKERS c.then-crew-eq0.either, λ _. refl)
+pub returns-then-workers-eq0-clause-workers : goal.returns-then-workers-eq0-clause-workers
+returns-then-workers-eq0-clause-workers g c = (λ _. few_or_many c.args.workers MOST_WORKERS c.then-workers-eq0.either, λ _. refl)
 
 pub returns-in_default-clause-workers : goal.returns-in_default-clause-workers
-returns-in_default-clause-workers g c = no_refusal c.args.crew.workers MOST_WORKERS (Err Memory) c.if-crew-eq0.false c.if-crew-gt-MOST_WORKERS.false (not_workers (Err Memory) refl)
+returns-in_default-clause-workers g c = no_refusal c.args.workers MOST_WORKERS (Err Memory) c.if-workers-eq0.false c.if-workers-gt-MOST_WORKERS.false (not_workers (Err Memory) refl)
 
 pub returns-in_default-clause-closed : goal.returns-in_default-clause-closed
 returns-in_default-clause-closed g c = λ is. absurd (not_closed (Err Memory) refl is)
@@ -20,7 +20,7 @@ pub new-requires : goal.new-requires
 new-requires g c = c.count-count.ensures.few
 
 pub returns-in_default-new-clause-workers : goal.returns-in_default-new-clause-workers
-returns-in_default-new-clause-workers g c = no_refusal c.args.crew.workers MOST_WORKERS (Err Memory) c.if-crew-eq0.false c.if-crew-gt-MOST_WORKERS.false (not_workers (Err Memory) refl)
+returns-in_default-new-clause-workers g c = no_refusal c.args.workers MOST_WORKERS (Err Memory) c.if-workers-eq0.false c.if-workers-gt-MOST_WORKERS.false (not_workers (Err Memory) refl)
 
 pub returns-in_default-new-clause-closed : goal.returns-in_default-new-clause-closed
 returns-in_default-new-clause-closed g c = λ is. absurd (not_closed (Err Memory) refl is)
@@ -28,7 +28,7 @@ returns-in_default-new-clause-closed g c = λ is. absurd (not_closed (Err Memory
 pub returns-in_err-maker-clause-workers : goal.returns-in_err-maker-clause-workers
 returns-in_err-maker-clause-workers g c =
     let gives = err_from_is_err_and c.from_residual.result c.from_residual.ensures.1 in
-    no_refusal c.args.crew.workers MOST_WORKERS c.from_residual.result c.if-crew-eq0.false c.if-crew-gt-MOST_WORKERS.false (passed_on Workers c.in_err-maker.field-0.0 gives.0 c.scoped-all.result c.from_residual.result c.in_err-maker.was gives.1 gives.2 c.scoped-all.ensures.1.3)
+    no_refusal c.args.workers MOST_WORKERS c.from_residual.result c.if-workers-eq0.false c.if-workers-gt-MOST_WORKERS.false (passed_on Workers c.in_err-maker.field-0.0 gives.0 c.scoped-all.result c.from_residual.result c.in_err-maker.was gives.1 gives.2 c.scoped-all.ensures.1.3)
 
 pub returns-in_err-maker-clause-sessions : goal.returns-in_err-maker-clause-sessions
 returns-in_err-maker-clause-sessions g c = no_answer _ c.from_residual.result c.from_residual.ensures.0
@@ -48,7 +48,7 @@ pub close-requires-clause-joined : goal.close-requires-clause-joined
 close-requires-clause-joined g c = c.in_ok-maker.ensures.1.0.2 ∙ sym c.in_ok-maker.ensures.1.0.1
 
 pub returns-clause-workers : goal.returns-clause-workers
-returns-clause-workers g c = no_refusal c.args.crew.workers MOST_WORKERS (Ok c.in_ok-maker.sessions) c.if-crew-eq0.false c.if-crew-gt-MOST_WORKERS.false (answered c.in_ok-maker.sessions Workers)
+returns-clause-workers g c = no_refusal c.args.workers MOST_WORKERS (Ok c.in_ok-maker.sessions) c.if-workers-eq0.false c.if-workers-gt-MOST_WORKERS.false (answered c.in_ok-maker.sessions Workers)
 
 pub returns-clause-sessions : goal.returns-clause-sessions
 returns-clause-sessions g c =
@@ -63,3 +63,20 @@ returns-clause-passed g c =
 
 pub returns-clause-closed : goal.returns-clause-closed
 returns-clause-closed g c = λ is. absurd (answered c.in_ok-maker.sessions GateClosed is)
+
+pub returns-then-workers-eq0-clause-whole : goal.returns-then-workers-eq0-clause-whole
+returns-then-workers-eq0-clause-whole g c = λ (is : Err Workers ≡ Err LaneLost). cc
+
+pub returns-in_default-clause-whole : goal.returns-in_default-clause-whole
+returns-in_default-clause-whole g c = not_lost (Err Memory) refl
+
+pub returns-in_default-new-clause-whole : goal.returns-in_default-new-clause-whole
+returns-in_default-new-clause-whole g c = not_lost (Err Memory) refl
+
+pub returns-in_err-maker-clause-whole : goal.returns-in_err-maker-clause-whole
+returns-in_err-maker-clause-whole g c =
+    let gives = err_from_is_err_and c.from_residual.result c.from_residual.ensures.1 in
+    passed_on LaneLost c.in_err-maker.field-0.0 gives.0 c.scoped-all.result c.from_residual.result c.in_err-maker.was gives.1 gives.2 c.scoped-all.ensures.1.4
+
+pub returns-clause-whole : goal.returns-clause-whole
+returns-clause-whole g c = answered c.in_ok-maker.sessions LaneLost
