@@ -9,7 +9,7 @@ from operator import or_
 from typing import Dict, FrozenSet, Iterator, List, Mapping, NamedTuple, Optional, Sequence, Tuple
 
 from saxtegun.budget import EXPLAINING
-from saxtegun.commands import cut, fold
+from saxtegun.commands import cut
 from saxtegun.descriptions import Words, before, description_of
 from saxtegun.games import Game, game_of
 from saxtegun.levels import Labels, read_cells

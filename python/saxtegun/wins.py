@@ -1,4 +1,4 @@
-"""How many levels sessions win: over the text at hand, and over the committed one. A recording may pass, or be accepted, that wins fewer than before."""
+"""How many levels sessions win: over the text at hand, and over the committed one. A recording may pass that wins fewer than before."""
 from __future__ import annotations
 
 import os
@@ -29,7 +29,8 @@ def wins_over(entries: Sequence[Entry], text: Optional[str], of: Sessions, engin
     before = [it._replace(source=text) for it in entries]
     runs = runs_of(before, of, engine)
     ends = solved_of(before, runs, of, engine)
-    return {it.number: wins_of(run) + (ends.get(place) == SOLVED) for place, (it, run) in enumerate(zip(before, runs)) if run.close == "passed"}
+    passed = [(place, it.number, run) for place, (it, run) in enumerate(zip(before, runs)) if run.close == "passed"]
+    return {number: wins_of(run) + (ends.get(place) == SOLVED) for place, number, run in passed}
 
 
 def levels_won(entries: Sequence[Entry], runs: Sequence[Run], ends: Mapping[int, str], source: str) -> Set[int]:
@@ -50,8 +51,8 @@ class Before(NamedTuple):
 
 
 def wins_before(entries: Sequence[Entry], game: Optional[GameText], of: Sessions, engine: Engine) -> Dict[int, Before]:
-    """What sessions over the text at hand won over the committed one, those that pass over it; by their numbers. None where there is no such text, or no time
-    left to explain."""
+    """What sessions over the text at hand won over the committed one, those that pass over it; by their numbers. None where there is no such
+    text, or no time left to explain."""
     asked = [it for it in entries if game and it.source == game.source]
     if game is None or not asked or not EXPLAINING.is_left():
         return {}
@@ -67,8 +68,10 @@ def wins_before(entries: Sequence[Entry], game: Optional[GameText], of: Sessions
         return {}
 
 
-def lost_wins(entries: Sequence[Entry], runs: Sequence[Run], ends: Mapping[int, str], before: Mapping[int, Before], game: Optional[GameText]) -> Dict[int, str]:
-    """Which sessions win fewer levels than before, in words; by their numbers. `ends` are how they ended, by their places, as far as that is known."""
+def lost_wins(
+    entries: Sequence[Entry], runs: Sequence[Run], ends: Mapping[int, str], before: Mapping[int, Before], game: Optional[GameText]
+) -> Dict[int, str]:
+    """Which sessions win fewer levels than before, in words; by their numbers. `ends` are how they ended, by their places, if it is known."""
     found: Dict[int, str] = {}
     for place, end in ends.items():
         was = before.get(entries[place].number)
