@@ -13,8 +13,8 @@ const MOST_OF_A_LINE = 1000; // and letters of its line
 const MOST_MOVED = 1000; // names that rules move that are looked at
 const MOST_PROPERTIES = 50; // properties on the left of rules that are looked at
 const MOST_BESIDE = 8; // other names of a row that are looked at
-const MOST_LEVELS = 20; // levels of a session in which it is looked for what is met
-const GAP = "...";
+const LEVELS_LOOKED_AT = 20; // levels of a session in which it is looked for what is met
+const GAP_OF_A_ROW = "...";
 const BEHIND_A_COMMENT = /\([^()]*\)\s*(?:again|win|restart|cancel|checkpoint|message|sfx\d+)\b/i;
 
 const ROW_MARKS = ["[", "]", "|"];
@@ -63,7 +63,7 @@ class Members {
 // The properties of one layer in a row, [{ name, line, members, beside }], with the objects that each other name of the row stands for.
 function propertiesIn(row, line, members) {
   const { game } = members, named = distinct(row).map((name) => ({ name, its: members.of(name) })), layersOf = (its) => new Set(its.map((it) => game.layers.get(it)));
-  const others = row.includes(GAP) ? [] : named.filter(({ its }) => its.length > 0).slice(0, MOST_BESIDE);
+  const others = row.includes(GAP_OF_A_ROW) ? [] : named.filter(({ its }) => its.length > 0).slice(0, MOST_BESIDE);
   return named.filter(({ name, its }) => game.isProperty(name) && its.length > 1 && layersOf(its).size === 1)
     .map(({ name, its }) => ({ name, line, members: its, beside: others.filter((it) => it.name !== name).map((it) => it.its) }));
 }
@@ -196,7 +196,7 @@ function mayDecide({ members, beside }, met) {
 
 // A property of which it may have mattered which member comes first, or nothing.
 function propertyTold(game, rules, frames) {
-  const properties = propertiesOf(game, rules), levels = properties.length === 0 ? [] : frames.filter(({ kind }) => kind === "start" || kind === "load").slice(0, MOST_LEVELS);
+  const properties = propertiesOf(game, rules), levels = properties.length === 0 ? [] : frames.filter(({ kind }) => kind === "start" || kind === "load").slice(0, LEVELS_LOOKED_AT);
   for (const { level } of levels) {
     const met = namesMet(level), found = properties.find((it) => mayDecide(it, met));
     if (found) return `\`${shortened(found.name)}\` in the rule on line ${found.line} stands for objects of one layer: on the site the first place counts, not the first member`;
