@@ -265,6 +265,14 @@ class Twins(unittest.TestCase):
             with self.subTest(form):
                 self.assertEqual(in_node("names.mjs", [[it.name, it.source, it.inputs, it.level, it.index] for it in [e._replace(name=f.name) for e, f in zip(entries, findings.found)]]), [it.name for it in entries])
 
+    def test_a_title_is_a_name_as_it_stands_and_not_as_a_terminal_shows_it(self) -> None:
+        blanks = "a" + 9 * " " + "b"
+        named = {("", f"title {blanks}"): f"{blanks}, level 1", ("A" + 9 * " " + "B", f"title {blanks}"): f"{blanks}, level 1", ("own" + 9 * " " + "name", f"title {blanks}"): "own" + 9 * " " + "name",
+                 ("", "title"): "a game, level 1", ("", "title \u200b"): "a game, level 1", ("", "title \u3000"): "a game, level 1", ("", f"title {300 * 'x'}"): f"{200 * 'x'}.., level 1"}
+        entries = [Entry(0, name, f"{title}\nOBJECTS\n", [], "", 0, {}, False) for name, title in named]
+        self.assertEqual([own_name(it.name, it) for it in entries], [*named.values()])
+        self.assertEqual(in_node("names.mjs", [[it.name, it.source, it.inputs, it.level, it.index] for it in entries]), [*named.values()])
+
     def test_what_is_skipped_is_told_as_the_command_tells_it(self) -> None:
         page = (TOP / "web/findings.mjs").read_text(encoding="utf-8")
         for sentence in (COMPILER, CUT_OFF, OBJECTS, HOW):

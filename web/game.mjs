@@ -20,10 +20,14 @@ const MOST_COLOURS = 10; // a pixel is a digit, so no further colour is drawn
 const SWITCHES = new Map(Object.entries({ noaction: 4, noundo: "undo", norestart: "restart" })); // words of the prelude that switch a key off
 const MOST_LEVELS = 1024; // to choose from: no game that is played has more entries of LEVELS
 const UNTITLED = "a game";
+const SEEN = /[^\p{C}\p{Z}]/u;
 const LIKE_A_CELL = /^[0-9]+,/; // what a name begins with that reads in a level text as a cell, and what stands behind it
 
-// The title that a text has last.
-export const titleOf = (source) => shortened(settingsOf(source).findLast(({ keyword }) => keyword === "title")?.value ?? UNTITLED);
+// The title that a text has last, or its beginning, where it is long.
+export function titleOf(source) {
+  const last = settingsOf(source).findLast(({ keyword }) => keyword === "title")?.value ?? "";
+  return SEEN.test(last) ? shortened(last) : UNTITLED;
+}
 
 // How a game looks. `notes` tells what is drawn otherwise than the game draws it.
 export class Game {

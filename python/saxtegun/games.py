@@ -8,7 +8,7 @@ from functools import lru_cache
 from typing import Dict, FrozenSet, Iterable, List, NamedTuple, Optional, Sequence, Set, Tuple, Union
 
 from saxtegun.budget import EXPLAINING
-from saxtegun.commands import cut, fold
+from saxtegun.commands import begin_of, fold
 from saxtegun.descriptions import NOTHING, Definition, Description, Line, Paragraph, description_of, expected
 from saxtegun.levels import each_once
 from saxtegun.meanings import Meanings
@@ -81,7 +81,7 @@ class Game:
     def show(self, told: Description, notes: Iterable[str]) -> None:
         """Takes over what is told of a source."""
         self.notes = [*notes]
-        self.title = cut(title_in(told) or UNTITLED)
+        self.title = begin_of(title_in(told) or UNTITLED)
         self.ground = PALETTE["black"]
         # by an input the word that switches it off: the site takes no such key, so no recording has it
         self.switches = {SWITCHES[it.keyword]: it.keyword for it in told.prelude if it.keyword in SWITCHES}
@@ -177,8 +177,8 @@ def titles_of(sources: Iterable[str]) -> Set[Optional[str]]:
 
 @lru_cache(maxsize=64)
 def title_of(source: str) -> str:
-    """The title of a game, as it is told."""
-    return cut(title_in(description_of(source)) or UNTITLED)
+    """The title of a game, or its beginning, where it is long."""
+    return begin_of(title_in(description_of(source)) or UNTITLED)
 
 
 def unknown_game(why: str) -> Game:

@@ -168,7 +168,7 @@ class Coverage:
         """Where a line stands."""
         if self.text is not None and trial.source == self.text.source:
             return f"{self.text.path}:{trial.part.number}"
-        return f"{title_of(trial.source)}, line {trial.part.number}"
+        return f"{cut(title_of(trial.source))}, line {trial.part.number}"
 
     def judge(self, trial: Trial, found: List[Tuple[Signature, Signature]]) -> None:
         if all(close[0] == "refused" for close, _ in found):

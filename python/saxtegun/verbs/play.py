@@ -28,7 +28,7 @@ from argparse import ArgumentParser, Namespace
 from contextlib import contextmanager
 from typing import Any, Iterator, List, NoReturn, Optional
 
-from saxtegun.commands import Refused, add_ticks, plural, printable, say
+from saxtegun.commands import Refused, add_ticks, cut, plural, printable, say
 from saxtegun.explanations import cause_told, told
 from saxtegun.files import MARK, guard_places, locked, read_text, write_whole
 from saxtegun.games import game_of
@@ -150,7 +150,7 @@ class Play:
 
     def draw(self, word: str) -> None:
         """Draws the level that is reached, and what there is to say of the last key."""
-        told = printable(f"{game_of(self.source).title}: {plural(len(self.inputs), 'input')} {word}")
+        told = printable(f"{cut(game_of(self.source).title)}: {plural(len(self.inputs), 'input')} {word}")
         screen = screen_now()
         if screen is None:
             shown = [*self.level_in(None), told]
