@@ -8,26 +8,28 @@ import os
 import re
 import shutil
 import subprocess
+import tempfile
 import unittest
 import zlib
 from html.parser import HTMLParser
 from random import Random
-from typing import Any, Dict, Iterator, List, Sequence, Tuple
+from typing import Any, Dict, Iterator, List, Optional, Sequence, Tuple
 
 from test_differences import games
 from tool import CASES, InARoom, TOP, run
 from saxtegun.cases import plain_cases
+from saxtegun.commands import Refused
 from saxtegun.descriptions import description_of, expect
 from saxtegun.differences import likely
 from saxtegun.explanations import culprit_told, cause_told, fault_in
 from saxtegun.files import read_any_text
 from saxtegun.games import Game
 from saxtegun.levelsets import entries_of_levels
-from saxtegun.lines import Frame, Run
+from saxtegun.lines import Frame, Run, runs_in
 from saxtegun.pages import look_of
 from saxtegun.recording_search import find
 from saxtegun.recordings import COMPILER, CUT_OFF, HOW, OBJECTS, as_sessions, own_name
-from saxtegun.sessions import Entry
+from saxtegun.sessions import Entry, fault_of
 from saxtegun.webpages import without_types
 
 NODE, OWN, MODULE = shutil.which("node") or "", TOP / "tests" / "web", b"\0asm\1\0\0\0"
@@ -173,6 +175,17 @@ def in_node(script: str, values: Any) -> Any:
     return json.loads(ran.stdout)
 
 
+def fault_in_lines(lines: str) -> Optional[str]:
+    """Why lines are no recording, or None."""
+    with tempfile.NamedTemporaryFile("w", suffix=".jsonl") as file:
+        file.write(lines)
+        file.flush()
+        try:
+            return None if [*runs_in(file.name)] else "it has none"
+        except Refused as why:
+            return str(why)[len(file.name) + 2 :]
+
+
 def entries_of_cases() -> Iterator[Tuple[Any, List[Any]]]:
     """Each session of the cases that JSON can be read of, with the lines of its case."""
     for case in plain_cases(CASES):
@@ -228,6 +241,7 @@ class Twins(unittest.TestCase):
     def test_faults_are_reported_as_by_python(self) -> None:
         told = [(line["cause"], value[1][0], value[1][1], [it["at"] for it in lines if "at" in it]) for value, lines in entries_of_cases() for line in lines if "cause" in line]
         self.assertGreater(len(told), 80)
+        told.append((300 * "x", "", [], []))
         expect(source for _, source, _, _ in told)
         found = in_node("read-faults.mjs", [[cause, source, inputs, [{"at": it} for it in frames]] for cause, source, inputs, frames in told])
         for (cause, source, inputs, frames), it in zip(told, found):
@@ -264,6 +278,30 @@ class Twins(unittest.TestCase):
             entries = as_sessions("a", findings.found, own_name).entries
             with self.subTest(form):
                 self.assertEqual(in_node("names.mjs", [[it.name, it.source, it.inputs, it.level, it.index] for it in [e._replace(name=f.name) for e, f in zip(entries, findings.found)]]), [it.name for it in entries])
+
+    def test_the_number_of_messages_of_a_compiler_is_a_whole_one_that_the_language_counts_to(self) -> None:
+        numbers = {"0": True, "3": True, f"{2**64 - 1}": True, f"{2**64}": False, 30 * "9": False, "-1": False, "1.0": False, "true": False, "null": False}
+        texts = [f'["a",["x",["m"],{number}]]' for number in numbers]
+        wanted = [([], [(1, "compiler")] if is_one else []) for is_one in numbers.values()]
+        self.assertEqual([([*found.found], [*map(tuple, found.skipped)]) for found in map(find, texts)], wanted)
+        self.assertEqual(self.found_in(texts), wanted)
+
+    def test_entries_and_lines_are_refused_in_the_words_of_the_command(self) -> None:
+        start, close = '{"at":0,"frame":0,"kind":"start","level":"","session":0}\n', '{{"close":"{}","cause":{},"name":"","frames":{},"session":0}}\n'
+        recordings = {
+            start + close.format("passed", "null", 1): None, close.format("refused", '"memory"', 0): None,
+            close.format("passed", "null", 0): "line 1: no close of a session of 0 frames", close.format("differs", "null", 0): "line 1: no close of a session of 0 frames",
+            start + close.format("passed", '"memory"', 1): "line 2: no close of a session of 1 frame", start: "the lines end within session 0, which has no close",
+        }
+        nearly = 'its further element {}, and would demand nothing'
+        faults = {
+            '["a",["",[],""],"solved"]': None, '["a",["",[],""],"slved"]': nearly.format('"slved" is nearly "solved"'), f'["a",["",[],""],"{"solved" + 300 * "x"}"]': nearly.format(f'"solved{194 * "x"}.." is nearly "solved"'),
+            '["a",["",[],""],["solved"]]': nearly.format('that is a list holds "solved"'), '["a",["",[],"",0,"solved"]]': 'its second list holds "solved" or nearly that, which would demand nothing there: it stands behind that list',
+        }
+        entries = [json.loads(it) for it in faults]
+        self.assertEqual([fault_of(it) for it in entries], [*faults.values()])
+        self.assertEqual([fault_in_lines(it) for it in recordings], [*recordings.values()])
+        self.assertEqual(in_node("judge.mjs", {"entries": entries, "recordings": [*recordings]}), {"entries": [*faults.values()], "recordings": [*recordings.values()]})
 
     def test_a_title_is_a_name_as_it_stands_and_not_as_a_terminal_shows_it(self) -> None:
         blanks = "a" + 9 * " " + "b"

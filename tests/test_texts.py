@@ -198,7 +198,7 @@ class DayOfDemands(OfAGame):
 
     def test_a_demand_with_a_slip_is_refused(self) -> None:
         suite = self.write_entries([[*self.entries[0], "slved"]])
-        self.assert_refused(run("test", self.game, suite), "session 0, line 1: its further element 'slved' is nearly 'solved', and would demand nothing")
+        self.assert_refused(run("test", self.game, suite), "session 0, line 1: its further element \"slved\" is nearly \"solved\", and would demand nothing")
         self.assertEqual(run("test", self.game, self.write_entries([[*self.entries[0], "by hand"]])).status, 0)
 
 
@@ -207,13 +207,13 @@ class Demands(unittest.TestCase):
         body = ["", [], ""]
         for it in ("solved", "Solved", ["solved"]):
             for within in ([None, it], [None, "1716.5", it]):
-                self.assertEqual(fault_of(["a", [*body, *within]]), "its second list holds 'solved' or nearly that, which would demand nothing there: it stands behind that list")
+                self.assertEqual(fault_of(["a", [*body, *within]]), 'its second list holds "solved" or nearly that, which would demand nothing there: it stands behind that list')
         for it in ("slved", "Solved", "solve", "solevd", "soved", "xsolved", "must be solved", "to be solved", "SOLVED NOW", "\u2713solved", "solved " * 1000):
-            self.assertEqual(fault_of(["a", body, 1, it]), f"its further element {cut(it)!r} is nearly 'solved', and would demand nothing")
+            self.assertEqual(fault_of(["a", body, 1, it]), f'its further element "{cut(it)}" is nearly "solved", and would demand nothing')
         demands: List[Any] = [["solved"], {"solved": True}, {"must": "be Solved"}, [[{"a": [1, "solved"]}]]]
         for demand in demands:
             told = "a list" if isinstance(demand, list) else "an object"
-            self.assertEqual(fault_of(["a", body, demand]), f"its further element that is {told} holds 'solved', and would demand nothing")
+            self.assertEqual(fault_of(["a", body, demand]), f'its further element that is {told} holds "solved", and would demand nothing')
         ignored: List[Any] = ["solved", "by hand", "", "so", "salad", "1716.5", "love", "told you", True, None, 0, [], {}, [["slved"]], {"by": ["hand"]}]
         for element in ignored:
             self.assertIsNone(fault_of(["a", body, element]), element)

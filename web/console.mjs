@@ -28,7 +28,7 @@ const isBody = (value) => Array.isArray(value) && value.length > 2 && typeof val
 const isEntry = (value) => value.length > 1 && typeof value[0] === "string" && isBody(value[1]);
 
 // Whether a value is [source, messages, their number], as a compiler's test has it.
-const isOfACompiler = (value) => Array.isArray(value) && value.length === 3 && typeof value[0] === "string" && Array.isArray(value[1]) && Number.isInteger(value[2]);
+const isOfACompiler = (value) => Array.isArray(value) && value.length === 3 && typeof value[0] === "string" && Array.isArray(value[1]) && Number.isInteger(value[2]) && value[2] >= 0;
 
 function letterOfHtml(whole, decimal, hexadecimal, ...names) {
   const name = names.slice(0, 2).find(Boolean);

@@ -56,7 +56,7 @@ export function faultIn(cause) {
 // A cause as a sentence without its end.
 export function causeTold(cause) {
   const fault = faultIn(cause);
-  if (fault === null || !Object.hasOwn(FAULTS, fault.code)) return Object.hasOwn(STOPS, cause) ? STOPS[cause] : `its cause is ${cause}`;
+  if (fault === null || !Object.hasOwn(FAULTS, fault.code)) return Object.hasOwn(STOPS, cause) ? STOPS[cause] : `its cause is ${shortened(cause)}`;
   if (fault.line === 0) return OF_THE_WHOLE[fault.code] ?? FAULTS[fault.code].replace("{line}", "the source");
   return FAULTS[fault.code].replace("{line}", `line ${fault.line}`);
 }

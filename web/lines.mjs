@@ -1,6 +1,7 @@
 // @ts-check
 // The lines of a recording, as docs/sessions.md has them, cut into runs: what they say of each session.
 import { CLOSES } from "./closes.mjs";
+import { plural } from "./elements.mjs";
 import { Refusal } from "./session-file.mjs";
 import { hasManyLists } from "./texts.mjs";
 
@@ -120,9 +121,9 @@ function testFrame(line, place, frames) {
 }
 
 function testClose(line, place, count) {
-  const hasCause = typeof line.cause === "string";
-  const isGood = typeof line.name === "string" && line.frames === count && (hasCause || (line.cause ?? null) === null) && hasCause === ["stopped", "refused"].includes(line.close);
-  if (!isGood) throw new Refusal(`line ${place}: no close of a session of ${count} frames`);
+  const hasCause = typeof line.cause === "string", isCounted = line.frames === count && (count > 0 || hasCause); // what was played has shown its start
+  const isGood = typeof line.name === "string" && isCounted && (hasCause || (line.cause ?? null) === null) && hasCause === ["stopped", "refused"].includes(line.close);
+  if (!isGood) throw new Refusal(`line ${place}: no close of a session of ${plural(count, "frame")}`);
 }
 
 // The lines of a text, but for an empty one at its end.

@@ -3,6 +3,7 @@
 // python/saxtegun/sessions.py.
 import { elementsOf } from "../engine/saxtegun.mjs";
 import { TextMap } from "./text-map.mjs";
+import { shortened } from "./texts.mjs";
 import { there } from "./there.mjs";
 
 /** @typedef {[number, number]} Span */
@@ -124,7 +125,7 @@ function furtherFault(body, rest, whole) {
   if (body.some((it, place) => it === DEMAND || isNearlyDemand(it, inBody[place]))) return `its second list holds "${DEMAND}" or nearly that, which would demand nothing there: it stands behind that list`;
   const nearly = rest.find((it, place) => isNearlyDemand(it, behind[place]));
   if (nearly === undefined) return null;
-  const told = typeof nearly === "string" ? `${JSON.stringify(nearly.slice(0, 60))} is nearly` : `that is ${Array.isArray(nearly) ? "a list" : "an object"} holds`;
+  const told = typeof nearly === "string" ? `${JSON.stringify(shortened(nearly))} is nearly` : `that is ${Array.isArray(nearly) ? "a list" : "an object"} holds`;
   return `its further element ${told} "${DEMAND}", and would demand nothing`;
 }
 

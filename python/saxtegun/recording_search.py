@@ -12,7 +12,7 @@ from typing import Any, Dict, List, NamedTuple, Optional, Tuple
 
 from saxtegun.commands import Refused
 from saxtegun.javascript import BODIES, ROUNDS, behind, skip_space, token_at, unescaped
-from saxtegun.sessions import MOST_ENTRIES, fault_of
+from saxtegun.sessions import MOST_ENTRIES, fault_of, is_number
 
 # What may stand between a bracket and a text, in so many rounds; what is looked for first is what stands there most often.
 BREAK = rf"[\s>]*(?:(?:<br\s*/?>|&nbsp;)[\s>]*){ROUNDS}"
@@ -75,7 +75,7 @@ def is_body(value: Any) -> bool:
 
 def is_of_a_compiler(value: Any) -> bool:
     """Whether a value is [source, messages, their number], as a compiler's test has it."""
-    return isinstance(value, list) and len(value) == 3 and isinstance(value[0], str) and isinstance(value[1], list) and type(value[2]) is int
+    return isinstance(value, list) and len(value) == 3 and isinstance(value[0], str) and isinstance(value[1], list) and is_number(value[2], 2**64 - 1)
 
 
 def value_of(items: List[str]) -> Any:

@@ -167,8 +167,8 @@ def demand_fault(elements: List[Any]) -> Optional[str]:
     """What is nearly a demand among the further elements of an entry, or None."""
     for it in elements:
         if is_nearly_demand(it):
-            told = f"{cut(it)!r} is nearly" if isinstance(it, str) else f"that is {'a list' if isinstance(it, list) else 'an object'} holds"
-            return f"its further element {told} {DEMAND!r}, and would demand nothing"
+            told = f"{json.dumps(cut(it), ensure_ascii=False)} is nearly" if isinstance(it, str) else f"that is {'a list' if isinstance(it, list) else 'an object'} holds"
+            return f'its further element {told} "{DEMAND}", and would demand nothing'
     return None
 
 
@@ -190,7 +190,7 @@ def fault_of(entry: Any) -> Optional[str]:
     if ignored:
         return ignored
     if any(it == DEMAND or is_nearly_demand(it) for it in body[4:]):
-        return f"its second list holds {DEMAND!r} or nearly that, which would demand nothing there: it stands behind that list"
+        return f'its second list holds "{DEMAND}" or nearly that, which would demand nothing there: it stands behind that list'
     return demand_fault(entry[2:])
 
 
