@@ -286,6 +286,15 @@ class Twins(unittest.TestCase):
         self.assertEqual([([*found.found], [*map(tuple, found.skipped)]) for found in map(find, texts)], wanted)
         self.assertEqual(self.found_in(texts), wanted)
 
+    def test_letters_of_html_are_read_by_their_numbers_and_by_six_names(self) -> None:
+        letters = {"&#65;": "A", "&#x41": "A", "&#00000065;": "A", f"&#{5000 * '0'}65;": "A", f"&#X{5000 * '0'}41;": "A", "&#146;": "\u2019", "&#x80;": "\u20ac", "&#129;": "\x81", "&#159;": "\u0178", "&#160;": "\xa0", "&#1;": "\x01",
+                   "&#0;": "\ufffd", "&#xd800;": "\ufffd", "&#1114112;": "\ufffd", "&#1114111;": "\U0010ffff", f"&#{5000 * '9'};": "\ufffd", "&#;": "&#;", "&#x;": "&#x;", "&amp;lt;": "&lt;", "&ltx": "<x", "&apos;": "'", "&apos": "&apos",
+                   "Caf&eacute;": "Caf&eacute;", "&rarr;": "&rarr;", "&QUOT;": "&QUOT;"}
+        text = "\n".join(f"[&quot;{it}&quot;, [&quot;title {it}&quot;,[1],&quot;&quot;,0]]" for it in letters)
+        wanted = [(it, f"title {it}") for it in letters.values()]
+        self.assertEqual([(it.name, json.loads(it.body)[0]) for it in find(text).found], wanted)
+        self.assertEqual([it[1:3] for it in self.found_in([text])[0][0]], wanted)
+
     def test_entries_and_lines_are_refused_in_the_words_of_the_command(self) -> None:
         start, close = '{"at":0,"frame":0,"kind":"start","level":"","session":0}\n', '{{"close":"{}","cause":{},"name":"","frames":{},"session":0}}\n'
         recordings = {

@@ -92,9 +92,9 @@ class Forms(unittest.TestCase):
                 self.assertEqual([(it.name, it.body) for it in found.found], [("a", body)])
 
     def test_a_number_of_a_letter_in_html_may_be_too_long_to_be_one(self) -> None:
-        for number in ("1" * 5000, "0" * 5000 + "65"):
+        for number, letter in (("1" * 5000, "\ufffd"), ("0" * 5000 + "65", "A")):
             found = find(f'[&quot;a&quot;, [&quot;title x&#{number};&quot;,[1],&quot;&quot;,0]]').found
-            self.assertEqual([(it.name, json.loads(it.body)) for it in found], [("a", ["title x\ufffd", [1], "", 0])])
+            self.assertEqual([(it.name, json.loads(it.body)) for it in found], [("a", [f"title x{letter}", [1], "", 0])])
 
     def test_twice_the_text_takes_about_twice_the_time(self) -> None:
         text = (FORMS / "console-with-headings.txt").read_text(encoding="utf-8")

@@ -1,7 +1,7 @@
 // @ts-check
 // Recordings in any text: what an editor's console prints, with whatever stands around it, or published test data. The twin of
 // python/saxtegun/recording_search.py, which holds what is looked for; both are held to the texts of tests/forms.
-import { ROUNDS, WHITE_SPACE, behindSpace, endOfEscaped, endOfText, replacing, tokenAt, unescaping } from "./javascript.mjs";
+import { LAST_LETTER, ROUNDS, WHITE_SPACE, behindSpace, endOfEscaped, endOfText, replacing, tokenAt, unescaping } from "./javascript.mjs";
 import { atOnce } from "./pieces.mjs";
 import { faultOf, restOf } from "./session-file.mjs";
 import { there } from "./there.mjs";
@@ -13,8 +13,11 @@ const BROKEN_LINES = `${SPACE_SET}(?:\\\\[nrt]${SPACE_SET})${ROUNDS}`;
 const BEGIN = new RegExp(
   `(?<list>\\[(?=${BREAK}["'\`\u201c\u201d\u201e]))|(?<quoted>["'\`](?=${BROKEN_LINES}\\[${BROKEN_LINES}\\\\?["'\`]))`
   + `|(?<escaped>\\[(?=${BROKEN_LINES}\\\\["']))|(?<html>\\[(?=${BREAK}&(?:quot|#34|apos|#39);))`, "g");
-const HTML_LETTERS = new Map(Object.entries({ quot: '"', apos: "'", lt: "<", gt: ">", amp: "&", nbsp: "\xa0" }));
-const HTML_LETTER = /&(?:#([0-9]{1,7});?|#[xX]([0-9a-fA-F]{1,6});?|(quot|lt|gt|amp|nbsp);?|(apos);)/g;
+// Letters of HTML: by their numbers, and by the names that programs write which make HTML of a text.
+const HTML_LETTER = /&#([0-9]+);?|&#[xX]([0-9a-fA-F]+);?|&(quot|lt|gt|amp|nbsp);?|&(apos);/g;
+const HTML_NAMES = new Map(Object.entries({ quot: '"', apos: "'", lt: "<", gt: ">", amp: "&", nbsp: "\xa0" }));
+// What the numbers from 128 on stand for there.
+const FROM_128 = "\u20ac\x81\u201a\u0192\u201e\u2026\u2020\u2021\u02c6\u2030\u0160\u2039\u0152\x8d\u017d\x8f\x90\u2018\u2019\u201c\u201d\u2022\u2013\u2014\u02dc\u2122\u0161\u203a\u0153\x9d\u017e\u0178";
 const MOST_DEPTH = 8; // an entry holds a body, which holds its inputs; behind one that is cut off another may begin
 const LEAST_LETTERS = 9; // of anything that is taken or skipped by name
 const LEAST_READ = 100_000; // letters of what is quoted are read in vain at most, beside four times those of the text
@@ -32,9 +35,10 @@ const isOfACompiler = (value) => Array.isArray(value) && value.length === 3 && t
 
 function letterOfHtml(whole, decimal, hexadecimal, ...names) {
   const name = names.slice(0, 2).find(Boolean);
-  if (name !== undefined) return HTML_LETTERS.get(name);
+  if (name !== undefined) return HTML_NAMES.get(name);
   const number = decimal === undefined ? parseInt(hexadecimal, 16) : Number(decimal);
-  return number === 0 || number > 0x10ffff ? "\ufffd" : String.fromCodePoint(number);
+  if (number >= 128 && number < 160) return FROM_128[number - 128];
+  return number === 0 || number > LAST_LETTER || (number >= 0xd800 && number < 0xe000) ? "\ufffd" : String.fromCodePoint(number);
 }
 
 const fromHtml = (text) => replacing(text, HTML_LETTER, letterOfHtml);

@@ -15,7 +15,7 @@ const ESCAPE = /\\(?:u\{[0-9a-fA-F]+\}|u[0-9a-fA-F]{4}|x[0-9a-fA-F]{2}|\r\n|[^])
 const ESCAPES = new Map(Object.entries({ n: "\n", r: "\r", t: "\t", b: "\b", f: "\f", v: "\v", 0: "\0", "\n": "", "\r\n": "" }));
 const WHOLE = /^-?(?:0|[1-9][0-9]*)$/;
 const MOST_WHOLE = 2n ** 64n; // numbers from here on are no index
-const LAST_LETTER = 0x10ffff;
+export const LAST_LETTER = 0x10ffff;
 const SMART_ENDS = "\u201c\u201d";
 // What ends a text that begins with a quote, and what of it is passed over in one step.
 const QUOTES = new Map([

@@ -5,13 +5,12 @@ prose, timestamps and code fences are passed over. What was quoted or escaped on
 printed, and what is cut off or no recording, is skipped and told. Each letter is read a few times at most, whatever the text is."""
 from __future__ import annotations
 
-import html
 import json
 import re
 from typing import Any, Dict, List, NamedTuple, Optional, Tuple
 
 from saxtegun.commands import Refused
-from saxtegun.javascript import BODIES, ROUNDS, behind, skip_space, token_at, unescaped
+from saxtegun.javascript import BODIES, LAST, ROUNDS, behind, skip_space, token_at, unescaped
 from saxtegun.sessions import MOST_ENTRIES, fault_of, is_number
 
 # What may stand between a bracket and a text, in so many rounds; what is looked for first is what stands there most often.
@@ -29,8 +28,13 @@ REST = re.compile(rf"[^\"\\\n]*(?:\\.[^\"\\\n]*){ROUNDS}")
 LEAST_LETTERS = 9
 # An entry holds a body, which holds its inputs; behind one that is cut off another may begin.
 MOST_DEPTH = 8
-# A number of a letter in HTML that Python can't read, since it has thousands of digits, and one that is no letter's either.
-NO_LETTER, BEYOND = re.compile("&#[0-9]{20,}"), "&#1114112"
+# Letters of HTML: by their numbers, and by the names that programs write which make HTML of a text.
+HTML_LETTER = re.compile("&#([0-9]+);?|&#[xX]([0-9a-fA-F]+);?|&(quot|lt|gt|amp|nbsp);?|&(apos);")
+HTML_NAMES = {"quot": '"', "apos": "'", "lt": "<", "gt": ">", "amp": "&", "nbsp": "\xa0"}
+# What the numbers from 128 on stand for there.
+FROM_128 = (
+    "\u20ac\x81\u201a\u0192\u201e\u2026\u2020\u2021\u02c6\u2030\u0160\u2039\u0152\x8d\u017d\x8f\x90\u2018\u2019\u201c\u201d\u2022\u2013\u2014\u02dc\u2122\u0161\u203a\u0153\x9d\u017e\u0178"
+)
 # In so many letters of a source its first heading is looked for, where it is cut off.
 MOST_OF_A_HEAD = 4000
 HEADING = re.compile("objects", re.I)
@@ -66,6 +70,16 @@ class Open(NamedTuple):
 
     at: int
     items: List[str]
+
+
+def letter_of_html(found: "re.Match[str]") -> str:
+    if found[3] or found[4]:
+        return HTML_NAMES[found[3] or found[4]]
+    digits = (found[1] or found[2]).lstrip("0")
+    number = int(digits or "0", 10 if found[1] else 16) if len(digits) < 8 else LAST + 1
+    if 128 <= number < 160:
+        return FROM_128[number - 128]
+    return "\ufffd" if number == 0 or number > LAST or 0xD800 <= number < 0xE000 else chr(number)
 
 
 def is_body(value: Any) -> bool:
@@ -117,7 +131,7 @@ class Search:
             elif self.is_inner:
                 at = begin.end()
             elif begin.lastgroup == "html":
-                self.read_inner(begin.start(), html.unescape(NO_LETTER.sub(BEYOND, self.text[begin.start() :])))
+                self.read_inner(begin.start(), HTML_LETTER.sub(letter_of_html, self.text[begin.start() :]))
                 return self.findings
             else:
                 at = self.read_escaped(begin.start()) if begin.lastgroup == "escaped" else self.read_quoted(begin.start())
