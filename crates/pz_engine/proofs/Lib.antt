@@ -1,3 +1,4 @@
 pub mod Deciding
 pub mod Played
 pub mod Taken
+pub mod Told

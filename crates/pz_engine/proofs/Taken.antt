@@ -27,7 +27,7 @@ pub record AreTaken (from session : ℕ) (shown : Record) (taken : List Item) (w
   pub frames : written.frames ≡ frame_count taken
   pub passed : written.passed ≡ list_any is_pass taken
 
-or_false : (b : Bool) → (b || false) ≡ b
+pub or_false : (b : Bool) → (b || false) ≡ b
 or_false true = refl
 or_false false = refl
 
@@ -52,7 +52,7 @@ all_frames law case taken rest verdict e =
     omega (arith, all, none)
 
 -- only the line of a close tells how many frames there were
-same_line : (session : ℕ) (name : List ℕ) (frames all : ℕ) (x : Item) → ((verdict : Verdict) → x ≡ item.Close verdict → frames ≡ all) → item_line session name frames x ≡ item_line session name all x
+pub same_line : (session : ℕ) (name : List ℕ) (frames all : ℕ) (x : Item) → ((verdict : Verdict) → x ≡ item.Close verdict → frames ≡ all) → item_line session name frames x ≡ item_line session name all x
 same_line session name frames all (item.Frame number kind at level_text) h = refl
 same_line session name frames all (item.Close verdict) h = ap (λ k. close_line session name k verdict) (h verdict refl)
 

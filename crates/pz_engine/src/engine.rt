@@ -1,12 +1,12 @@
 //! The playing of a file's sessions, one after another in the calling thread.
 
-ghost use Rattle.std.specs.Prelude.{◌≡◌, ◌≢◌, ◌≤◌, ◌+◌, ◌++◌, ◌∷◌, [], ◌&&◌, ◌||◌, Ok, Err, IfOk, IfErr, OnOk, length};
+ghost use Rattle.std.specs.Prelude.{◌≡◌, ◌≢◌, ◌≤◌, ◌+◌, ◌++◌, ◌∷◌, [], ◌&&◌, ◌||◌, None, Some, Ok, Err, IfOk, IfErr, OnOk, drop, length, take};
 ghost use Rattle.pz_entries.specs.declared.fault.FileFault.TheVariants as fault;
 ghost use Rattle.pz_case.specs.Playing.{shown_by};
 ghost use Rattle.pz_lines.specs.Lines.{frame_count, item_line, lines_from, text_from, text_of};
 ghost use Rattle.pz_session.specs.Case.{items_of};
 ghost use Rattle.pz_session.specs.Recording.{recording};
-ghost use Rattle.pz_engine.specs.Engine.{IsPlayed, line_from};
+ghost use Rattle.pz_engine.specs.Engine.{IsPlayed, line_from, next_piece};
 ghost use Rattle.pz_engine.specs.Sessions.{all_passed, has_passed, is_pass, sessions_in};
 
 use crate::sessions::{decode, is_pass};
@@ -29,7 +29,7 @@ pub struct Played {
     pub passed: bool,
 }
 
-/// The lines of what a session showed, and whether it passed.
+/// The lines of what a session showed, or of a piece of it, and whether they tell that it passed.
 #[derive(Drop)]
 pub struct PlayedCase {
     pub lines: PackedLines,
@@ -133,6 +133,57 @@ pub fn play_case(
         lines: written.lines.finish(),
         passed: written.passed,
     })
+}
+
+/// The piece of a session that was written, if it has items, and how many frames were shown with it.
+fn piece(written: Written, taken: usize, frames: &mut u64) -> Option<PlayedCase>
+    ensures none { taken ≡ 0 → result ≡ None }
+    ensures some { taken ≢ 0 → result ≡ Some (record { lines = written.lines; passed = written.passed }) }
+    ensures frames { frames.new ≡ written.frames }
+{
+    let Written {
+        lines,
+        frames: shown,
+        passed,
+    } = written;
+    *frames = shown;
+    if taken == 0 {
+        drop(lines);
+        return None;
+    }
+    Some(PlayedCase {
+        lines: lines.finish(),
+        passed,
+    })
+}
+
+/// Plays the next items of a session, at most so many, and packs their lines. `frames` counts those that were shown so far. None: no item
+/// was left.
+pub fn play_on(
+    alloc: Global,
+    session: u64,
+    name: &str,
+    run: &mut Run<'_>,
+    frames: &mut u64,
+    most: usize,
+) -> Result<Option<PlayedCase>, AllocError>
+    requires { 1 ≤ most }
+    ensures piece { IfOk result (λ answer. answer ≡ next_piece session name.now frames.old most run.old.items) }
+    ensures left { IfOk result (λ _. run.new.items ≡ drop most run.old.items) }
+    ensures frames { IfOk result (λ _. frames.new ≡ frames.old + frame_count (take most run.old.items)) }
+{
+    let mut written = Written {
+        lines: Packer::new(alloc),
+        frames: *frames,
+        passed: false,
+    };
+    for taken in 0..most {
+        let Some(item) = run.next()? else {
+            return Ok(piece(written, taken, frames));
+        };
+        add_item(alloc, &mut written, session, name, &item, 0)?;
+    }
+    Ok(piece(written, most, frames))
 }
 
 /// Plays every session of a job, and answers the lines of the items from an input on: the frames that are shown after so many inputs

@@ -1,37 +1,43 @@
 //! A job whose sessions are told in lines, replayed by workers that send them to one recorder, and written.
 
 ghost use Rattle.std.specs.Prelude.{◌≡◌, ◌≤◌, ◌++◌, ◌&&◌, List, map, None, IfOk, OnOk};
-ghost use Rattle.std.specs.List.{list_all};
+ghost use Rattle.std.specs.List.{list_any};
 ghost use Rattle.std.specs.Thread.{IsSync};
 ghost use Rattle.pz_console.specs.declared.options.TheConstants.{MOST_WORKERS};
 ghost use Rattle.pz_case.specs.declared.case.Case.{Case};
 ghost use Rattle.pz_engine.specs.declared.engine.PlayedCase.{PlayedCase};
 ghost use Rattle.pz_replay.specs.Telling.{told};
 ghost use Rattle.pz_session.specs.Recording.{recording};
-ghost use Rattle.pz_serving.specs.AsLines.{HandsOn, lines_of, passed_of, pieces_in, pieces_of};
+ghost use Rattle.pz_serving.specs.AsLines.{HandsOn, all_told, lines_of, passed_of, pieces_in, pieces_of};
 
 use pz_case::case::Case;
 use pz_case::job::Job;
 use pz_console::failure::Failure;
 use pz_crew::playing::{Playable, Playing};
 use pz_crew::recorder::Sessions;
-use pz_engine::engine::{PlayedCase, play_case};
+use pz_engine::engine::{PlayedCase, play_on};
 use pz_lines::output::Output;
 use pz_lines::packed::PackedLines;
 use pz_lines::writing::write_packed;
 use pz_replay::{Always, CAPACITY, ReplayFault, Telling, replay_told};
+use pz_session::run::Run;
 use std::alloc::{AllocError, Global};
 use std::io::Write;
 use std::sync::Wait;
 use std::thread::Threads;
 
-/// A run of a session. Its one piece has all lines of the session, packed, and tells whether the session passed.
+/// So many items of a session are a piece, the last may have fewer. (measured: with fewer the first lines of pieces, which are kept whole,
+/// take more room, and with more a lane is full later than a recorder comes)
+pub(crate) const PIECE: usize = 64;
+
+/// A run of a session. Each piece has the lines of the next items, packed, and tells whether the session passed by them.
 #[derive(Drop)]
 struct LinesRun<'a> {
     alloc: Global,
     number: usize,
     case: &'a Case,
-    is_over: bool,
+    run: Run<'a>,
+    frames: u64,
 }
 
 impl Playing for LinesRun<'_> {
@@ -39,15 +45,18 @@ impl Playing for LinesRun<'_> {
 
     type Piece = PlayedCase;
 
-    ghost left = { λ run. pieces_left run.is_over run.number run.case.now };
+    ghost left = { λ run. pieces_left run.number run.case.now.name run.frames run.run.items };
 
     fn next(&mut self) -> Result<Option<PlayedCase>, AllocError> {
-        if self.is_over {
-            return Ok(None);
-        }
-        self.is_over = true;
-        let played = play_case(self.alloc, self.number as u64, self.case, 0)?;
-        Ok(Some(played))
+        let name = self.case.name.as_str();
+        play_on(
+            self.alloc,
+            self.number as u64,
+            name,
+            &mut self.run,
+            &mut self.frames,
+            PIECE,
+        )
     }
 }
 
@@ -71,11 +80,14 @@ impl<'a> Playable for AsLines<'a> {
     }
 
     fn begin(&self, alloc: Global, number: usize) -> Result<LinesRun<'a>, AllocError> {
+        let case = self.job.case(number);
+        let run = Run::new(alloc, case)?;
         Ok(LinesRun {
             alloc,
             number,
-            case: self.job.case(number),
-            is_over: false,
+            case,
+            run,
+            frames: 0,
         })
     }
 }
@@ -99,12 +111,14 @@ impl PlayedJob {
     /// Takes in the pieces of the session that comes next.
     fn take_in(&mut self, pieces: Vec<PlayedCase>) -> Result<(), AllocError>
         ensures texts { OnOk result (self.new.texts.items ≡ self.old.texts.items ++ map lines_of pieces.items) }
-        ensures passed { OnOk result (self.new.passed ≡ (self.old.passed && list_all passed_of pieces.items)) }
+        ensures passed { OnOk result (self.new.passed ≡ (self.old.passed && list_any passed_of pieces.items)) }
     {
+        let mut passed = false;
         for piece in pieces {
             self.texts.push(piece.lines)?;
-            self.passed = self.passed && piece.passed;
+            passed = passed || piece.passed;
         }
+        self.passed = self.passed && passed;
         Ok(())
     }
 }
@@ -112,7 +126,7 @@ impl PlayedJob {
 /// The lines of all sessions, from the pieces of each.
 fn joined(alloc: Global, sessions: Sessions<PlayedCase>) -> Result<PlayedJob, AllocError>
     ensures texts { IfOk result (λ played. played.texts.items ≡ map lines_of (pieces_in sessions)) }
-    ensures passed { IfOk result (λ played. played.passed ≡ list_all passed_of (pieces_in sessions)) }
+    ensures passed { IfOk result (λ played. played.passed ≡ all_told sessions) }
 {
     let sessions = sessions.into_pieces();
     let mut played = PlayedJob {

@@ -19,6 +19,7 @@ use pz_engine::sessions::decode;
 use pz_entries::fault::FileFault;
 use pz_job::job::prepare_with;
 use pz_lines::output::Output;
+use pz_session::laws::cases_close_once;
 use std::alloc::Global;
 use std::io::{self, ErrorKind, Read, Write};
 use std::sync::Wait;
@@ -37,6 +38,8 @@ fn play_job<T: Threads + Wait + Sync, W: Write>(
     requires few { workers ≤ MOST_WORKERS }
     ensures played { Plays (recording job.now) output.old output.new result }
 {
+    // (brings the proof that the close is the last item, which tells how many frames there were)
+    cases_close_once();
     replay_and_write(&Crew { workers }, rt, alloc, job, output)
 }
 

@@ -1,10 +1,9 @@
 use Rattle.std.proofs.Common.{◌≡◌, map}
-use Rattle.std.specs.List.{list_all}
-use Rattle.pz_serving.specs.AsLines.{lines_of, passed_of, pieces_in}
+use Rattle.pz_serving.specs.AsLines.{all_told, lines_of, pieces_in}
 use Rattle.pz_serving.proofs.as_lines.joined.Given as goal
 
 abbrev pub invariant-loop-pieces : goal.invariant-loop-pieces
 invariant-loop-pieces l = record {
   texts : l.played.texts.items ≡ map lines_of (pieces_in (map (λ pieces. pieces.items) l.yielded));
-  passed : l.played.passed ≡ list_all passed_of (pieces_in (map (λ pieces. pieces.items) l.yielded));
+  passed : l.played.passed ≡ all_told (map (λ pieces. pieces.items) l.yielded);
 }
