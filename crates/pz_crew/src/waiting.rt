@@ -4,14 +4,14 @@ use std::sync::Wait;
 use std::thread::Parker;
 use std::time::Duration;
 
-/// Gives the processor away for a fifth of a millisecond, or until the bell is rung. So waiting costs next to nothing, whichever end is
-/// faster.
+/// Gives the recorder's processor away for two milliseconds, or until the bell is rung, as it is where a lane is full. So waiting costs next
+/// to nothing.
 pub(crate) fn pause<R: Wait>(rt: &R, bell: &Parker) {
-    bell.park_timeout(rt, Duration::from_micros(200));
+    bell.park_timeout(rt, Duration::from_micros(2_000));
 }
 
-/// Wakes the recorder, and gives the processor away while it takes what there is.
+/// Wakes the recorder, and gives the processor away for a fifth of a millisecond, in which it takes what there is.
 pub(crate) fn wait_for_room<R: Wait>(rt: &R, bell: &Parker) {
     bell.unpark();
-    pause(rt, &Parker::new());
+    Parker::new().park_timeout(rt, Duration::from_micros(200));
 }

@@ -26,9 +26,9 @@ use std::io::Write;
 use std::sync::Wait;
 use std::thread::Threads;
 
-/// So many items of a session are a piece, the last may have fewer. (measured: with fewer the first lines of pieces, which are kept whole,
-/// take more room, and with more a lane is full later than a recorder comes)
-pub(crate) const PIECE: usize = 64;
+/// A piece has so many items of a session, or what is left of it. (The first line of a piece is kept whole. With 64 items these lines take a
+/// twentieth more memory in long recordings, with 128 half of that.)
+pub(crate) const PIECE: usize = 128;
 
 /// A run of a session. Each piece has the lines of the next items, packed, and tells whether the session passed by them.
 #[derive(Drop)]
