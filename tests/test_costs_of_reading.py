@@ -25,7 +25,6 @@ from saxtegun.games import Game
 from saxtegun.hangs import Finder, source_from, things_of
 from saxtegun.levelsets import drawn_columns, drawn_start, level_of_recorded
 from saxtegun.lines import Frame, Run
-from saxtegun.meanings import MOST_NAMES, Meanings
 from saxtegun.mismatches import Tests, start_fault
 from saxtegun.pages import source_lines
 from saxtegun.playing import Engine
@@ -318,13 +317,6 @@ def growth_of(act: Callable[[int], object], size: int) -> float:
     return min(min(seconds_of(act, 2 * size) for _ in range(3)) / max(min(seconds_of(act, size) for _ in range(3)), 1e-9) for _ in range(2))
 
 
-def meanings_of(source: str) -> Any:
-    """What the names of a source stand for, each of which is asked for."""
-    meanings = Meanings(description_of(source))
-    meanings.filled()
-    return meanings
-
-
 class Costs(unittest.TestCase):
     def test_twice_the_input_takes_about_twice_the_time(self) -> None:
         for what, (size, act) in READINGS.items():
@@ -332,35 +324,6 @@ class Costs(unittest.TestCase):
                 # A larger size is tried where one doesn't fit into a processor's cache any more: what is quadratic grows too much at each.
                 growth = next((it for it in (growth_of(act, size << it // 3) for it in range(9)) if it <= MOST), None)
                 self.assertIsNotNone(growth, f"more than {MOST} times the time")
-
-
-    def test_of_synonyms_each_is_gone_through_once(self) -> None:
-        meanings = meanings_of(legend_of_letters(2000))
-        self.assertLess(MOST_NAMES - meanings.names_left, 5000)
-        self.assertEqual(meanings.notes, [])
-
-    def test_of_a_chain_of_aggregates_none_is_gone_through_for_each(self) -> None:
-        """Each is the one before and an object."""
-        lines = "\n".join(f"{one} = {other} and Player" for one, other in zip(LETTERS[1:2000], ["Background", *LETTERS[1:]]))
-        meanings = meanings_of(f"{HEAD}LEGEND\n{lines}\nCOLLISIONLAYERS\nBackground\nPlayer\nWINCONDITIONS\nLEVELS\n{LETTERS[1]}\n")
-        self.assertLess(MOST_NAMES - meanings.names_left, 20_000)
-        self.assertEqual(meanings.notes, [])
-
-    def test_what_is_known_of_names_changes_none_of_them(self) -> None:
-        """Of names that come to one another too, or to themselves, in whichever order they are asked for."""
-        chosen = random.Random(0)
-        sources = []
-        for _ in range(300):
-            names = [f"n{it}" for it in range(8)]
-            lines = "\n".join(f"{it} = {' and '.join(chosen.choices([*names, *(f'o{it}' for it in range(5))], k=chosen.randint(1, 3)))}" for it in names)
-            objects = "".join(f"o{it}\nred\n" for it in range(5))
-            sources.append(f"title x\nOBJECTS\nBackground\nblack\nPlayer\nred\n{objects}LEGEND\n{lines}\nCOLLISIONLAYERS\nBackground\nLEVELS\n.\n")
-        with expected(sources):
-            for source in sources:
-                meanings = Meanings(description_of(source))
-                chosen.shuffle(names)
-                for it in names:
-                    self.assertEqual(meanings.members(it), meanings.members_beyond(meanings.meaning_of(it), set()), source)
 
 
 class Far(unittest.TestCase):

@@ -118,15 +118,11 @@ class Whole(unittest.TestCase):
         self.assertEqual(bytes_of("a\ud800b"), b"a?b")
         self.assertEqual(titles_of(["title \ud800"]), {"?"})
 
-    def test_a_game_that_is_refused_for_its_rules_win_lines_clock_or_a_line_of_its_legend_has_its_layers(self) -> None:
-        for old, new in (("late ", "random "), ("All", "Few"), ("Title", "realtime_interval 1\nTitle"), ("One =", "Two = Nobody\nOne ="), (".P\n", ".?\n")):
-            with self.subTest(new):
-                source = SOURCE.replace(old, new)
-                self.assertIsNotNone(description_of(source).fault)
-                game = Game(source)
-                self.assertEqual(game.layers, {"background": 0, "player": 1})
-                self.assertEqual(game.members("one"), ["player"])
-                self.assertEqual(game.glyph_of(["player", "background"]), "@")
+    def test_a_game_that_is_refused_draws_by_all_but_what_is_defined_by_or(self) -> None:
+        source = SOURCE.replace("One =", "Two = Player or Background\nThree = Two\nOne =").replace("All", "Few")
+        self.assertIsNotNone(description_of(source).fault)
+        game = Game(source)
+        self.assertEqual([it for it in (".", "@", "one", "two", "three", "?") if game.draws(it)], [".", "@", "one"])
 
     def test_time_to_explain_that_ends_while_a_description_is_read_ends_explaining(self) -> None:
         line = json.dumps({"fault": None, "lines": [[1, "prelude", False, "x"]]}, separators=(",", ":"))

@@ -11,7 +11,6 @@ from saxtegun.budget import EXPLAINING
 from saxtegun.commands import begin_of, fold
 from saxtegun.descriptions import NOTHING, Definition, Description, Line, Paragraph, description_of, expected
 from saxtegun.levels import each_once
-from saxtegun.meanings import Meanings
 
 PALETTE = {
     "black": "#000000", "white": "#ffffff", "grey": "#9d9d9d", "darkgrey": "#697175", "lightgrey": "#cccccc", "gray": "#9d9d9d",
@@ -26,6 +25,8 @@ HEX = re.compile("#(?:[0-9a-f]{3}|[0-9a-f]{6})")
 SIDE = 5
 # A pixel is a digit, so no further colour is drawn.
 MOST_COLOURS = 10
+# So many synonyms lead from a letter to what it draws; no author writes more.
+MOST_SYNONYMS = 20
 # Words of the prelude that switch a key off.
 SWITCHES: Dict[str, Union[int, str]] = {"noaction": 4, "noundo": "undo", "norestart": "restart"}
 # What says how often a tick is.
@@ -71,12 +72,7 @@ class Game:
     """How a game looks. `notes` tells what is drawn otherwise than the game draws it."""
 
     def __init__(self, source: str) -> None:
-        told = description_of(source)
-        if told.fault is None or any(it.layer is not None for it in told.objects):
-            self.show(told, [])
-        else:
-            meanings = Meanings(told)
-            self.show(meanings.filled(), meanings.notes)
+        self.show(description_of(source), [])
 
     def show(self, told: Description, notes: Iterable[str]) -> None:
         """Takes over what is told of a source."""
@@ -145,8 +141,15 @@ class Game:
         return self.known_drawn[members]
 
     def draws(self, name: str) -> bool:
-        """Whether a name is one of an object or an aggregate, or a synonym of one."""
-        return name in self.first_names or (name in self.definitions and self.definitions[name].kind in ("object", "aggregate"))
+        """Whether a name is one of an object or an aggregate, or a synonym of one. The engine tells no kinds of a source that is refused."""
+        for _ in range(MOST_SYNONYMS):
+            if name in self.first_names or name not in self.definitions:
+                break
+            it = self.definitions[name]
+            if it.kind or len(it.right) > 1:
+                return it.kind != "property" if it.kind else "or" not in map(fold, it.right)
+            name = fold(it.right[0])
+        return name in self.first_names
 
     def glyphs_of(self, words: Sequence[str]) -> Dict[FrozenSet[str], str]:
         """For a set of objects the letter that draws it in LEVELS, as it was written first."""

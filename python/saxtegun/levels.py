@@ -2,23 +2,15 @@
 from __future__ import annotations
 
 import re
-from functools import lru_cache
 from itertools import compress
 from operator import ne
-from typing import Callable, Dict, FrozenSet, List, Optional, Pattern, Sequence, Tuple, TypeVar
+from typing import Callable, Dict, FrozenSet, List, Optional, Sequence, Tuple, TypeVar
 
 from saxtegun.commands import fold
 
 DIGITS = re.compile("[0-9]+")
 # more cells than any level has, by digits
 MOST_DIGITS = 9
-# a byte is a number of a set or, in its upper half, a label
-HALF = 128
-LOWER, UPPER = bytes(range(HALF)), bytes(range(HALF, 256))
-NUMBERS = {str(number): bytes((number,)) for number in range(HALF)}
-# so many cells are compared at once
-STRETCH = 64
-
 
 Names = Tuple[str, ...]
 Value = TypeVar("Value")
@@ -65,141 +57,8 @@ def read_piece(piece: str, numbered: List[int], labels: Labels) -> Optional[int]
     return numbered[number]
 
 
-class Known:
-    """The sets of names that a level text has numbered so far, by their labels."""
-
-    def __init__(self) -> None:
-        self.of: Dict[str, int] = {}
-        self.of_digits = bytearray(256)
-        self.digits = ""
-
-    def add(self, label: int) -> None:
-        number = len(self.of)
-        digits = str(number)
-        if number < 10 and label < 256:
-            self.of_digits[48 + number] = label
-            self.digits += digits
-        self.of[digits] = label
-
-    def cells(self, numbers: str) -> Optional[Sequence[int]]:
-        """The labels of numbers with commas between; None where one isn't known, as it is spelt here."""
-        digits = numbers[::2]
-        if len(numbers) % 2 and numbers[1::2] == "," * (len(digits) - 1) and not digits.lstrip(self.digits):
-            # each number is one digit, so all are looked up at once
-            return digits.encode().translate(self.of_digits)
-        try:
-            return [self.of[it] for it in numbers.split(",")]
-        except KeyError:
-            return None
-
-
-def read_written(text: str, labels: Labels) -> Optional[List[int]]:
-    """The cells of a level text, each by its label, where it is spelt as the program spells it; else None. Cut at its colons it falls into parts, of
-    which each ends with the names of a set, and the next begins with its number; up to the next colon no others are known than those numbered so far."""
-    if "\r" in text:
-        return None
-    known, spelt = Known(), labels.by_text
-    cells: List[int] = []
-    *parts, end = text.replace("\n", "").split(":")
-    begin = ""
-    for part in parts:
-        numbers, comma, names = part.rpartition(",")
-        found = known.cells(numbers) if comma else b""
-        if found is None or not part.startswith(begin):
-            return None
-        cells += found
-        begin = f"{len(known.of)},"
-        known.add(spelt[names] if names in spelt else labels.of(names))
-    numbers, comma, names = end.rpartition(",")
-    found = known.cells(numbers) if comma else b""
-    if found is None or names or not end.startswith(begin):
-        return None
-    cells += found
-    return cells
-
-
-def as_bytes(cells: Optional[Sequence[int]]) -> Optional[Sequence[int]]:
-    """Labels as bytes where each is one."""
-    return bytes(cells) if isinstance(cells, list) and max(cells, default=0) < 256 else cells
-
-
-@lru_cache(maxsize=None)
-def in_order(count: int) -> Pattern[bytes]:
-    """How a text numbers so many sets, as `Pieces` has it: from 0, and none is met before it is numbered."""
-    return re.compile(b"".join(b"[\\x80-\\xff]\\x%02x[\\x00-\\x%02x]*" % (number, number) for number in range(count)))
-
-
-class Pieces(Dict[str, bytes]):
-    """What each piece of level texts is, as bytes below 128: the number of its set. Where a piece numbers that set, its label stands before, as the
-    byte 128 and more."""
-
-    def __init__(self, labels: Labels) -> None:
-        super().__init__(NUMBERS)
-        self.labels = labels
-
-    def __missing__(self, piece: str) -> bytes:
-        names, colon, digits = piece.rpartition(":")
-        if not colon or "\r" in names:
-            raise KeyError(piece)
-        number, label = NUMBERS[digits], self.labels.of(names)
-        if label >= HALF:
-            raise KeyError(piece)
-        self[piece] = numbered = bytes((HALF + label,)) + number
-        return numbered
-
-
-class Lines(Dict[str, bytes]):
-    """What each line of level texts is, by its pieces."""
-
-    def __init__(self, labels: Labels) -> None:
-        super().__init__({"": b""})
-        self.pieces = Pieces(labels)
-
-    def __missing__(self, line: str) -> bytes:
-        pieces = line.split(",")
-        if pieces.pop():
-            raise KeyError(line)
-        self[line] = cells = b"".join(map(self.pieces.__getitem__, pieces))
-        return cells
-
-
-class Follower:
-    """Reads level texts that come one after the other. Levels have most lines as the one before them has, and so no line is read twice."""
-
-    def __init__(self, labels: Labels) -> None:
-        self.labels = labels
-        self.lines = Lines(labels)
-        # by the labels that a text numbers, one behind the other: how its bytes must be, and what becomes of each
-        self.meanings: Dict[bytes, Tuple[Pattern[bytes], bytes]] = {}
-
-    def read(self, text: str) -> Optional[Sequence[int]]:
-        """The cells of a text, each by its label, or None where it is no level text. They are bytes where each label is one."""
-        try:
-            cells = b"".join(map(self.lines.__getitem__, text.split("\n")))
-        except KeyError:
-            # it isn't spelt as the program spells it, or has more sets than a byte has numbers
-            return as_bytes(read_cells(text, self.labels))
-        numbered = cells.translate(None, LOWER)
-        meaning = self.meanings.get(numbered) or self.meaning_of(numbered)
-        if not meaning[0].fullmatch(cells):
-            return as_bytes(read_cells(text, self.labels))
-        return cells.translate(meaning[1], UPPER)
-
-    def meaning_of(self, numbered: bytes) -> Tuple[Pattern[bytes], bytes]:
-        """What the bytes of a text mean that numbers these labels."""
-        labels = bytes(it - HALF for it in numbered[:HALF])
-        meaning = self.meanings[numbered] = (in_order(len(labels)), labels.ljust(256, b"\0"))
-        return meaning
-
-
 def read_cells(text: str, labels: Labels) -> Optional[List[int]]:
     """The cells of a level text, each by its label, or None where it is no level text."""
-    written = read_written(text, labels)
-    return written if written is not None else read_pieces(text, labels)
-
-
-def read_pieces(text: str, labels: Labels) -> Optional[List[int]]:
-    """As `read_cells`, piece by piece, however it is spelt."""
     pieces = text.replace("\n", "").replace("\r", "").split(",")
     if pieces.pop():
         return None
@@ -255,15 +114,4 @@ def in_rows(order: str, width: int, cells: List[int]) -> List[List[int]]:
 
 def differing(cells: Sequence[int], others: Sequence[int]) -> List[int]:
     """The numbers of the cells that differ, where both levels have equally many."""
-    if isinstance(cells, bytes) and isinstance(others, bytes):
-        both = int.from_bytes(cells, "big") ^ int.from_bytes(others, "big")
-        # what is before the first other cell and behind the last is not looked at
-        begin = len(cells) - (both.bit_length() + 7) // 8
-        return list(compress(range(begin, len(cells)), both.to_bytes(len(cells) - begin, "big").rstrip(b"\0")))
-    # most stretches of cells are the same, and compared at once
-    numbers: List[int] = []
-    for begin in range(0, len(cells), STRETCH):
-        one, other = cells[begin : begin + STRETCH], others[begin : begin + STRETCH]
-        if one != other:
-            numbers += compress(range(begin, begin + STRETCH), map(ne, one, other))
-    return numbers
+    return list(compress(range(len(cells)), map(ne, cells, others)))

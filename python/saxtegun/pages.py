@@ -16,7 +16,7 @@ from saxtegun.divergence import Divergence, close_told, sentence_of
 from saxtegun.explanations import Ending, cause_told, culprit_told, ending_told, fault_in, stop_of, written_lines
 from saxtegun.games import Game, game_of, unknown_game
 from saxtegun.hangs import HUNG, Found
-from saxtegun.levels import Follower, Labels, differing, width_of
+from saxtegun.levels import Labels, differing, read_cells, width_of
 from saxtegun.levelsets import MOST_CELLS, still_in
 from saxtegun.lines import CLOSES, KINDS, UNANSWERED, Run
 from saxtegun.sessions import Entry, Sessions
@@ -62,7 +62,7 @@ class Levels:
     """The levels of a session, one after the other."""
 
     def __init__(self, labels: Labels) -> None:
-        self.follower = Follower(labels)
+        self.labels = labels
         self.text: Optional[str] = None
         self.cells: Optional[Sequence[int]] = None
         self.width = 0
@@ -72,7 +72,7 @@ class Levels:
         that is its text, or the beginning of a long one, and of one with more cells than any that is played its sides: a browser would read it for long."""
         if text == self.text:
             return 0
-        cells, before, width = self.follower.read(text), self.cells, self.width
+        cells, before, width = read_cells(text, self.labels), self.cells, self.width
         self.text, self.cells = text, cells
         if cells is None:
             return {"text": text if len(text) <= MOST_OF_A_LEVEL else begin_of(text)}
