@@ -17,7 +17,7 @@ from pathlib import Path
 from typing import Any, Dict, List, Mapping, Optional, Tuple
 
 from day import lines_of_example
-from test_release import DESCRIBER, MODULE, PROGRAM, SOLVER, STAND_IN, clone, git, make, put, sum_of
+from test_release import BUILT, STAND_IN, clone, git, make, put, sum_of
 from tool import TOP
 from saxtegun.programs import describer_words, environment_of
 
@@ -378,7 +378,7 @@ class InACi(unittest.TestCase):
         for runner in runners:
             release = runner.work / f"saxtegun-{self.version}-linux-x86_64"
             for path in ("argparse.py", "python/argparse.py", "python/pathlib.py", "python/saxtegun/commands/__init__.py", "saxtegun"):
-                put(release / path, b"#!/usr/bin/env python3\nraise SystemExit(0)\n")
+                put(release / path, b"#!/usr/bin/env python3\nraise SystemExit(0)\n", 0o755)
             shutil.copy(release / "argparse.py", runner.work)
             (runner.work / "archive.tar.gz").symlink_to(kept)
         by_script = runners[0].run({"run": "\n".join(job["script"])})
@@ -443,14 +443,13 @@ class InACi(unittest.TestCase):
         file = next(it for it in files_of_page() if it.get("name") == "release")
         runner = self.runner({"secrets.TARGET_TOKEN": "token"}, file["env"])
         top = clone(runner.work / "saxtegun", self.clone)
-        put(top / PROGRAM, STAND_IN.program)
-        put(top / DESCRIBER, STAND_IN.describer)
-        put(top / SOLVER, STAND_IN.solver)
-        put(top / MODULE, STAND_IN.module)
-        put(top / "out/gate-passed", f"commit {git(top, 'rev-parse', 'HEAD')}\n{sum_of(STAND_IN.program)}  {PROGRAM}\n{sum_of(STAND_IN.describer)}  {DESCRIBER}\n{sum_of(STAND_IN.solver)}  {SOLVER}\n{sum_of(STAND_IN.module)}  {MODULE}\n".encode())
+        for path, content in zip(BUILT, STAND_IN):
+            put(top / path, content)
+        sums = "".join(f"{sum_of(content)}  {path}\n" for path, content in zip(BUILT, STAND_IN))
+        put(top / "out/gate-passed", f"commit {git(top, 'rev-parse', 'HEAD')}\n{sums}".encode())
         # what an earlier release left on the machine
         put(top / "release/saxtegun-0.0.1-linux-x86_64.tar.gz", b"old")
-        put(runner.room / "bin/gh", b'#!/bin/sh\necho "$GH_TOKEN" "$@"\n')
+        put(runner.room / "bin/gh", b'#!/bin/sh\necho "$GH_TOKEN" "$@"\n', 0o755)
         runner.env["PATH"] = f"{runner.room}/bin:{runner.env['PATH']}"
         made, published = [runner.run(step) for step in file["jobs"]["release"]["steps"] if "run" in step]
         self.assertEqual((made[0], published[0]), (0, 0), made)

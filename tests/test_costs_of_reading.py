@@ -280,11 +280,10 @@ READ = f"""
 import sys
 from resource import RLIMIT_AS, setrlimit
 from saxtegun.recording_search import find
-from saxtegun.verbs.split import entries_in
 setrlimit(RLIMIT_AS, ({MOST_BYTES}, {MOST_BYTES}))
 read, before, piece, behind = sys.argv[1:]
 text = before + piece * ({LONG} // len(piece)) + behind
-find(text) if read == "find" else entries_in(text, {LONG})
+find(text)
 """
 
 
@@ -341,9 +340,6 @@ class Memory(unittest.TestCase):
         for what, text in ROUNDS.items():
             with self.subTest(what):
                 self.assert_read("find", *text)
-
-    def test_what_is_split_is_not_held_twice(self) -> None:
-        self.assert_read("split", "[", "[],", "[]]")
 
 
 class Counting(Finder):

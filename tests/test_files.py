@@ -72,7 +72,7 @@ class Sizes(OnSessions):
         for verb, words in (("testdata", [text]), ("add", [self.room / "new.json", text]), ("test", [text, EXAMPLE]), ("play", [text])):
             with self.subTest(verb):
                 self.assert_refused(run(verb, *words), f"{text} has more than 64 MiB, and is not read")
-        self.assert_refused(run("split", whole, "2", self.room / "parts"), "has more than 1024 MiB, and is not read")
+        self.assert_refused(run("split", whole, "2", self.room / "parts"), "has more than 256 MiB, and is not read")
 
     def test_no_more_is_read_of_a_stream(self) -> None:
         self.assert_refused(run("test", "-", stdin=b" " * (MOST_BYTES + 1)), "- has more than 16 MiB: play it in parts, by saxtegun split")

@@ -62,7 +62,8 @@ class Mutated(OnSessions):
             "game.txt": entries[0][1][0].encode(),
             "bare.json": json.dumps([[name, ["", *rest]] for name, [_, *rest] in entries]).encode(),
             "console.txt": b"".join(json.dumps(it).encode() + b",\n" for it in entries),
-            "parts/parts.txt": b'{"first": 0, "names": ["%b"]}\n{"first": 1, "names": ["%b"]}\n{"sessions": 2, "solved": 0}\n' % tuple(it[0].encode() for it in entries),
+            "parts/00000000.json": json.dumps(entries[:1]).encode(),
+            "parts/00000001.json": json.dumps(entries[1:2]).encode(),
             "parts/00000000.lines": of[3].replace(b'"session":3}', b'"session":0}'),
             "parts/00000001.lines": of[4].replace(b'"session":4}', b'"session":0}'),
             "shown": run,
@@ -113,7 +114,7 @@ class Mutated(OnSessions):
             "l": [*of_both, "junit l", "compare l shown", "compare shown l s.json --report page"],
             "game.txt": ["source game.txt s.json"],
             "console.txt": ["testdata console.txt"],
-            "parts/parts.txt": ["join parts"],
+            "parts/00000001.json": ["join parts"],
             "parts/00000000.lines": ["join parts"],
             "parts/00000001.lines": ["join parts"],
         }

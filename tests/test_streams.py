@@ -56,8 +56,6 @@ class OnStreams(OnSessions):
         self.tell_stages(b'{"changed":false,"commands":[],"headings":[],"input":1,"level":"background:0,","stage":"end","tick":0}\n')
         parts = self.room / "parts"
         parts.mkdir()
-        names = [it[0] for it in json.loads(EXAMPLE.read_text(encoding="utf-8"))]
-        (parts / "parts.txt").write_text(json.dumps({"first": 0, "names": names}) + "\n" + json.dumps({"sessions": len(names), "solved": 0}) + "\n")
         (parts / "00000000.lines").write_bytes(self.lines.read_bytes())
         (parts / "00000000.json").write_bytes(EXAMPLE.read_bytes())
         played = ["--program", self.program]

@@ -6,12 +6,11 @@ are the lines of the part's sessions, numbered from 0.
 from __future__ import annotations
 
 import json
-import os
 import re
 import unittest
 from itertools import accumulate
 from pathlib import Path
-from typing import Any, List
+from typing import List
 
 from tool import TOP, Answer, InARoom, case_named, run
 
@@ -60,14 +59,6 @@ class Suite(InARoom):
         self.assertEqual(answer.status, 2)
         self.assertIn(what, answer.errors)
 
-    def test_a_name_is_told_cut(self) -> None:
-        names = ["a" * 300, "b" * 300]
-        self.assertEqual(self.split(1, json.dumps([[names[0], ["OBJECTS", [], ""]]])).status, 0)
-        (self.parts / "00000000.lines").write_text(json.dumps({"cause": "Missing:0", "close": "refused", "frames": 0, "name": names[1], "session": 0}, separators=(",", ":")) + "\n", encoding="utf-8")
-        answer = run("join", self.parts)
-        self.assertEqual((answer.status, answer.out), (2, ""))
-        self.assertIn(f"closes '{'b' * 200}..', where '{'a' * 200}..' is wanted", answer.errors)
-
     def test_the_joined_lines_are_those_of_the_whole_file(self) -> None:
         for name in SUITES:
             for count in (1, 2, 3, 4, 100):
@@ -90,36 +81,6 @@ class Suite(InARoom):
         whole = self.split_a_day(2, 4)
         answer = run("join", self.parts)
         self.assertEqual((answer.status, answer.out, answer.errors), (0, whole, ""))
-
-    def test_lines_of_other_sessions_of_the_same_names_are_reported(self) -> None:
-        """Of another part, of one that was played before its sessions were others, and of what nobody played."""
-        [[_, body]] = json.loads((TOP / "examples/day/recordings.json").read_text(encoding="utf-8"))[:1]
-        line = (TOP / "examples/day.lines").read_text(encoding="utf-8").splitlines()
-        shown = part_lines("\n".join(line) + "\n", 0, 1)
-        name = json.loads(shown.splitlines()[-1])["name"]
-        played = [name, body]
-        for entries, lines, what in (
-            ([played, [name, [body[0], body[1], "other:0,\n"]]], (shown, shown), "00000001.lines, line "),
-            ([played, [name, [body[0], [*body[1], 0], body[2]]]], (shown, shown), "shows nothing of input"),
-            ([played, played], (shown, f'{{"close":"passed","frames":0,"name":{json.dumps(name)},"session":0}}\n'), "line 1: no close of a session of 0 frames"),
-        ):
-            with self.subTest(what):
-                self.parts = self.room / what
-                self.assertEqual(self.split(2, json.dumps(entries)).status, 0)
-                for file, text in zip(self.files(), lines):
-                    file.with_suffix(".lines").write_text(text, encoding="utf-8")
-                self.assert_refused(run("join", self.parts), what)
-
-    def test_a_part_with_other_sessions_than_it_was_split_into_is_reported(self) -> None:
-        self.split_a_day(2)
-        file = self.files()[1]
-        text = file.read_text(encoding="utf-8")
-        file.unlink()
-        self.assert_refused(run("join", self.parts), f"{file.name} is missing")
-        file.write_text(self.files()[0].read_text(encoding="utf-8"), encoding="utf-8")
-        self.assert_refused(run("join", self.parts), f"{file.name} has other sessions than parts.txt names: split the sessions again")
-        file.write_text(text, encoding="utf-8")
-        self.assertEqual(run("join", self.parts).status, 1)
 
     def test_parts_are_consecutive(self) -> None:
         entries = json.loads(case_named(SUITES[0]).input)
@@ -152,7 +113,7 @@ class Suite(InARoom):
         whole = json.dumps([["a", ["", [], ""]]])
         for text in (f"{whole}\n{whole}", "[]x", "[] []"):
             with self.subTest(text=text):
-                self.assert_refused(self.split(1, text), "is no JSON list: more stands behind the list")
+                self.assert_refused(self.split(1, text), "is no JSON list: Extra data")
         self.assertEqual(self.split(1, f" {whole} \n").status, 0)
 
     def test_what_is_no_list_is_not_split(self) -> None:
@@ -162,25 +123,9 @@ class Suite(InARoom):
                 self.assertFalse(self.parts.exists())
 
     def test_a_part_is_no_larger_than_a_file_may_be(self) -> None:
-        self.assert_refused(self.split(1, f"[{','.join('0' * 65537)}]"), "more parts")
+        self.assert_refused(self.split(1, f"[{','.join('0' * 65537)}]"), "the part from session 0 on is larger than a file may be: ask for more parts")
         entry = f'["{"x" * 10_000_000}"]'
         self.assert_refused(self.split(1, f"[{entry}, {entry}]"), "the part from session 0 on is larger than a file may be: ask for more parts")
-
-    def test_what_can_not_be_split_is_not_read_to_its_end(self) -> None:
-        text = f"[{'0,' * 131_072}0, and what is no list"
-        self.assert_refused(self.split(2, text), "there are more than 131,072 sessions, and a part has at most 65,536: ask for more parts")
-        self.assert_refused(self.split(3, text), "is no JSON list")
-
-    def test_what_was_split_is_joined_however_long_its_names_are(self) -> None:
-        """parts.txt has six letters for each of these, and so more than any other text that is read."""
-        names = [str(it) + "\u00e4" * 2_000_000 for it in range(6)]
-        self.assertEqual(self.split(2, json.dumps([[it, ["", [], ""]] for it in names], ensure_ascii=False)).status, 0)
-        self.assertGreater((self.parts / "parts.txt").stat().st_size, 2**26)
-        closes = [{"cause": "NoSource:0", "close": "refused", "frames": 0, "name": it, "session": number} for number, it in enumerate(names)]
-        whole = "".join(json.dumps(it, ensure_ascii=False, separators=(",", ":")) + "\n" for it in closes)
-        self.play(whole)
-        joined = run("join", self.parts)
-        self.assertEqual((joined.errors, joined.status, joined.out == whole), ("", 1, True))
 
     def test_a_folder_that_is_there_is_left_alone(self) -> None:
         self.parts.mkdir()
@@ -191,7 +136,7 @@ class Suite(InARoom):
         self.split_and_play(SUITES[0], 3)
         missing = self.files()[1].with_suffix(".lines")
         missing.unlink()
-        self.assert_refused(run("join", self.parts), f"{missing.name} is missing")
+        self.assert_refused(run("join", self.parts), f"{missing.name} can't be read: No such file")
 
     def test_a_part_that_was_cut_off_is_reported(self) -> None:
         """Within its last session, or behind the one before."""
@@ -201,7 +146,7 @@ class Suite(InARoom):
         within = lines.read_text().splitlines(keepends=True)[:-1]
         before = [it for it in within if f'"session":{sessions - 1}}}' not in it]
         self.assertLess(len(before), len(within))
-        for left, what in ((within, f"the lines end within session {sessions - 1}"), (before, f"closes {sessions - 1} of {sessions} sessions")):
+        for left, what in ((within, f"the lines end within session {sessions - 1}"), (before, "closes other sessions than")):
             lines.write_text("".join(left))
             self.assert_refused(run("join", self.parts), what)
 
@@ -238,66 +183,8 @@ class Suite(InARoom):
 
     def test_a_part_that_is_gone_is_reported(self) -> None:
         self.split_and_play(SUITES[0], 9)
-        for file in (self.files()[3].with_suffix(".lines"), self.files()[3]):
-            file.unlink()
-        self.assert_refused(run("join", self.parts), "00000003.lines is missing")
-
-    def test_a_part_of_another_suite_is_reported(self) -> None:
-        self.split_and_play(SUITES[0], 9)
-        (self.parts / "00000010.lines").write_text("")
-        self.assert_refused(run("join", self.parts), "is of no part")
-
-    def test_a_part_that_has_not_been_played_and_is_not_named_is_reported(self) -> None:
-        """The end of parts.txt is lost with the lines of the last part, whose sessions are there still."""
-        self.split_and_play(SUITES[0], 9)
-        self.without_lines(8)
-        self.files()[8].with_suffix(".lines").unlink()
-        self.change_last_line({"sessions": 8, "solved": 0})
-        self.assert_refused(run("join", self.parts), "00000008.json is of no part")
-        (self.parts / "00000008.json").rename(self.parts / "notes.json")
-        self.assertEqual(run("join", self.parts).status, 1)
-
-    def test_a_manifest_without_its_end_is_reported(self) -> None:
-        """Also where all that it doesn't name is gone, and where it is of an older split."""
-        self.split_and_play(SUITES[0], 9)
-        self.without_lines(9)
-        for way in ("of an older split", "cut off"):
-            with self.subTest(way):
-                answer = run("join", self.parts)
-                self.assert_refused(answer, "doesn't end with the number of its sessions: it is cut off, or of an older saxtegun split; split the sessions again")
-                self.assertEqual(answer.out, "")
-            self.without_lines(8)
-            for ending in ("lines", "json"):
-                (self.parts / f"00000008.{ending}").unlink(missing_ok=True)
-
-    def test_a_manifest_that_names_other_sessions_than_it_counts_is_reported(self) -> None:
-        self.split_and_play(SUITES[0], 9)
-        for count, what in ((8, "names 9 sessions where it counts 8"), (10, "names 9 sessions where it counts 10")):
-            self.change_last_line({"sessions": count, "solved": 0})
-            self.assert_refused(run("join", self.parts), what)
-        for end in (*({"sessions": it, "solved": 0} for it in (9.0, "9", None, [9])), {"sessions": 9}, {"sessions": 9, "solved": "0"}):
-            self.change_last_line(end)
-            self.assert_refused(run("join", self.parts), "doesn't end with the number of its sessions")
-
-    def test_a_number_that_is_not_whole_is_no_first_session(self) -> None:
-        for first in (0.0, -0.0, False, "0", None):
-            with self.subTest(first):
-                self.parts = self.room / repr(first)
-                self.split_and_play(SUITES[0], 1)
-                manifest = self.parts / "parts.txt"
-                manifest.write_text(manifest.read_text().replace('"first": 0,', f'"first": {json.dumps(first)},'))
-                self.assert_refused(run("join", self.parts), "line 1: not the part that begins with session 0")
-
-    def without_lines(self, count: int) -> None:
-        """Cuts the manifest behind so many lines."""
-        manifest = self.parts / "parts.txt"
-        manifest.write_text("".join(manifest.read_text().splitlines(keepends=True)[:count]))
-
-    def change_last_line(self, value: Any) -> None:
-        """Puts a value in place of the number of sessions, or behind the parts where there is none."""
-        manifest = self.parts / "parts.txt"
-        lines = [it for it in manifest.read_text().splitlines() if "first" in it]
-        manifest.write_text("".join(f"{it}\n" for it in [*lines, json.dumps(value)]))
+        (self.parts / "00000003.json").unlink()
+        self.assert_refused(run("join", self.parts), "the part that begins with session 3 is missing: 00000004.json is there")
 
     def test_swapped_parts_are_reported(self) -> None:
         names = "[" + ",".join(json.dumps([name, ["", [], ""]]) for name in "abcd") + "]"
@@ -309,40 +196,12 @@ class Suite(InARoom):
         text = one.read_bytes()
         one.write_bytes(other.read_bytes())
         other.write_bytes(text)
-        self.assert_refused(run("join", self.parts), "these are lines of another part")
-
-    def test_two_parts_are_never_one_file(self) -> None:
-        self.split_and_play(SUITES[0], 3)
-        self.assertIn(run("join", self.parts).status, (0, 1))
-        for ending in ("json", "lines"):
-            one, other = (self.files()[it].with_suffix(f".{ending}") for it in (0, 1))
-            for is_hard in (False, True):
-                text = other.read_bytes()
-                other.unlink()
-                if is_hard:
-                    os.link(one, other)
-                else:
-                    os.symlink(one, other)
-                self.assert_refused(run("join", self.parts), f"{other.name} is the same file as {one}")
-                other.unlink()
-                other.write_bytes(text)
-
-    def test_a_part_without_sessions_is_read_once_at_most(self) -> None:
-        self.split_and_play(SUITES[0], 3)
-        manifest = self.parts / "parts.txt"
-        manifest.write_text('{"first": 0, "names": []}\n' + manifest.read_text())
-        self.assert_refused(run("join", self.parts), "parts.txt, line 1: a part without sessions, which is there only where it is the whole")
-
-    def test_a_manifest_that_is_cut_is_reported(self) -> None:
-        self.split_and_play(SUITES[0], 3)
-        manifest = self.parts / "parts.txt"
-        manifest.write_text("".join(manifest.read_text().splitlines(keepends=True)[1:]))
-        self.assert_refused(run("join", self.parts), "not the part that begins with session 0")
+        self.assert_refused(run("join", self.parts), "closes other sessions than 00000000.json has")
 
     def test_a_folder_without_parts_is_reported(self) -> None:
         self.parts.mkdir()
         self.assert_refused(run("join", self.parts), "has no parts")
-        self.assert_refused(run("join", self.room / "nothing"), "is no folder")
+        self.assert_refused(run("join", self.room / "nothing"), "has no parts")
 
     def test_what_can_not_be_split_is_reported_in_a_line(self) -> None:
         for words in ((self.room / "nothing", 2, self.parts), (self.room, 2, self.parts), (self.room, 0, self.parts), (self.room, "x", self.parts)):
