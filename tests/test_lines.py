@@ -2,15 +2,13 @@
 from __future__ import annotations
 
 import json
-import os
 import random
-import signal
 import subprocess
 import sys
 import unittest
 import unittest.mock
 from pathlib import Path
-from time import monotonic, sleep
+from time import monotonic
 from typing import Tuple
 
 from day import EXAMPLE, OnSessions
@@ -19,7 +17,6 @@ from saxtegun.lines import READER, frame_of, written_frame
 from saxtegun import command_line
 from saxtegun.playing import Engine, Late, lines_within, refusal
 from saxtegun.sessions import read_sessions, sessions_in
-from saxtegun.verbs.lines import Closed, Tally
 
 RUN = TOP / "conformance/run"
 
@@ -37,7 +34,7 @@ class Lines(OnSessions):
 
     def test_standard_input_is_handed_on(self) -> None:
         came = self.room / "came"
-        program = self.program(f'[ "$*" = "--order columns" ] || exit 7\ncat >{came}\ncat {self.lines}')
+        program = self.program(f'[ "$*" = "--order columns" ] || exit 7\ncat >{came}\ncat {self.lines}\nexit 1')
         for words in ((), ("-",)):
             answer = run("lines", *words, "--program", program, stdin=EXAMPLE.read_bytes())
             self.assertEqual((answer.status, answer.out, answer.errors), (1, self.lines.read_text(encoding="utf-8"), ""))
@@ -54,52 +51,13 @@ class Lines(OnSessions):
         self.assertEqual(refusal("bad-level 0", "s.json", alone), "s.json was not played: the recorded level of session 1 (b) is no level text (bad-level 1)")
         self.assert_refused(run("lines", EXAMPLE, "--program", self.program("kill -9 $$")), "was not played: nothing is told")
 
-    def test_what_an_ended_program_has_left_behind_is_not_waited_for(self) -> None:
-        """It holds the pipe from a session of its own, in which nobody ends it, and may write into it without an end."""
-        holds = f"os.setsid(); open({str(self.room / 'left')!r}, 'w').write(str(os.getpid())); time.sleep(600)"
-        writes = "os.setsid()\n    while True: os.write(1, b'x' * 1000)"
-        for act, status in ((holds, 1), (writes, 2)):
-            program = self.write("program", f"#!{sys.executable}\nimport os, sys, time\nsys.stdout.write(open({str(self.lines)!r}).read())\nsys.stdout.flush()\nif os.fork() == 0:\n    {act}\n    os._exit(0)\nos._exit(1)\n")
-            program.chmod(0o755)
-            for words in ((), ("--timeout", "10")):
-                answer = run("lines", EXAMPLE, "--program", program, *words)
-                self.assertEqual((answer.status, answer.out.startswith(self.lines.read_text(encoding="utf-8"))), (status, True))
-                if act is holds:
-                    self.end_what_is_left()
-
-    def end_what_is_left(self) -> None:
-        """Ends what a program has left behind, which is there still, since nobody waited for it."""
-        left = self.room / "left"
-        while not (left.exists() and left.read_text()):
-            sleep(0.02)
-        os.kill(int(left.read_text()), signal.SIGKILL)
-        left.unlink()
-
-    def test_a_program_that_hangs_and_leaves_something_behind_is_stopped_in_its_time(self) -> None:
-        left = f"os.setsid(); open({str(self.room / 'left')!r}, 'w').write(str(os.getpid()))"
-        program = self.write("program", f"#!{sys.executable}\nimport os, time\nif os.fork() == 0: {left}\ntime.sleep(600)\n")
-        program.chmod(0o755)
-        self.assert_refused(run("lines", EXAMPLE, "--program", program, "--timeout", "1"), "not answered in 1 s")
-        self.end_what_is_left()
+    def test_a_program_that_hangs_is_stopped_in_its_time(self) -> None:
+        self.assert_refused(run("lines", EXAMPLE, "--program", self.program("exec sleep 1000"), "--timeout", "1"), "not answered in 1 s")
 
     def test_what_is_said_while_building_is_handed_on(self) -> None:
         answer = run("lines", EXAMPLE, "--program", self.program('echo "proving a; 1 left" >&2\necho "memory" >&2\nexit 2'))
         self.assertEqual(answer.errors.splitlines()[0], "proving a; 1 left")
         self.assertIn("there is not enough memory", answer.errors)
-
-
-    def test_a_session_that_is_closed_as_played_and_shows_no_frame_was_not_played(self) -> None:
-        """Also where the close says that there were some."""
-        sessions = self.write("s.json", '[["a",["x",[],"a:0,"]],["b",["",[],"a:0,"]]]')
-        frame, close = '{"at":0,"frame":0,"kind":"start","level":"a:0,","session":0}', '{"close":"passed","frames":1,"name":"%s","session":%d}'
-        game = self.write("game.txt", "title A\n")
-        for lines in ([close % ("a", 0), close % ("b", 1)], [frame, close % ("a", 0), close % ("b", 1)]):
-            program = self.program("".join(f"echo '{it}'\n" for it in lines))
-            for words in ((), ("--game", game)):
-                answer = run("lines", sessions, "--program", program, *words)
-                self.assertEqual((answer.status, answer.out.splitlines()), (2, lines))
-                self.assertIn("that the program closes as played ha", answer.errors)
-
 
     def test_the_time_is_for_all_that_is_played_over_a_game(self) -> None:
         """Which may be more than the program takes at once."""
@@ -119,61 +77,6 @@ class Lines(OnSessions):
             with unittest.mock.patch("sys.argv", ["saxtegun", *words]), unittest.mock.patch("saxtegun.command_line.serve") as serve:
                 command_line.call()
             self.assertEqual(serve.call_args[0][2], is_data, words)
-
-    def test_lines_of_no_frame_and_no_close_are_no_success(self) -> None:
-        sessions, game = self.write("s.json", '[["a",["",[],"a:0,"]]]'), self.write("game.txt", "title A\n")
-        lines = '{"at":0,"frame":0,"kind":"start","level":"a:0,","session":0}', '{"close":"passed","frames":1,"name":"a","session":0}'
-        for strange in ("::error::x", ' {"close":"differs","frames":1,"name":"a","session":0}'):
-            program = self.program("".join(f"echo '{it}'\n" for it in (lines[0], strange, lines[1])))
-            answer = run("lines", sessions, "--program", program)
-            self.assertEqual((answer.status, answer.out.splitlines()), (2, [lines[0], strange, lines[1]]))
-            self.assertIn("s.json was not played: the program writes 1 line of no frame and no close\n", answer.errors)
-            self.assertEqual(run("lines", sessions, "--game", game, "--program", program).status, 2)
-        program = self.program("".join(f"echo '{it}'\n" for it in lines))
-        for words in ((), ("--game", game)):
-            self.assertEqual(run("lines", sessions, "--program", program, *words).status, 0)
-
-    def test_a_status_that_says_otherwise_than_the_lines_is_no_success(self) -> None:
-        sessions, game = self.write("s.json", '[["a",["",[],"a:0,"]]]'), self.write("game.txt", "title A\n")
-        lines = '{"at":0,"frame":0,"kind":"start","level":"a:0,","session":0}', '{"close":"passed","frames":1,"name":"a","session":0}'
-        program = self.program("".join(f"echo '{it}'\n" for it in lines) + "exit 1")
-        self.assertEqual(run("lines", sessions, "--program", program).status, 1)
-        answer = run("lines", sessions, "--game", game, "--program", program)
-        self.assertEqual((answer.status, answer.out.splitlines()), (2, [*lines]))
-        self.assertIn("s.json was not played: the program ended with status 1, and each session passed by its lines\n", answer.errors)
-
-
-class Tallies(unittest.TestCase):
-    LINES = (
-        b'{"at":0,"frame":0,"kind":"start","level":"","session":0}\n{"close":"passed","frames":1,"name":"{\\"close\\":","session":0}\n{"cause":"no-level","close":"refused","frames":0,"name":"","session":1}\n'
-        b'{"close":"differs","frames":3,"name":"c","session":2}\n{"at":0,"frame":0,"kind":"start","level":"","session":3}\n{"at":1,"frame":1,"kind":"move","level":"","session":3}\n'
-        b'{"close":"passed","frames":2,"name":"d","session":3}\n{"close":"passed","frames":0,"name":"e","session":4}\n'
-    )
-
-    def test_lines_are_counted_wherever_they_are_cut(self) -> None:
-        for size in (1, 2, 3, 7, 39, 40, 41, 100, len(self.LINES)):
-            tally = Tally()
-            for at in range(0, len(self.LINES), size):
-                tally.take(self.LINES[at : at + size])
-            self.assertEqual(tally.closed(), Closed(last=5, closes=5, ordered=5, passed=3, unshown=2, strange=0), size)
-
-    def test_lines_that_begin_otherwise_are_counted_wherever_they_are_cut(self) -> None:
-        lines = [b"::error::x\n", b"\n", b' {"close":"differs","frames":1,"name":"a","session":0}\n', b'{"at" :0}\n', b"{", b'{"level":"","session":0}\n', b"x" * 100]
-        whole = b"".join(self.LINES.splitlines(True)[0] + it for it in lines).replace(b"{{", b"{\n{")
-        for size in (1, 2, 3, 7, 39, 40, 41, 100, len(whole)):
-            tally = Tally()
-            for at in range(0, len(whole), size):
-                tally.take(whole[at : at + size])
-            self.assertEqual(tally.closed().strange, len(lines), size)
-
-    def test_closes_of_one_session_alone_are_not_those_of_all(self) -> None:
-        tally, close = Tally(), b'{"close":"passed","frames":1,"name":"x","session":%d}\n'
-        tally.take(close % 1 + close % 1)
-        self.assertEqual(tally.closed(), Closed(last=2, closes=2, ordered=0, passed=2, unshown=2, strange=0))
-        self.assertFalse(tally.closed().is_whole(2))
-        tally = Tally()
-        tally.take(close % 0 + close % 1)
-        self.assertTrue(tally.closed().is_whole(2))
 
 
 class Frames(unittest.TestCase):
