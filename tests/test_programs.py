@@ -105,16 +105,12 @@ class Programs(InAFreshClone):
         strange = self.room / "stranger"
         self.put(strange / "node", f"#!/bin/sh\ntouch {self.room}/ran\necho v22.0.0\n")
         self.put(strange / "bin/node", f"#!/bin/sh\ntouch {self.room}/ran\necho v22.0.0\n")
-        why = "isn't taken, since another folder would have another: write the entry in full"
-        for entry, told in ((".", "the relative entry '.'"), ("", "an empty entry, which is the current folder"), ("bin", "the relative entry 'bin'"), ("./bin", "the relative entry './bin'")):
-            for path in (f"{entry}:/none", f"/none:{entry}"):
-                with self.subTest(path):
-                    errors = f"saxtegun lines: the program is not built here, and there is no Node; the one that PATH names by {told} {why}: {HOW}"
-                    self.assertEqual(self.called("lines", self.empty, path=path, folder=strange), (2, "", errors))
-            with self.subTest(entry):
-                self.node("v20.0.0")
-                self.assertEqual(self.called("lines", self.empty, path=f"{entry}:{self.path}", folder=strange)[::2], (0, f"saxtegun: {PLAYED}20.0.0\n"))
-        self.assertEqual(self.called("lines", self.empty, path="", folder=strange)[0], 2)
+        errors = f"saxtegun lines: the program is not built here, and there is no Node: {HOW}"
+        for path in (".:/none", "/none:", "bin:/none", ""):
+            with self.subTest(path):
+                self.assertEqual(self.called("lines", self.empty, path=path, folder=strange), (2, "", errors))
+        self.node("v20.0.0")
+        self.assertEqual(self.called("lines", self.empty, path=f".:{self.path}", folder=strange)[::2], (0, f"saxtegun: {PLAYED}20.0.0\n"))
         self.assertFalse((self.room / "ran").exists())
 
     def test_a_node_that_is_too_old_is_reported(self) -> None:
@@ -181,13 +177,6 @@ class Programs(InAFreshClone):
         self.put(self.top / "dev/build", '#!/bin/sh\necho "[${PYTHONPATH-}${PYTHONHOME-}]"\nexit 2\n')
         ran = subprocess.run([self.top / "replay", self.empty], env={"PATH": "/usr/bin:/bin", "PYTHONPATH": ":/none", "PYTHONHOME": "."}, stdout=subprocess.PIPE, stderr=subprocess.PIPE)
         self.assertEqual((ran.returncode, ran.stdout), (2, b"[]\n"))
-
-    def test_node_reads_nothing_of_a_folder_before_our_functions(self) -> None:
-        self.release()
-        told = {"NODE_OPTIONS": "--require ./setup.cjs", "NODE_PATH": ".", "NODE_COMPILE_CACHE": "."}
-        self.put(self.path / "node", '#!/bin/sh\nfound="$NODE_OPTIONS$NODE_PATH$NODE_COMPILE_CACHE"\nif test "$1" = --version; then test -z "$found" && echo v20.0.0; else echo "$found."; fi\n')
-        with unittest.mock.patch.dict(os.environ, told):
-            self.assertEqual(self.called("lines", self.empty), (0, ".\n", f"saxtegun: {PLAYED}20.0.0\n"))
 
     def test_comparing_and_shrinking_begin_no_build(self) -> None:
         self.put(self.top / "replay", f'#!/bin/sh\ntouch {self.room}/began\nexit 2\n')

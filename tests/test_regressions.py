@@ -1,13 +1,11 @@
 """`saxtegun test` in a git folder: where a session that broke parts from the committed text, and that a hostile repository runs nothing."""
 from __future__ import annotations
 
-import hashlib
 import json
 import os
 import shutil
 import subprocess
 import unittest
-import zlib
 from pathlib import Path
 from time import sleep
 from typing import Any, Iterator, Sequence, Tuple
@@ -211,36 +209,6 @@ class Hostile(InAGitFolder):
                 git(self.room, "cat-file", "blob", "HEAD:./game.txt")
                 self.assertTrue(trace.exists(), "the trap isn't set")
                 trace.unlink()
-
-    def test_no_protocol_is_allowed(self) -> None:
-        """A protocol may have any name, also none: a program of that name speaks it."""
-        for name in ("none", ""):
-            program, trace = self.hacks("speak")
-            program.rename(self.room / f"git-remote-{name}")
-            for environment, is_trapped in ({"GIT_ALLOW_PROTOCOL": regressions.OFFLINE["GIT_ALLOW_PROTOCOL"]}, False), ({"GIT_ALLOW_PROTOCOL": name}, True):
-                words = ["git", "-C", str(self.room), "-c", "remote.origin.url=/x", "-c", f"remote.origin.vcs={name}", "fetch", "origin"]
-                subprocess.run(words, stdout=subprocess.PIPE, stderr=subprocess.PIPE, env={**os.environ, "PATH": f"{self.room}:{os.environ['PATH']}", **environment})
-                self.assertEqual(trace.exists(), is_trapped, name)
-            trace.unlink()
-
-    @unittest.skipUnless(regressions.BOUND, "there is no shell")
-    def test_a_commit_that_grows_takes_no_memory(self) -> None:
-        """A commit of some megabytes that is larger than the memory of git once it is read."""
-        piece, count = b" " * 2**20, regressions.MOST_MEMORY // 2**20
-        head = git(self.room, "cat-file", "commit", "HEAD").stdout
-        begin = b"commit %d\0" % (len(head) + count * len(piece)) + head
-        packer, digest = zlib.compressobj(1), hashlib.sha1(begin)
-        packed = packer.compress(begin)
-        for _ in range(count):
-            packed += packer.compress(piece)
-            digest.update(piece)
-        name = digest.hexdigest()
-        file = self.room / ".git/objects" / name[:2] / name[2:]
-        file.parent.mkdir(exist_ok=True)
-        file.write_bytes(packed + packer.flush())
-        self.assertEqual(committed_text(str(self.game)), self.source)
-        (self.room / ".git/HEAD").write_text(f"{name}\n", encoding="ascii")
-        self.assertIsNone(committed_text(str(self.game)))
 
     def test_the_time_is_that_of_all_answers(self) -> None:
         self.write("git", f"#!/bin/sh\n{shutil.which('sleep')} 0.4\necho 5\n").chmod(0o755)

@@ -70,7 +70,7 @@ def module_told(folder: Path) -> str:
 def version_of_node(node: str) -> str:
     """The version that Node tells; nothing where it tells none."""
     try:
-        told = subprocess.run([node, "--version"], stdin=subprocess.DEVNULL, stdout=subprocess.PIPE, stderr=subprocess.DEVNULL, env=of_our_own(), check=False).stdout
+        told = subprocess.run([node, "--version"], stdin=subprocess.DEVNULL, stdout=subprocess.PIPE, stderr=subprocess.DEVNULL, check=False).stdout
     except OSError:
         return ""
     found = re.match(rb"v(\d+\.\d+\.\d+)", told)
@@ -88,32 +88,9 @@ class Player(NamedTuple):
     told: str
 
 
-def whole_path() -> str:
-    """The entries of the path that are whole: what else there is depends on the folder, which may be a stranger's."""
-    return os.pathsep.join(filter(os.path.isabs, os.environ.get("PATH", os.defpath).split(os.pathsep)))
-
-
 def on_path(name: str) -> Optional[str]:
-    """A program on the path, of which the entries count that are whole."""
-    found = shutil.which(name, path=whole_path())
-    return found if found and os.path.isabs(found) else None
-
-
-def of_our_own() -> Dict[str, str]:
-    """The environment of Node where our own functions play, and of our own ./replay: what these call is looked for where the path is whole, or else where
-    programs are by rule, and nothing is read first that a variable names, since a folder of a stranger's may have it."""
-    names = {name: value for name, value in os.environ.items() if not name.startswith("NODE_") and name not in ("BASH_ENV", "ENV")}
-    return {**names, "PATH": whole_path() or os.defpath}
-
-
-def not_taken(name: str) -> str:
-    """Why a program isn't taken that is on the path: the entry that isn't whole and has it; nothing where there is none."""
-    entries = os.environ.get("PATH", os.defpath).split(os.pathsep)
-    entry = next((it for it in entries if not os.path.isabs(it) and shutil.which(name, path=it or os.curdir)), None)
-    if entry is None:
-        return ""
-    what = f"the relative entry {cut(entry)!r}" if entry else "an empty entry, which is the current folder"
-    return f"; the one that PATH names by {what} isn't taken, since another folder would have another: write the entry in full"
+    """A program on the path, but for what an entry names that isn't whole: that is in this folder, which may be a stranger's."""
+    return shutil.which(name, path=os.pathsep.join(filter(os.path.isabs, os.environ.get("PATH", os.defpath).split(os.pathsep))))
 
 
 def in_node() -> Player:
@@ -121,7 +98,7 @@ def in_node() -> Player:
     node = on_path("node")
     version = version_of_node(node) if node else ""
     if node is None or not version:
-        raise no_program(f"there is no Node{not_taken('node')}")
+        raise no_program("there is no Node")
     if int(version.partition(".")[0]) < OLDEST_NODE:
         raise no_program(f"Node {version} is too old to play")
     if not (RELEASED / MODULE).is_file():
@@ -137,9 +114,7 @@ def is_in_node(words: Sequence[str]) -> bool:
 def environment_of(words: Sequence[str]) -> Optional[Dict[str, str]]:
     """The environment in which a program is called: where our own functions play in Node, with the name of the released module; None for what there is. No other
     program is told of that module, since another release's functions, or those of a candidate, would take it for their own."""
-    if is_in_node(words):
-        return {**of_our_own(), "SAXTEGUN_MODULE": str(RELEASED / MODULE)}
-    return of_our_own() if os.path.realpath(words[0]) == os.path.realpath(BUILDS) else None
+    return {**os.environ, "SAXTEGUN_MODULE": str(RELEASED / MODULE)} if is_in_node(words) else None
 
 
 def player() -> Player:

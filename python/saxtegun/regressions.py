@@ -1,14 +1,13 @@
 """The last committed text of a game, and where sessions that broke since then part from what they showed over it.
 
 A folder of a stranger's may hold a repository with any configuration, so git is asked for one object alone: without hooks, filters, helpers, replaced objects
-or any transport, with nothing of what the environment says of git, and not for long, nor with much memory."""
+or any transport, with nothing of what the environment says of git, and not for long."""
 from __future__ import annotations
 
 import os
 import shutil
 import subprocess
 import tempfile
-from secrets import token_hex
 from time import monotonic
 from typing import Dict, List, NamedTuple, Optional, Sequence, Tuple
 
@@ -23,22 +22,15 @@ from saxtegun.stage_descriptions import Text
 from saxtegun.stage_divergence import Side, stage_divergence_of
 from saxtegun.texts import GameText, same_text
 
-# So long git may take for its answers on a text, with so many bytes of memory; and so many bytes a text has at most: no longer one is played.
+# So long git may take for its answers on a text; and so many bytes a text has at most: no longer one is played.
 SECONDS = 5.0
-MOST_MEMORY = 2**29
 MOST_BYTES = 2**20
 # Of so many sessions it is found out at which stage they part, and for so long at most.
 MOST_LED = 20
 SECONDS_TO_LEAD = 5.0
 SAFELY = ("--no-pager", "--no-optional-locks", "--no-replace-objects", "-c", "core.fsmonitor=", "-c", "core.hooksPath=/dev/null", "-c", "safe.bareRepository=explicit")
-# A shell that bounds its memory, in KiB, and then is what it is told, where there is one. The bound stands before git begins, which takes all at once.
-SHELL = "/bin/sh"
-BOUND = (SHELL, "-c", 'ulimit -v "$0"; exec "$@"', str(MOST_MEMORY // 1024)) if os.access(SHELL, os.X_OK) else ()
-# A pack that is longer than the memory is read in pieces.
-IN_PIECES = ("-c", "core.packedGitWindowSize=16m", "-c", "core.packedGitLimit=128m")
-# What is missing isn't fetched: a repository says itself how, by any command. The one protocol that is allowed has a name that no repository can know: where
-# none is, git takes the empty name for one. Git itself is named by its whole path, and finds nothing else that it might run.
-OFFLINE = {"GIT_ALLOW_PROTOCOL": token_hex(16), "GIT_NO_LAZY_FETCH": "1", "GIT_TERMINAL_PROMPT": "0", "GIT_EXEC_PATH": os.devnull, "PATH": os.devnull}
+# What is missing isn't fetched: a repository says itself how, by any command. Git itself is named by its whole path, and finds nothing else to run.
+OFFLINE = {"GIT_ALLOW_PROTOCOL": "none", "GIT_NO_LAZY_FETCH": "1", "GIT_TERMINAL_PROMPT": "0", "GIT_EXEC_PATH": os.devnull, "PATH": os.devnull}
 
 
 def asked(folder: str, words: Sequence[str], end: float) -> Optional[bytes]:
@@ -50,7 +42,7 @@ def asked(folder: str, words: Sequence[str], end: float) -> Optional[bytes]:
     scrubbed = {name: value for name, value in os.environ.items() if not name.startswith("GIT_")}
     with tempfile.TemporaryFile() as output:
         try:
-            with started([*BOUND, git, "-C", folder, *SAFELY, *IN_PIECES, *words], subprocess.DEVNULL, output, {**scrubbed, **OFFLINE}) as ran:
+            with started([git, "-C", folder, *SAFELY, *words], subprocess.DEVNULL, output, {**scrubbed, **OFFLINE}) as ran:
                 assert ran.stderr is not None
                 with ran.stderr:
                     ran.wait(max(end - monotonic(), 0))
