@@ -278,68 +278,6 @@ serve("done", lambda: 0)
 """
 
 
-# A command to which a signal comes where Python tidies up behind it, which tells of no exception.
-TIDIES = """
-import os, sys, time
-from saxtegun.commands import serve
-class Left:
-    def __del__(self):
-        os.kill(os.getpid(), int(sys.argv[1]))
-        os.getpid()
-def act():
-    Left()
-    time.sleep(20)
-    return 0
-serve("tidies", act)
-"""
-
-
-# A command in which a signal is caught by what catches all, and which takes its time to tidy up behind the next.
-DEAFENED = """
-import os, sys, time
-from saxtegun.commands import serve
-def act():
-    try:
-        os.kill(os.getpid(), int(sys.argv[1]))
-        time.sleep(20)
-    except BaseException:
-        pass
-    try:
-        time.sleep(20)
-    finally:
-        for _ in range(20):
-            time.sleep(0.02)
-        print("tidied up", flush=True)
-    return 0
-serve("deafened", act)
-"""
-
-
-# A command to which Ctrl-C comes soon behind what ends it: while it tidies up, and while what is still held is let go.
-HURRIED = """
-import gc, os, signal, sys, time
-from saxtegun.commands import serve
-class Left:
-    def __del__(self):
-        os.kill(os.getpid(), signal.SIGINT)
-        time.sleep(0.1)
-        print("let go", flush=True)
-def act():
-    held = Left()
-    held.itself = held
-    del held
-    try:
-        os.kill(os.getpid(), int(sys.argv[1]))
-        time.sleep(20)
-    finally:
-        os.kill(os.getpid(), signal.SIGINT)
-        time.sleep(0.1)
-        print("tidied up", flush=True)
-gc.disable()
-serve("hurried", act)
-"""
-
-
 # Begins the command, to which Ctrl-C comes as the first part of the package is read.
 BEGUN = """
 import os, runpy, signal, sys
@@ -386,27 +324,6 @@ class Done(unittest.TestCase):
                 words = [sys.executable, "-B", str(TOP / "saxtegun"), "lines", "--help"]
                 ran = subprocess.run(words, cwd=name, env={**os.environ, "PYTHONPATH": path}, stdin=subprocess.DEVNULL, capture_output=True)
                 self.assertEqual((ran.returncode, ran.stderr), (0, b""))
-
-    def test_who_presses_ctrl_c_behind_another_signal_sees_it_end_by_that(self) -> None:
-        for number in (signal.SIGTERM, signal.SIGHUP):
-            with self.subTest(number):
-                words = [sys.executable, "-B", "-c", HURRIED, str(int(number))]
-                ran = subprocess.run(words, cwd=TOP / "python", stdin=subprocess.DEVNULL, capture_output=True, preexec_fn=hear_signals, timeout=15)
-                self.assertEqual((ran.returncode, ran.stdout, ran.stderr), (-number, b"tidied up\nlet go\n", b""))
-
-    def test_a_signal_that_something_has_caught_comes_again_and_waits_for_what_tidies_up(self) -> None:
-        for number in (signal.SIGTERM, signal.SIGHUP):
-            with self.subTest(number):
-                words = [sys.executable, "-B", "-c", DEAFENED, str(int(number))]
-                ran = subprocess.run(words, cwd=TOP / "python", stdin=subprocess.DEVNULL, capture_output=True, preexec_fn=hear_signals, timeout=15)
-                self.assertEqual((ran.returncode, ran.stdout, ran.stderr), (-number, b"tidied up\n", b""))
-
-    def test_a_signal_that_nobody_has_heard_comes_again(self) -> None:
-        for number in (signal.SIGTERM, signal.SIGHUP, signal.SIGINT):
-            with self.subTest(number):
-                words = [sys.executable, "-B", "-c", TIDIES, str(int(number))]
-                ran = subprocess.run(words, cwd=TOP / "python", stdin=subprocess.DEVNULL, capture_output=True, preexec_fn=hear_signals, timeout=15)
-                self.assertEqual((ran.returncode, ran.stdout, ran.stderr), (2 if number == signal.SIGINT else -number, b"", b""))
 
     def test_a_signal_that_comes_behind_all_else_ends_it_without_a_word(self) -> None:
         for number in (signal.SIGTERM, signal.SIGHUP, signal.SIGINT):

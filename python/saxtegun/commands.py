@@ -27,8 +27,7 @@ BLANKS = re.compile(" {4,}")
 BLANK_LETTERS = frozenset("\u115f\u1160\u2800\u3164\uffa0")
 MOST_WORKERS = 64
 MOST_SECONDS = 1_000_000
-# What ends this process, or its terminal, in a way that it can still tidy up; and in so many seconds it comes again where nobody has heard it.
-SOON = 0.01
+# What ends this process, or its terminal, in a way that it can still tidy up.
 ENDING = tuple(getattr(signal, it) for it in ("SIGTERM", "SIGHUP") if hasattr(signal, it))
 
 
@@ -152,66 +151,14 @@ class Ended(BaseException):
 
 
 def end_by(number: int, frame: Any) -> NoReturn:
-    # whoever presses Ctrl-C behind that wants what comes anyway
+    # while this tidies up nothing ends it again
     for it in (*ENDING, signal.SIGINT):
         signal.signal(it, signal.SIG_IGN)
-    why = Ended(number)
-    come_again(lambda: not is_heard(why), why)
-    raise why
-
-
-def is_heard(why: BaseException) -> bool:
-    """Whether this is what is caught just now, or behind which is tidied up."""
-    caught = sys.exc_info()[1]
-    while caught is not None and caught is not why:
-        caught = caught.__context__
-    return caught is why
-
-
-def come_again(may_come: Callable[[], bool], why: BaseException) -> None:
-    """Lets what ends this process come once more, soon and whenever it may: where it came, nobody may have heard it."""
-
-    def come(number: int, frame: Any) -> None:
-        signal.setitimer(signal.ITIMER_REAL, SOON)
-        if may_come():
-            raise why
-
-    if hasattr(signal, "setitimer"):
-        signal.signal(signal.SIGALRM, come)
-        signal.setitimer(signal.ITIMER_REAL, SOON)
-
-
-def come_no_more() -> None:
-    """What ends this process has been heard. Nothing of it is held, so what stood still where it came can be tidied up."""
-    if hasattr(signal, "setitimer"):
-        signal.setitimer(signal.ITIMER_REAL, 0)
-        signal.signal(signal.SIGALRM, signal.SIG_IGN)
-
-
-def hear_again(unheard: Any) -> None:
-    """Lets Ctrl-C come once more where it came while Python tidied up behind itself, which tells of no exception; what else ends this process comes again anyway."""
-    why = unheard.exc_value
-    if isinstance(why, Ended) and hasattr(signal, "setitimer"):
-        return
-    if not isinstance(why, KeyboardInterrupt) or not hasattr(signal, "setitimer"):
-        sys.__unraisablehook__(unheard)
-        return
-
-    def is_behind() -> bool:
-        """Whether this is done by now, so that somebody may hear it: then it comes for the last time."""
-        frame: Any = sys._getframe()
-        while frame is not None and frame.f_code is not hear_again.__code__:
-            frame = frame.f_back
-        if frame is None:
-            come_no_more()
-        return frame is None
-
-    come_again(is_behind, why)
+    raise Ended(number)
 
 
 def listen_for_ends() -> None:
     """Lets what ends this process end what it has started, and take its folders away; but what it was told to ignore stays ignored."""
-    sys.unraisablehook = hear_again
     if signal.getsignal(signal.SIGINT) == signal.SIG_DFL:
         # as it stood while the package was read
         signal.signal(signal.SIGINT, signal.default_int_handler)
@@ -222,7 +169,6 @@ def listen_for_ends() -> None:
 
 def forget_ends() -> None:
     """Nothing is left to be tidied up: what ends this process ends it now without a word."""
-    come_no_more()
     for number in (*ENDING, signal.SIGINT):
         if signal.getsignal(number) in (end_by, signal.default_int_handler):
             signal.signal(number, signal.SIG_DFL)
@@ -267,14 +213,13 @@ def serve(name: str, main: Callable[[], int], is_data: bool = False) -> NoReturn
         status = status_of(name, main)
         forget_ends()
     except Ended as by:
-        come_no_more()
         number = by.number
     except KeyboardInterrupt:
         # behind the answer, or before there was any
         forget_ends()
         status = 2
     if number:
-        # what is still held is let go, and then this ends as it was told to
+        # what waits in the midst of reading takes its folder away, and then this ends as it was told to
         gc.collect()
         silence(sys.stdout, 1)
         signal.signal(number, signal.SIG_DFL)
