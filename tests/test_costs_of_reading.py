@@ -23,9 +23,8 @@ from saxtegun.explanations import told
 from saxtegun.descriptions import description_of, expected
 from saxtegun.games import Game
 from saxtegun.hangs import Finder, source_from, things_of
-from saxtegun.levelsets import drawn_columns, drawn_start, level_of_recorded
+from saxtegun.levelsets import level_of_recorded
 from saxtegun.lines import Frame, Run
-from saxtegun.mismatches import Tests, start_fault
 from saxtegun.pages import source_lines
 from saxtegun.playing import Engine
 from saxtegun.recording_search import find
@@ -51,11 +50,6 @@ LARGE = 1_000_000
 
 def legend_chain(count: int) -> str:
     return f"{HEAD}LEGEND\n" + "\n".join(f"a{it} = a{it + 1}" for it in range(count)) + "\nCOLLISIONLAYERS\n" + " ".join(f"a{it}" for it in range(count)) + "\n" + TAIL
-
-
-def legend_of_letters(count: int) -> str:
-    lines = "\n".join(f"{one} = {other}" for one, other in zip(LETTERS[:count], LETTERS[1:]))
-    return f"{HEAD}LEGEND\n{lines}\nCOLLISIONLAYERS\nBackground\nPlayer\nWINCONDITIONS\nLEVELS\n{''.join(LETTERS[:count])}\n"
 
 
 def rules(count: int) -> str:
@@ -111,14 +105,6 @@ def loops_told(size: int) -> None:
         raise AssertionError(told_of[-1])
 
 
-def started_in(size: int) -> None:
-    """Draws where as many sessions begin as a game has messages, each at another one before its only level."""
-    source = f"{HEAD}{TAIL[:-3]}" + "message x\n" * size + "p" * 100 + "\n"
-    entry = sessions_in("x", json.dumps([["a", [source, [], ""]]])).entries[0]
-    if any(len(drawn_start(entry._replace(index=it), order) or ()) != 100 for it in range(size) for order in ("rows", "columns")):
-        raise AssertionError("it begins elsewhere")
-
-
 def entry_of(source: str, level: str = "", index: int = 0) -> Entry:
     return sessions_in("x", json.dumps([["a", [source, [], level, index]]])).entries[0]
 
@@ -137,22 +123,6 @@ def objects_in_layers(count: int) -> Tuple[str, str]:
 def rows_of_cells(size: int) -> List[List[Tuple[str, ...]]]:
     """A level of as many cells as each has names, as it is drawn."""
     return [[tuple(sorted(f"a{it}" for it in range(size)))] * size]
-
-
-def started(size: int) -> None:
-    """Looks whether the first frame of a run, of as many cells as names in each, is the level that its source draws."""
-    run = Run(0, "a", "differs", None, [Frame(0, "start", level_of(size, size))])
-    if start_fault(entry_of(HEAD + TAIL), run, Tests(order="columns", is_drawn=True)) is None:
-        raise AssertionError("it is that level")
-
-
-def begun_in_levels(size: int) -> None:
-    """Draws where so many sessions begin, each in another level, whose letter draws as many objects as are told of a source."""
-    objects, layers = objects_in_layers(MOST_OBJECTS)
-    source = f"{objects}LEGEND\nq = {' and '.join(f'a{it}' for it in range(MOST_OBJECTS))}\n{layers}WINCONDITIONS\nLEVELS\n" + "q\n\n" * size
-    entry = entry_of(source)
-    if any(len((drawn_start(entry._replace(index=it), "columns") or [()])[0]) != MOST_OBJECTS + 1 for it in range(size)):
-        raise AssertionError("other cells are drawn")
 
 
 def likened(size: int) -> None:
@@ -217,7 +187,6 @@ READINGS = {
     "blanks in a source": (200_000, lambda size: Game("title x" + " " * size + "x\n" + HEAD + TAIL)),
     "returns at the end of a line": (200_000, lambda size: told(Run(0, "a", "refused", "BadRule:1", []), sessions_in("x", json.dumps([["a", ["\r" * size + "x", [], ""]]])).entries[0])),
     "names that stand for one another": (2000, lambda size: Game(legend_chain(size))),
-    "letters that stand for one another": (1000, lambda size: drawn_columns.__wrapped__(legend_of_letters(size), 1)),
     "a name that is not there, of many letters": (20_000, lambda size: line_told("Unknown", "[ " + "ab" * size + " ]", f"{'ba' * size}\nred\nRULES\n")),
     "many names that are not there": (500, lambda size: line_told("Unknown", "[ " + " ".join(LETTERS[:size]) + " ]")),
     "many names that are": (2000, lambda size: line_told("Unknown", "[ playr ]", "".join(f"a{it}\nred\n\n" for it in range(size)) + "RULES\n")),
@@ -228,7 +197,6 @@ READINGS = {
     "rules, and what is repeated of them": (1000, lambda size: things_of(rules(size))),
     "rules of groups at which two texts part": (1000, led),
     "loops that act": (1000, loops_told),
-    "sessions that begin at a message": (2000, started_in),
     "sessions of one game that hang": (200, lambda size: shown_in_a_page("loop-limit", size)),
     "sessions of one game that is refused": (2000, lambda size: shown_in_a_page("BadRule:9", size)),
     "rows of a level": (5000, lambda size: description_of(HEAD + "LEVELS\n" + "p.\n" * size)),
@@ -245,12 +213,10 @@ READINGS = {
     "texts that are held against one": (100_000, held_against),
     "names of a cell that is recorded": (2000, lambda size: level_of_recorded(entry_of(HEAD + TAIL, level_of(size, size)), "columns")),
     "names of a cell that is recorded, and levels": (1000, likened),
-    "names of a cell in a first frame": (2000, started),
     "names of a cell that is painted": (1000, lambda size: painted(Game(objects_in_layers(size)[0]), rows_of_cells(size), Depth.ALL)),
     "names of a cell that is drawn by letters": (2000, lambda size: lettered(Game(HEAD + TAIL), rows_of_cells(size))),
     "names of a cell in which a stage acts": (1000, acted),
     "names of a cell in a level before it hung": (1000, hung_from),
-    "objects of sessions that begin in levels": (500, begun_in_levels),
     "objects of a property in rules": (500, property_in_rules),
     "sessions of one game with an undo": (500, inputs_heeded),
     "texts behind a session": (20_000, read_behind),

@@ -2,23 +2,20 @@
 from __future__ import annotations
 
 import json
-import tracemalloc
 import unittest
 from pathlib import Path
 from typing import Any, Callable, List, Tuple, Union
-from unittest import mock
 
 from day import EXAMPLE, OnSessions
 from tool import run
-from saxtegun.budget import Budget
 from saxtegun.lines import Frame, Run
-from saxtegun.mismatches import ALL_BUT_ORDER, NAMES_ALONE, OF_ANY_ENGINE, TOO_LONG, Tests, mismatch, start_fault
+from saxtegun.mismatches import ALL, NAMES_ALONE, OF_ANY_ENGINE, Tests, mismatch
 from saxtegun.sessions import sessions_in
 
 LEVEL, OTHER = "background:0,\n", "background player:0,\n"
 
 
-def told(inputs: List[Any], frames: Any, close: str = "passed", tests: Tests = ALL_BUT_ORDER, last: str = LEVEL) -> Any:
+def told(inputs: List[Any], frames: Any, close: str = "passed", tests: Tests = ALL, last: str = LEVEL) -> Any:
     """What is said against a session with these inputs, of frames each [inputs taken, kind]."""
     sessions = sessions_in("x", json.dumps([["a", ["", inputs, LEVEL]]]))
     shown = [Frame(at, kind, OTHER) for at, kind in frames]
@@ -74,45 +71,6 @@ class Inputs(unittest.TestCase):
         self.assertIsNone(told([3, 1], [START], tests=OF_ANY_ENGINE))
         self.assertIsNone(told([3, 1], [START], tests=NAMES_ALONE))
         self.assertEqual(told([3], [START, [2, "move"]], tests=NAMES_ALONE), "session 0 takes more inputs than its 1")
-
-
-class Starts(unittest.TestCase):
-    """First frames that are held against the level that a source draws."""
-
-    def fault(self, level: str, rows: str, is_drawn: bool = True, **words: Any) -> Any:
-        source = f"OBJECTS\nBackground .\nred\nPlayer p\nred\nLEGEND\nCOLLISIONLAYERS\nBackground\nPlayer\nLEVELS\n{rows}\n"
-        entry = sessions_in("x", json.dumps([["a", [source, [], LEVEL]]])).entries[0]
-        return start_fault(entry, Run(0, "a", "differs", None, [Frame(0, "start", level)]), Tests(is_drawn=is_drawn, **words))
-
-    def test_a_level_of_the_same_size_is_looked_at_in_both_orders(self) -> None:
-        level = "background player:0,background:1,\n1,1,\n"
-        self.assertIsNone(self.fault(level, "p.\n..", order="rows"))
-        self.assertIsNone(self.fault("background player:0,background:1,1,\n0,1,1,\n", "p..\np..", order="rows"))
-        self.assertIn("was played in the order rows", self.fault("background player:0,background:1,1,\n0,1,1,\n", "p..\np..", order="columns"))
-        self.assertIn("doesn't begin with the level", self.fault(level, "..\np.", order="rows"))
-        self.assertIn("doesn't begin with the level", self.fault(level, "p..\n..", order="rows"))
-
-    def test_where_there_is_no_time_left_to_read_sources_nothing_is_taken_as_theirs(self) -> None:
-        with mock.patch("saxtegun.mismatches.HOLDING", Budget(0.0)):
-            self.assertEqual(self.fault("background player:0,", "p", order="rows"), f"whether session 0 begins with the level that its source draws isn't known: {TOO_LONG}")
-            # where the order alone is asked for, and nothing more is explained, an honest suite of very many games has its answer
-            self.assertIsNone(self.fault("background player:0,", "p", order="rows", is_drawn=False))
-
-    def test_levels_are_drawn_up_to_the_limits_of_the_program(self) -> None:
-        for width, height in ((255, 1), (1, 255), (128, 128)):
-            level = "background:0," + "0," * (width * height - 1)
-            self.assertIsNone(self.fault(level, ("." * width + "\n") * height, order="rows"))
-        for width, height in ((256, 1), (1, 256), (129, 128)):
-            level = "background:0," + "0," * (width * height - 1)
-            self.assertIn("doesn't begin with the level", self.fault(level, ("." * width + "\n") * height, order="rows"))
-
-    def test_no_level_is_drawn_that_few_letters_spell_and_no_memory_holds(self) -> None:
-        """Each row is as wide as the first. 27 KB would be 162,000,000 cells."""
-        for level in ("", "background:0,", "background:0," + "0," * 17_999):
-            tracemalloc.start()
-            self.addCleanup(tracemalloc.stop)
-            self.assertIn("doesn't begin with the level", self.fault(level, "." * 18_000 + "\n" + "p\n" * 8_999, order="columns"))
-            self.assertLess(tracemalloc.get_traced_memory()[1], 2**24)
 
 
 class Verbs(OnSessions):
@@ -180,25 +138,6 @@ class Verbs(OnSessions):
 
     def test_lines_that_close_nothing_are_no_run(self) -> None:
         self.assert_refused(run("junit", self.write("none.lines", "")), "closes no session, so nothing was played")
-
-    def test_the_status_of_a_program_is_held_against_its_lines(self) -> None:
-        """The example has a session that differs."""
-        program = self.write("program", f"#!/bin/sh\ncat {self.lines}\n")
-        program.chmod(0o755)
-        answer = run("lines", EXAMPLE, "--program", program)
-        self.assertEqual((answer.status, answer.out, answer.errors), (1, self.lines.read_text(encoding="utf-8"), ""))
-        program.write_text(f"#!/bin/sh\ntail -n 1 {self.lines}\n")
-        self.assertRegex(run("lines", EXAMPLE, "--program", program).errors, "was not played whole: the program closed 1 session of [0-9]+\n$")
-        program.write_text(f"#!/bin/sh\nhead -n -1 {self.lines}\n")
-        self.assertRegex(run("lines", EXAMPLE, "--program", program).errors, "was not played whole: the program closed 4 sessions of 5\n$")
-        program.write_text(f"#!/bin/sh\ntail -n 1 {self.lines}; head -n -1 {self.lines}; echo\n")
-        self.assertRegex(run("lines", EXAMPLE, "--program", program).errors, "was not played whole: the program closed 5 sessions of 5, and the last line is no close of session 4\n$")
-        program.write_text("#!/bin/sh\nexit 0\n")
-        self.assertIn("was not played whole", run("lines", EXAMPLE, "--program", program).errors)
-        self.assertIn("no list of sessions", run("lines", self.write("no.json", "{}"), "--program", program).errors)
-        with open(self.room / "long.json", "wb") as file:
-            file.truncate(2**24 + 1)
-        self.assert_refused(run("lines", self.room / "long.json", "--program", program), "has more than 16 MiB")
 
 
 if __name__ == "__main__":

@@ -157,18 +157,6 @@ class Accept(OnSessions):
             self.assertEqual((answer.status, answer.out), (2, ""))
             self.assertIn("the file has no name", answer.errors)
 
-    def test_lines_that_begin_in_the_other_order_are_refused(self) -> None:
-        for verb in ("accept", "explain", "report", "junit"):
-            refused = run(verb, EXAMPLE, self.lines, "--order", "rows")
-            self.assert_refused(refused, "session 0 was played in the order columns, as its first frame shows, and not in the order rows")
-
-    def test_lines_over_another_source_are_not_accepted(self) -> None:
-        entries = json.loads(EXAMPLE.read_text(encoding="utf-8"))
-        entries[0][1][0] = entries[0][1][0].replace("#.O#..", "#..#..")
-        sessions = self.write("sessions.json", json.dumps(entries))
-        self.assert_refused(run("accept", sessions, self.lines), "session 0 doesn't begin with the level that its source draws: it was played over another source")
-        self.assertEqual(run("explain", sessions, self.lines).status, 0)
-
     def test_one_after_the_other_is_shown_and_asked(self) -> None:
         for answers, changed in (("y\n", 1), ("n\n", 0), ("\nwhat\na\n", 1), ("q\n", 0), ("", 0)):
             ran = subprocess.run([sys.executable, TOP / "saxtegun", "accept", EXAMPLE, self.lines, "--review"], input=answers.encode(), stdout=subprocess.PIPE, stderr=subprocess.PIPE)

@@ -13,7 +13,7 @@ from saxtegun.cases import plain_cases
 from saxtegun.descriptions import description_of, expect
 from saxtegun.games import Game, game_of
 from saxtegun.levels import Labels, in_rows, read_cells, width_of
-from saxtegun.levelsets import drawn_start, entries_of_levels, first_level
+from saxtegun.levelsets import entries_of_levels, first_level
 from saxtegun.lines import Run, runs_in
 from saxtegun.sessions import Entry, sessions_in
 
@@ -57,16 +57,6 @@ def cells_of(text: str) -> Optional[List[FrozenSet[str]]]:
 
 
 class Sources(unittest.TestCase):
-    def test_the_first_frame_is_the_level_that_the_letters_draw(self) -> None:
-        seen = 0
-        for name, entry, run, order in sessions_of_cases():
-            cells = cells_of(run.frames[0].level) if run.frames else None
-            if cells is not None:
-                with self.subTest(name):
-                    seen += 1
-                    self.assertEqual(drawn_start(entry, order), tuple(cells))
-        self.assertGreater(seen, 150)
-
     def test_every_object_of_a_frame_is_one_that_is_drawn_on_its_layer(self) -> None:
         for name, entry, run, _ in sessions_of_cases():
             layers = {it.name: it.layer for it in game_of(entry.source).objects}

@@ -56,6 +56,3 @@ class Budget:
 
 # That of this process. `saxtegun test --watch` begins it anew at each save.
 EXPLAINING = Budget(SECONDS)
-# And that for the sources against which lines are held that are there already: enough for as many small games as a file has sessions at most.
-SECONDS_OF_SOURCES = 150.0
-HOLDING = Budget(SECONDS_OF_SOURCES)

@@ -4,7 +4,7 @@ from __future__ import annotations
 import re
 from itertools import compress
 from operator import ne
-from typing import Callable, Dict, FrozenSet, List, Optional, Sequence, Tuple, TypeVar
+from typing import Callable, Dict, List, Optional, Sequence, Tuple, TypeVar
 
 from saxtegun.commands import fold
 
@@ -75,12 +75,6 @@ def read_cells(text: str, labels: Labels) -> Optional[List[int]]:
                 known[piece] = label
         cells.append(label)
     return cells
-
-
-def sets_of(cells: Sequence[int], labels: Labels) -> List[FrozenSet[str]]:
-    """The set of names of each cell. All cells of a label share one."""
-    sets = [frozenset(it) for it in labels.names]
-    return [sets[it] for it in cells]
 
 
 def each_once(rows: Sequence[Sequence[Names]], told: Callable[[Names], Value]) -> List[List[Value]]:

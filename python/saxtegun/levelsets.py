@@ -4,7 +4,7 @@ from __future__ import annotations
 from bisect import bisect_left
 from collections import Counter
 from functools import lru_cache
-from typing import Dict, FrozenSet, List, NamedTuple, Optional, Sequence, Tuple
+from typing import Dict, List, NamedTuple, Optional, Sequence, Tuple
 
 from saxtegun.budget import EXPLAINING
 from saxtegun.commands import fold
@@ -14,7 +14,6 @@ from saxtegun.levels import Labels, read_cells, width_of
 from saxtegun.lines import Run
 from saxtegun.sessions import Entry
 
-Cells = Tuple[FrozenSet[str], ...]
 # No program plays a level whose sides, or cells, are more.
 MOST_SIDE, MOST_CELLS = 255, 16_384
 
@@ -48,64 +47,6 @@ def first_level(entry: Entry) -> int:
 
 def count_of_levels(source: str) -> int:
     return len(places_of_levels(source))
-
-
-@lru_cache(maxsize=1024)
-def ground_of(source: str, letter: str) -> Optional[str]:
-    """The object of the background's layer that a letter draws, or None."""
-    game = game_of(source)
-    return next(iter(game.grounds & game.drawn_by(fold(letter))), None)
-
-
-@lru_cache(maxsize=64)
-def cell_of(source: str, letter: str, ground: str) -> FrozenSet[str]:
-    """The cell that a letter draws in a level with this background. All cells of a letter share it, and so do levels."""
-    drawn = game_of(source).drawn_by(fold(letter))
-    return drawn if ground_of(source, letter) else drawn | {ground}
-
-
-@lru_cache(maxsize=64)
-def drawn_columns(source: str, number: int) -> Optional[Tuple[Cells, ...]]:
-    """The level of this number, from 1, column by column, as the letters of the source draw it; None where there is none."""
-    places = places_of_levels(source)
-    if number > len(places):
-        return None
-    rows = entries_of_levels(source)[places[number - 1]].rows
-    width = len(rows[0])
-    columns = list(zip(*(row.ljust(width, row[-1])[:width] for row in rows)))
-    letters = dict.fromkeys(letter for column in columns for letter in column)
-    backgrounds = [*filter(None, (ground_of(source, it) for it in letters)), *game_of(source).members("background"), "background"]
-    of = {letter: cell_of(source, letter, backgrounds[0]) for letter in letters}
-    return tuple(tuple(of[it] for it in column) for column in columns)
-
-
-@lru_cache(maxsize=64)
-def drawn_cells(source: str, number: int, order: str) -> Optional[Cells]:
-    """The cells of the level of this number, in an order."""
-    columns = drawn_columns(source, number)
-    if columns is None:
-        return None
-    return tuple(cell for row in (zip(*columns) if order == "rows" else columns) for cell in row)
-
-
-def drawn_start(entry: Entry, order: str) -> Optional[Cells]:
-    """The cells of the level that a session begins in, in an order."""
-    return drawn_cells(entry.source, first_level(entry), order)
-
-
-@lru_cache(maxsize=64)
-def count_drawn(source: str, number: int) -> int:
-    """How many cells the level of this number has, from 1; 0 where there is none, or none that is played."""
-    places = places_of_levels(source)
-    rows = entries_of_levels(source)[places[number - 1]].rows if number <= len(places) else ("",)
-    width, height = len(rows[0]), len(rows)
-    return width * height if max(width, height) <= MOST_SIDE and width * height <= MOST_CELLS else 0
-
-
-def may_begin_with(entry: Entry, count: int) -> bool:
-    """Whether a session may begin in a level of so many cells. None is to be drawn for others: each row is as wide as the first, so that few letters of a
-    stranger's would draw more than any memory holds."""
-    return 0 < count == count_drawn(entry.source, first_level(entry))
 
 
 def wins_of(run: Run) -> int:

@@ -1,13 +1,11 @@
-"""The program's lines held against the sessions that they must be of: by name and inputs, by the close, and by the order of cells."""
+"""The program's lines held against the sessions that they must be of: by name and inputs, and by the close."""
 from __future__ import annotations
 
 from typing import Dict, Iterator, NamedTuple, Optional, Tuple, Union
 
-from saxtegun.budget import HOLDING, SECONDS_OF_SOURCES, UsedUp
-from saxtegun.commands import ORDERS, Refused, cut, plural
+from saxtegun.commands import Refused, cut, plural
 from saxtegun.explanations import input_told
-from saxtegun.levels import Labels, read_cells, sets_of
-from saxtegun.levelsets import Cells, drawn_start, may_begin_with
+from saxtegun.levels import Labels, read_cells
 from saxtegun.lines import Run, runs_in
 from saxtegun.sessions import Entry, Sessions
 
@@ -18,24 +16,20 @@ SHOWN: Dict[Union[int, str], Tuple[str, ...]] = {"undo": ("undo", "over"), "rest
 
 
 class Tests(NamedTuple):
-    """What is tested of each run beside its name: that it shows its inputs, and is closed as its last level says, and that its first frame is not the
-    level that the source draws in the other order than this one. `is_drawn`: that it is that level in this order. `is_played`: that it has frames, of
+    """What is tested of each run beside its name: that it shows its inputs, and is closed as its last level says. `is_played`: that it has frames, of
     no more inputs than there are."""
 
     is_closed: bool = True
-    order: Optional[str] = None
-    is_drawn: bool = False
     is_played: bool = True
 
 
-TOO_LONG = f"reading the sources took {SECONDS_OF_SOURCES:.0f} s already; without the lines the sessions are played now"
-ALL_BUT_ORDER = Tests()
+ALL = Tests()
 NAMES_ALONE = Tests(False)
 # What an engine writes that may have any error.
 OF_ANY_ENGINE = Tests(False, is_played=False)
 
 
-def read_runs(path: str, sessions: Optional[Sessions] = None, tests: Tests = ALL_BUT_ORDER) -> Iterator[Run]:
+def read_runs(path: str, sessions: Optional[Sessions] = None, tests: Tests = ALL) -> Iterator[Run]:
     """What the program's lines say, session by session. With the sessions that they must be of, each is tested to be of its entry."""
     count = 0
     for number, run in runs_in(path):
@@ -43,9 +37,6 @@ def read_runs(path: str, sessions: Optional[Sessions] = None, tests: Tests = ALL
             fault = mismatch(sessions, run, tests)
             if fault:
                 raise Refused(f"{path}, line {number}: {fault}; the lines are of another file than {sessions.path}")
-            fault = start_fault(sessions.entries[run.number], run, tests)
-            if fault:
-                raise Refused(f"{path}, line {number}: {fault}")
         yield run
         count += 1
     if sessions and count != len(sessions.entries):
@@ -93,41 +84,6 @@ def inputs_fault(entry: Entry, run: Run) -> Optional[str]:
         if kind is not None and kind not in SHOWN.get(it, PRESSED):
             return f"session {run.number} shows {kind!r} at input {place}, which is {input_told(it)}"
     return None
-
-
-def are_same_cells(shown: Cells, drawn: Optional[Cells]) -> bool:
-    """Whether two levels have the same cells, of which each pair is looked at once: a stranger's have hundreds of names each."""
-    if drawn is None or len(shown) != len(drawn):
-        return False
-    return all(one == other for one, other in {(id(one), id(other)): (one, other) for one, other in zip(shown, drawn)}.values())
-
-
-def start_fault(entry: Entry, run: Run, tests: Tests) -> Optional[str]:
-    """What the first frame shows against the order, or where that is wanted against the source, or None. A frame that can't be read back, or
-    a level that is the same in both orders, shows nothing."""
-    if tests.order is None or not run.frames:
-        return None
-    labels = Labels()
-    cells = read_cells(run.frames[0].level, labels)
-    if cells is None:
-        return None
-    try:
-        with HOLDING.spent():
-            HOLDING.look()
-            return drawn_fault(entry, run, tests, tests.order, tuple(sets_of(cells, labels)) if may_begin_with(entry, len(cells)) else None)
-    except UsedUp:
-        # the order alone serves what explains, and all lines of a call have one
-        return f"whether session {run.number} begins with the level that its source draws isn't known: {TOO_LONG}" if tests.is_drawn else None
-
-
-def drawn_fault(entry: Entry, run: Run, tests: Tests, order: str, shown: Optional[Cells]) -> Optional[str]:
-    """What the cells of the first frame show against what is drawn, or None; `shown` is None where the level that is drawn has another number of them."""
-    if shown is not None and are_same_cells(shown, drawn_start(entry, order)):
-        return None
-    other = ORDERS[1 - ORDERS.index(order)]
-    if shown is not None and are_same_cells(shown, drawn_start(entry, other)):
-        return f"session {run.number} was played in the order {other}, as its first frame shows, and not in the order {order}"
-    return f"session {run.number} doesn't begin with the level that its source draws: it was played over another source" if tests.is_drawn else None
 
 
 def is_same_level(one: str, other: str) -> Optional[bool]:

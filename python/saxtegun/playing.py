@@ -14,7 +14,7 @@ from typing import IO, Iterator, List, NamedTuple, Optional, Sequence
 from saxtegun.commands import Refused, cut, plural
 from saxtegun.files import read_lines
 from saxtegun.lines import SESSION, UNANSWERED, Run, frame_of, line_of
-from saxtegun.mismatches import ALL_BUT_ORDER, Tests, read_runs
+from saxtegun.mismatches import ALL, Tests, read_runs
 from saxtegun.processes import Ran, Unanswered, room_for_now, watched
 from saxtegun.programs import has_played, program_words
 from saxtegun.reasons import break_of
@@ -53,7 +53,7 @@ class Engine(NamedTuple):
     workers: Optional[int] = None
     program: Optional[str] = None
     seconds: Optional[float] = None
-    tests: Tests = ALL_BUT_ORDER
+    tests: Tests = ALL
     may_build: bool = True
     has_ticks: bool = False
     stages: Optional[str] = None
@@ -226,10 +226,9 @@ def shown_beyond(entry: Entry, known: int, engine: Engine) -> Run:
 
 
 @contextmanager
-def lines_or_played(sessions: Sessions, lines: Optional[str], engine: Engine, is_drawn: bool = False) -> Iterator[Iterator[Run]]:
-    """The runs of lines that are there, or else of the sessions, which are played now. `is_drawn`: lines that are there are refused too where a
-    session doesn't begin with the level that its source draws."""
+def lines_or_played(sessions: Sessions, lines: Optional[str], engine: Engine) -> Iterator[Iterator[Run]]:
+    """The runs of lines that are there, or else of the sessions, which are played now."""
     if lines is not None:
-        yield read_runs(lines, sessions, Tests(order=engine.order, is_drawn=is_drawn))
+        yield read_runs(lines, sessions)
     else:
         yield runs_played(sessions.entries, sessions, engine)

@@ -23,11 +23,9 @@ the other levels, up to 1,000 of them, as when levels were inserted or moved;
 all recordings together for 600 s, or as long as --within says. If it was tried in all and passes in one alone, its index is set; standard error
 says which, and how many levels were not tried. No other is touched.
 
-Nothing is changed if a session was played in another order than it was recorded
-in. That shows if LINES don't begin with the level that the source draws in this
-order (they may be over another source too), or if the recorded level is the
-reached one in the other order. With levels that are the same in both orders it
-doesn't show.
+Nothing is changed if the recorded level is the reached one in the other order of
+cells. LINES must be of these sessions, over this text: that isn't tested, but
+for their names and inputs.
 
 Exit status: 0; 1 a session that --only names could not be changed, or none
 could, or one no longer wins; 2 a file is refused, or with --timeout some session
@@ -258,7 +256,7 @@ def main(given: Namespace) -> int:
         return reindex(sessions, chosen(sessions, given.only), others, given)
     wanted = {it.number for it in chosen(sessions, given.only)}
     taking = Taking(sessions, given, others)
-    with reviewed(sessions, taking.changes, given), lines_or_played(sessions, given.lines, engine_of(given), is_drawn=True) as runs:
+    with reviewed(sessions, taking.changes, given), lines_or_played(sessions, given.lines, engine_of(given)) as runs:
         played = [] if given.lines else list(runs)
         lost = lost_among(sessions, played, wanted, game, engine_of(given))
         for run in runs if given.lines else played:

@@ -19,7 +19,7 @@ from saxtegun.commands import Refused, add_game, add_playing, add_ticks
 from saxtegun.descriptions import expect
 from saxtegun.files import guard_output
 from saxtegun.junit import junit_of
-from saxtegun.mismatches import Tests, read_runs
+from saxtegun.mismatches import read_runs
 from saxtegun.playing import engine_of
 from saxtegun.sessions import read_sessions
 from saxtegun.solutions import unsolved_among
@@ -46,7 +46,7 @@ def main(given: Namespace) -> int:
     others = say_others("junit", sessions, game) if sessions else []
     if sessions:
         expect(it.source for it in sessions.entries)
-    runs = read_runs(given.files[-1], sessions, Tests(order=given.order))
+    runs = read_runs(given.files[-1], sessions)
     first = next(runs, None)
     if first is None:
         raise Refused(f"{given.files[-1]} closes no session, so nothing was played")
