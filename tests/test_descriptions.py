@@ -4,7 +4,6 @@ from __future__ import annotations
 import io
 import json
 import os
-import random
 import subprocess
 import sys
 import unittest
@@ -236,17 +235,6 @@ class Asked(InARoom):
                     description_of(it)
         self.assertLessEqual(called.call_count, 6)
 
-    def test_sources_that_come_again_are_asked_for_with_those_that_are_wanted_next(self) -> None:
-        """In whichever order they come again: with those behind their first places each would be asked for with many that nobody wants then."""
-        once = [f"title {it:3}" for it in range(200)]
-        wanted = [*once, *random.Random(0).sample(once, len(once))]
-        with mock.patch.multiple(descriptions, MOST_KEPT=400, MOST_LETTERS_AT_ONCE=400), asked_for() as counts:
-            expect(wanted)
-            for it in wanted:
-                description_of(it)
-        self.assertLess(len(counts), 20)
-        self.assertLess(sum(counts), 500)
-
     def test_the_longest_source_that_is_played_is_kept_beside_others(self) -> None:
         """A game of a MiB by turns with small ones, as in a file where its recordings have the empty text: each turn would ask for it anew."""
         longest = "title x".ljust(2**20)
@@ -306,11 +294,11 @@ class Asked(InARoom):
     def test_what_was_expected_before_is_expected_again(self) -> None:
         expect(["a", "b"])
         self.assertEqual(titles_of(["title x", "title y"]), {"x", "y"})
-        self.assertEqual(descriptions.DESCRIPTIONS.expected.sources, ["a", "b"])
+        self.assertEqual([*descriptions.DESCRIPTIONS.expected], ["a", "b"])
 
     def test_of_many_sources_some_are_kept(self) -> None:
         with mock.patch.object(descriptions, "MOST_KEPT", 20):
-            for source in ("title x" + "\n" * 9, "title y" + "\n" * 9, "title z"):
+            for source in ("title x" + "\n" * 9, "title y" + "\n" * 9, "title z" + "\n" * 9):
                 description_of(source)
                 self.assertIn(source, descriptions.DESCRIPTIONS.known)
             self.assertEqual(len(descriptions.DESCRIPTIONS.known), 1)

@@ -352,96 +352,48 @@ def how_to_ask() -> List[str]:
         raise Undescribed(why) from None
 
 
-class Awaited:
-    """Sources in the order in which they are to be asked for, each as often as that, and how far that has come: of one that comes again and again those are
-    wanted next that stand behind its next place, not behind its first."""
-
-    def __init__(self, sources: Iterable[str] = ()) -> None:
-        self.sources = [*sources]
-        self.at = 0
-        self.places: Dict[str, List[int]] = {}
-        for place, source in enumerate(self.sources):
-            self.places.setdefault(source, []).append(place)
-
-    def come_to(self, source: str) -> bool:
-        """Goes on to the next place of a source, or else to its first, as where all are gone through once more; whether it has one."""
-        places = self.places.get(source, [])
-        if places:
-            behind = bisect_left(places, self.at)
-            self.at = places[behind if behind < len(places) else 0]
-        return bool(places)
-
-    def behind(self) -> Iterator[str]:
-        """What comes next."""
-        return (self.sources[it] for it in range(self.at + 1, len(self.sources)))
-
-
 class Descriptions:
-    """What was told of sources, each of which is asked for once, as long as it is kept. With one that was expected those behind it are asked for too, as far
-    as they may be at once, since a process for each takes long."""
+    """What was told of sources. With one that is asked for those are asked for that are expected, as far as they may be at once, since a process for each
+    takes long. Where these have too many letters what was told before is forgotten, and expected again."""
 
     def __init__(self) -> None:
         self.known: Dict[str, Description] = {}
-        # as how many letters each counts, and all of them
-        self.sizes: Dict[str, int] = {}
-        self.letters = 0
-        self.has_forgotten = False
         # lines that are not read yet
         self.told: Dict[str, str] = {}
-        self.expected = Awaited()
+        self.letters = 0
+        self.expected: Dict[str, None] = {}
 
     def cache_clear(self) -> None:
         """Forgets all, as what remembers what it told does."""
         self.known.clear()
-        self.sizes.clear()
         self.told.clear()
-        self.letters, self.has_forgotten = 0, False
-
-    def expect(self, sources: Iterable[str]) -> None:
-        """Notes sources that are to be asked for soon, in this order."""
-        self.expected = Awaited(sources)
+        self.letters = 0
 
     def of(self, source: str) -> Description:
-        self.expected.come_to(source)
         if source not in self.known:
             if source not in self.told:
                 self.ask(source)
-            self.take(source, self.told.pop(source))
+            line = self.told.pop(source)
+            self.letters += max(len(source), len(line) // MOST_OF_A_LETTER)
+            if self.letters > MOST_KEPT:
+                self.expected.update(dict.fromkeys(self.known))
+                self.known.clear()
+                self.letters = len(source)
+            self.known[source] = read(line)
         return self.known[source]
 
-    def with_next(self, source: str) -> List[str]:
-        """A source, and those behind it that are expected."""
-        them: Dict[str, None] = {source: None}
-        letters = len(source)
-        for it in self.expected.behind() if self.expected.come_to(source) else ():
-            if it in them:
-                continue
+    def ask(self, source: str) -> None:
+        """Asks for a source, and for those that are expected."""
+        them, letters = [source], len(source)
+        for it in (it for it in [*self.expected, *self.told] if it != source and it not in self.known):
             letters += len(it)
             if letters > MOST_LETTERS_AT_ONCE or len(them) == MOST_AT_ONCE:
                 break
-            them[it] = None
-        return [*them]
-
-    def ask(self, source: str) -> None:
-        # Those that are known may be forgotten before they are wanted, once any was: each would then be asked for alone.
-        them = [it for it in self.with_next(source) if self.has_forgotten or it not in self.known]
-        if len(them) > 1:
-            # what nobody has asked for makes room
-            self.told.clear()
-        self.told.update(zip(them, asked(them, how_to_ask())))
-
-    def take(self, source: str, told: str) -> None:
-        """Reads and keeps what was told of a source, and forgets the oldest of those that are too many."""
-        self.known[source] = read(told)
-        self.sizes[source] = max(len(source), len(told) // MOST_OF_A_LETTER)
-        self.letters += self.sizes[source]
-        while self.letters > MOST_KEPT:
-            oldest = next(iter(self.known))
-            if oldest == source:
-                break
-            self.letters -= self.sizes.pop(oldest)
-            del self.known[oldest]
-            self.has_forgotten = True
+            them.append(it)
+        self.expected.update(dict.fromkeys(self.told))
+        self.told = dict(zip(them, asked(them, how_to_ask())))
+        for it in self.told:
+            self.expected.pop(it, None)
 
 
 DESCRIPTIONS = Descriptions()
@@ -454,7 +406,7 @@ def description_of(source: str) -> Description:
 
 def expect(sources: Iterable[str]) -> None:
     """Notes sources that are to be asked for soon, so that they are asked for at once."""
-    DESCRIPTIONS.expect(sources)
+    DESCRIPTIONS.expected = dict.fromkeys(sources)
 
 
 @contextmanager
