@@ -1,5 +1,4 @@
-"""What was worked on is there behind a reload of the page, in each browser that is there: also where the database is slow, notes have no room, the clock
-stands still, or the page that was left isn't gone yet."""
+"""What was worked on is there behind a reload of the page, in each browser that is there."""
 from __future__ import annotations
 
 import json
@@ -20,19 +19,17 @@ CLEANING: Any = {"ignore_cleanup_errors": True} if sys.version_info >= (3, 10) e
 READY, BUSY, LATE = "document.documentElement?.dataset.opened === 'true'", "document.documentElement.dataset.busy", "document.getElementById('promise').textContent.includes('has not kept')"
 GAME = (TOP / "examples" / "day" / "game.txt").read_text(encoding="utf-8")
 DAY = (TOP / "examples" / "day" / "recordings.json").read_text(encoding="utf-8")
-LONG = [f"{GAME}\n{f'({number})' * 20_000}\n" for number in range(8)]
 SHOWN = """({ text: document.getElementById('source').value, name: document.getElementById('name').value, file: document.getElementById('file-name').textContent,
     inputs: [...document.querySelectorAll('#strip button')].map((it) => it.title), back: document.getElementById('put-back').title, said: document.getElementById('status').textContent })"""
-# What the browser keeps for the tab, and whether that is what the page shows.
-IS_KEPT = """new Promise((settle) => { const opening = indexedDB.open('saxtegun', 1); opening.onsuccess = () => {
-    const request = opening.result.transaction('kept').objectStore('kept').get(sessionStorage.getItem('saxtegun-tab'));
-    request.onsuccess = () => { opening.result.close(); const it = request.result; settle(it !== undefined && it.text === document.getElementById('source').value
+# Whether what the browser kept last is what the page shows.
+IS_KEPT = """new Promise((settle) => { const opening = indexedDB.open('saxtegun'); opening.onsuccess = () => {
+    const request = opening.result.transaction('kept').objectStore('kept').index('kept').openCursor(null, 'prev');
+    request.onsuccess = () => { opening.result.close(); const it = request.result?.value; settle(it !== undefined && it.text === document.getElementById('source').value
         && it.work.name === document.getElementById('name').value && it.work.inputs.length === document.querySelectorAll('#strip button').length); }; }; })"""
-IS_FRESH = "document.querySelectorAll('#strip button').length === 0 && document.getElementById('some').hidden && document.getElementById('put-back').disabled && Object.keys(localStorage).length === 0"
-FORGET = """new Promise((settle) => { localStorage.clear(); sessionStorage.clear(); const opening = indexedDB.open('saxtegun', 1); opening.onsuccess = () => {
+FORGET = """new Promise((settle) => { const opening = indexedDB.open('saxtegun'); opening.onsuccess = () => {
     const it = opening.result.transaction('kept', 'readwrite'); it.objectStore('kept').clear(); it.oncomplete = () => { opening.result.close(); settle(1); }; }; })"""
 # Nothing else is written as long as the page stays, or window.isHeld is true: a transaction of its own goes on and on.
-HOLD_DATABASE = """new Promise((settle) => { window.isHeld = true; const opening = indexedDB.open('saxtegun', 1); opening.onsuccess = () => {
+HOLD_DATABASE = """new Promise((settle) => { window.isHeld = true; const opening = indexedDB.open('saxtegun'); opening.onsuccess = () => {
     const store = opening.result.transaction('kept', 'readwrite').objectStore('kept'), go = () => { settle(1); if (window.isHeld) store.get('none').onsuccess = go; else opening.result.close(); }; go(); }; })"""
 
 
@@ -48,12 +45,11 @@ class Page:
         self.browser.open(self.file, is_ready=READY)
 
     def begin(self) -> None:
-        """Opens the page as one that nothing was kept for. What it keeps while that is forgotten is there again, and is forgotten next."""
+        """Opens the page as one that nothing was kept for."""
         self.visit()
-        while any(self.value(f"document.getElementById('{name}').value") != text for name, text in (("name", ""), ("source", GAME))) or not self.value(IS_FRESH):
-            self.wait_until_kept()
-            self.value(FORGET)
-            self.visit()
+        self.wait_until_kept()
+        self.value(FORGET)
+        self.visit()
 
     def value(self, script: str) -> Any:
         return self.browser.value(script)
@@ -84,17 +80,6 @@ class Page:
         self.press(*keys)
         self.wait()
 
-    def replace_texts(self, texts: Any) -> None:
-        """Types texts, each of which then makes way for the example."""
-        for text in texts:
-            self.fill("source", text)
-            self.value("(document.getElementById('example').click(), 1)")
-
-    def leave_room(self, letters: int) -> None:
-        """Fills what notes have room in, but for so many letters."""
-        self.value(f"""((size) => {{ const left = 'x'.repeat({letters}); localStorage.setItem('left', left); for (let text = 'x'.repeat(size); size > 0; size = Math.floor(size / 2)) {{
-            try {{ for (;;) localStorage.setItem(`fill ${{localStorage.length}}`, text.slice(0, size)); }} catch {{ }} }} localStorage.removeItem('left'); return 1; }})(1 << 20)""")
-
 
 class KeepingTests(MixedIn):
     kind: Type[AnyBrowser]
@@ -116,91 +101,21 @@ class KeepingTests(MixedIn):
         self.page.visit()
         self.assertEqual(self.page.shown(), before)
 
-    def test_what_a_slow_database_has_not_written(self) -> None:
-        self.page.press("ArrowLeft")
-        self.page.wait_until_kept()
-        self.page.value(HOLD_DATABASE)
-        self.page.work("two", "ArrowUp", "ArrowRight")
-        self.assert_nothing_lost()
-
-    def test_a_file_that_a_slow_database_has_not_written(self) -> None:
-        self.page.wait_until_kept()
-        self.page.value(HOLD_DATABASE)
+    def test_a_recording_with_its_name_and_a_file_with_what_can_be_put_back(self) -> None:
         self.page.hand("mine.json", DAY)
         self.page.browser.until("document.getElementById('file-name').textContent", "mine.json")
-        self.page.work("two", "ArrowUp")
-        self.assert_nothing_lost()
-
-    def test_what_has_little_room_beside_much_that_can_be_put_back(self) -> None:
-        self.page.replace_texts(LONG[:-1])
-        self.page.wait_until_kept()
-        self.page.leave_room(300_000)
-        self.page.value(HOLD_DATABASE)
-        self.page.replace_texts(LONG[-1:])
-        self.page.work("two", "ArrowUp", "ArrowRight")
-        self.assert_nothing_lost()
-
-    def test_what_has_no_room_is_said(self) -> None:
-        self.page.work("one", "ArrowLeft")
-        self.page.wait_until_kept()
-        self.page.leave_room(0)
-        self.page.value(HOLD_DATABASE)
-        self.page.work("two", "ArrowUp", "ArrowRight")
-        self.page.visit()
-        self.assertRegex(self.page.shown()["said"], "^This browser had no room for all that was changed just before the page was left")
-        self.assertEqual(self.page.shown()["name"], "one")
-        self.page.wait_until_kept()
-        self.page.visit()
-        self.assertEqual(self.page.shown()["said"], "")
-
-    def test_what_can_be_put_back_has_no_room(self) -> None:
-        self.page.work("one", "ArrowLeft")
-        self.page.wait_until_kept()
-        self.page.leave_room(100_000)
-        self.page.value(HOLD_DATABASE)
-        self.page.replace_texts(LONG[:2])
-        self.page.work("two", "ArrowUp", "ArrowRight")
-        before = self.page.shown()
-        self.page.visit()
-        shown = self.page.shown()
-        self.assertEqual([shown[it] for it in ("text", "name", "inputs")], [before[it] for it in ("text", "name", "inputs")])
-        self.assertRegex(shown["said"], "^This browser had no room for all")
-        # what the database had comes back
-        self.page.value("(document.getElementById('put-back').click(), 1)")
-        self.page.wait()
-        self.assertEqual([self.page.shown()["name"], len(self.page.shown()["inputs"])], ["one", 1])
-
-    def test_a_clock_that_stands_still_or_steps_back(self) -> None:
-        for time in (5_000_000_000_000, 4_000_000_000_000):
-            self.page.value("(Date.now = () => 5_000_000_000_000, 1)")
-            self.page.work("one", "ArrowLeft")
-            self.page.wait_until_kept()
-            self.page.value(HOLD_DATABASE)
-            self.page.value(f"(Date.now = () => {time}, 1)")
-            self.page.work(f"two {time}", "ArrowUp", "ArrowRight")
-            self.assert_nothing_lost()
-
-    def test_a_page_that_was_left_and_is_not_gone(self) -> None:
         self.page.work("one", "ArrowLeft", "ArrowUp")
+        self.page.value("(document.getElementById('new').click(), 1)")
+        self.page.work("two", "ArrowUp")
+        self.assertEqual([self.page.shown()[it] for it in ("file", "name")], ["mine.json", "two"])
+        self.assertRegex(self.page.shown()["back"], "^Puts back a recording of 2 inputs")
         self.page.wait_until_kept()
-        name = self.page.value("sessionStorage.getItem('saxtegun-tab')")
-        one = self.page.browser.another_tab()
-        self.page.visit()
-        # this tab has the name, once the page with it is left
-        self.page.value(f"(navigator.locks.request('saxtegun ' + {json.dumps(name)}, () => new Promise((settle) => {{ window.leave = settle; }})), 1)")
-        other = self.page.browser.to_tab(one)
-        self.assert_nothing_lost()
-        self.page.wait_until_kept()
-        self.page.browser.to_tab(other)
-        self.page.value("(window.leave(), 1)")
-        self.page.browser.go("about:blank")
-        self.page.browser.to_tab(one)
         self.assert_nothing_lost()
 
     def test_keys_that_wait_to_be_played(self) -> None:
         self.page.press(*["ArrowLeft", "ArrowRight"] * 20)
         self.page.visit()
-        self.assertEqual(len(self.page.shown()["inputs"]), 40)
+        self.assertEqual(self.page.browser.until("document.querySelectorAll('#strip button').length", 40), 40)
 
     def test_that_nothing_is_kept_yet_is_said(self) -> None:
         promised = self.page.value("document.getElementById('promise').textContent")
@@ -213,7 +128,6 @@ class KeepingTests(MixedIn):
         self.assertIs(self.page.browser.until(LATE, False), False)
         self.assertEqual(self.page.value("document.getElementById('promise').textContent"), promised)
         self.page.wait_until_kept()
-        self.assertEqual(self.page.value("Object.keys(localStorage).length"), 0)
 
     def test_a_file_that_is_read_late_makes_the_page_busy(self) -> None:
         self.page.value("(Blob.prototype.arrayBuffer = ((read) => async function () { await new Promise((settle) => { window.go = settle; }); return read.call(this); })(Blob.prototype.arrayBuffer), File.prototype.arrayBuffer = Blob.prototype.arrayBuffer, 1)")

@@ -282,8 +282,8 @@ class Twins(unittest.TestCase):
     def test_the_number_of_messages_of_a_compiler_is_a_whole_one_that_the_language_counts_to(self) -> None:
         numbers = {"0": True, "3": True, f"{2**64 - 1}": True, f"{2**64}": False, 30 * "9": False, "-1": False, "1.0": False, "true": False, "null": False}
         texts = [f'["a",["x",["m"],{number}]]' for number in numbers]
-        wanted = [([], [(1, "compiler")] if is_one else []) for is_one in numbers.values()]
-        self.assertEqual([([*found.found], [*map(tuple, found.skipped)]) for found in map(find, texts)], wanted)
+        wanted: List[Any] = [([], [(1, "compiler")] if is_one else []) for is_one in numbers.values()]
+        self.assertEqual([([*found.found], [tuple(it) for it in found.skipped]) for found in map(find, texts)], wanted)
         self.assertEqual(self.found_in(texts), wanted)
 
     def test_letters_of_html_are_read_by_their_numbers_and_by_six_names(self) -> None:

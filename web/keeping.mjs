@@ -1,13 +1,12 @@
 // @ts-check
-// Keeps what is worked on between visits, in the browser's own storage on this machine. Each tab keeps its own, so none overwrites another's.
-import { forgetNote, namesNoted, noted, noteDown, numberKept } from "./notes.mjs";
-import { FIRST, TAKING, formerVisit, giveBack, isFree, newName, noteLeaving, noteName } from "./visits.mjs";
-
+// Keeps what is worked on between visits, in the browser's own storage on this machine: a record for each tab, written at each change.
 const DATABASE = "saxtegun";
 const STORE = "kept";
-const PATIENCE = 5000; // milliseconds that a page that was left may take to be gone
-const AFTER_KEY = 200; // milliseconds that a key waits until it is written, with those that follow it
+const ORDER = "kept"; // by which records stand in the order in which they were written last
+const TAB = "saxtegun-tab"; // where a page that is left notes the name of its record, for a reload; a copy of a tab that is open finds none there
+const MOST_RECORDS = 20; // of the tabs that kept something last
 const MOST_OF_OPENING = 15_000; // milliseconds that the database may take until the page begins without what it has, which stays there
+const MOST_AT_ONCE = 8; // values that are handed to the database before it has written one
 const LATE = 2000; // milliseconds that the database may take before it is said that it hasn't kept the last changes
 
 function settled(request) {
@@ -17,171 +16,107 @@ function settled(request) {
   });
 }
 
-// What `act` asks of the store.
-async function asked(mode, act) {
-  const opening = indexedDB.open(DATABASE, 1);
-  opening.onupgradeneeded = () => opening.result.createObjectStore(STORE);
-  const database = await settled(opening);
+function databaseOpened() {
+  const opening = indexedDB.open(DATABASE, 2);
+  opening.onupgradeneeded = () => {
+    const { result, transaction } = opening;
+    const store = result.objectStoreNames.contains(STORE) ? /** @type {IDBTransaction} */ (transaction).objectStore(STORE) : result.createObjectStore(STORE);
+    store.createIndex(ORDER, ORDER);
+  };
+  return settled(opening);
+}
+
+// The name of the record of the page that this tab left, or null.
+function nameLeft() {
   try {
-    const transaction = database.transaction(STORE, mode);
-    const done = new Promise((settle, refuse) => { transaction.oncomplete = settle; transaction.onabort = () => refuse(transaction.error); });
-    const answer = await settled(act(transaction.objectStore(STORE)));
-    await done;
-    return answer;
-  } finally {
-    database.close();
+    const name = sessionStorage.getItem(TAB);
+    sessionStorage.removeItem(TAB);
+    return name;
+  } catch {
+    return null;
   }
 }
 
-// What is read of the store, as long as it comes before a promise that is refused once it is too late.
-const readBefore = (late, act) => Promise.race([asked("readonly", act), late]);
-
-// What was kept under a name: { name, value, note }, where the value is undefined if the database has none, and null if it doesn't answer.
-async function keptUnder(name, late) {
-  const note = noted(name), value = await readBefore(late, (it) => it.get(name)).catch(() => null);
-  return { name, value, note };
+function noteName(name) {
+  try {
+    sessionStorage.setItem(TAB, name);
+  } catch {
+    // the next visit begins with what was written last
+  }
 }
 
-const lastOf = ({ value, note }, name) => Math.max(numberKept(value, name), numberKept(note, name));
-
-// What this browser keeps for one tab; `isGone` is whether it has no more what it kept.
+// What this browser keeps for one tab. `value` is what the page goes on with: undefined where nothing was kept, null where that can't be read.
 export class Store {
-  // The store of this tab. `entries` are what was kept, [{ name, value, note }]: first what this tab goes on with, and then what closed tabs left, the newest first.
+  // The store of this tab, which goes on with its own record after a reload, and else with a copy of the one that was written last.
   static async open(most = MOST_OF_OPENING) {
-    const store = new Store(), { name: former, isLeft, isCut } = formerVisit();
-    let timer = 0;
-    const late = new Promise((_, refuse) => { timer = setTimeout(refuse, most); });
-    // one tab at a time takes over what closed ones left, and has its own name before that: of two that begin at once none waits without it
-    const isOwn = former !== null && (await isFree(former)), isTaking = await isFree(TAKING, PATIENCE);
-    const names = new Set([...(await readBefore(late, (it) => it.getAllKeys()).catch(() => [])), ...namesNoted()]);
-    if (isOwn || (former !== null && (await isFree(former, isLeft ? PATIENCE : 0)))) store.name = former;
-    for (const name of names) {
-      if (isTaking && String(name).startsWith(FIRST) && name !== former && (await isFree(name))) store.left.push(name);
-    }
-    if (store.left.length === 0) giveBack(TAKING);
-    // where the page that was left isn't gone yet, this one goes on with a copy of its work
-    await store.read(store.name !== null || isLeft ? former : null, late);
-    clearTimeout(timer);
-    store.isCut = isCut;
-    store.isGone = store.name !== null && !store.entries.some(({ name }) => name === former);
+    const store = new Store();
+    await Promise.race([store.begin().catch(() => {}), new Promise((settle) => { setTimeout(settle, most); })]);
     return store;
   }
 
   constructor() {
-    this.name = null;
-    this.left = [];
-    this.entries = [];
-    this.isCut = false;
-    this.isGone = false;
-    this.turn = 0;
-    this.there = null;
+    this.name = `work ${Date.now().toString(36)} ${Math.random().toString(36).slice(2)}`;
+    this.former = nameLeft();
+    this.value = null;
+    this.database = null;
     this.unkept = null;
-    this.now = null;
-    this.isWriting = false;
-    this.isOfKeys = false;
-    this.isLate = false;
-    /** @type {(value?: unknown) => void} */
-    this.endPause = () => {};
-    // a browser may end what a page does as it is left, but not twice
+    this.count = 0; // of values that are being written
     window.addEventListener("pagehide", () => this.leave());
-    document.addEventListener("visibilitychange", () => (document.visibilityState === "hidden" ? this.leave() : formerVisit()));
+    window.addEventListener("pageshow", nameLeft);
   }
 
-  async read(first, late) {
-    const isThere = ({ value, note }) => value !== undefined || note !== null;
-    const own = first === null ? [] : [await keptUnder(first, late)], others = await Promise.all(this.left.map((name) => keptUnder(name, late)));
-    this.entries = [...own, ...others.sort((one, other) => lastOf(other, "kept") - lastOf(one, "kept"))].filter(isThere);
+  async begin() {
+    const database = await this.opened(), store = database.transaction(STORE, "readwrite").objectStore(STORE), names = await settled(store.index(ORDER).getAllKeys());
+    const name = names.includes(this.former) ? this.former : names.at(-1);
+    names.slice(0, -MOST_RECORDS).filter((it) => it !== name).forEach((it) => store.delete(it));
+    this.value = name === undefined ? undefined : await settled(store.get(name));
   }
 
-  // Goes on with those entries that were read; all others stay as they are, for other tabs.
-  async goOn(names) {
-    this.left.filter((name) => !names.includes(name)).forEach(giveBack);
-    this.left = this.left.filter((name) => names.includes(name));
-    const own = this.entries.find(({ name }) => name === this.name && names.includes(name));
-    if (own === undefined) {
-      this.name = newName();
-      await isFree(this.name);
-    } else {
-      this.there = own.value ?? null;
-      this.turn = lastOf(own, "turn");
-    }
-    noteName(this.name);
+  // The database, which another page may want to change or to delete.
+  async opened() {
+    const database = await databaseOpened();
+    database.onversionchange = () => {
+      database.close();
+      this.database = null;
+    };
+    this.database = database;
+    return database;
   }
 
-  // Keeps a value, once those before are kept; of several that wait the last. Where keys alone lead to it, it waits for others: until it is written it is
-  // noted where the page is left. What is told is whether the browser took it, or null where it takes long.
-  async keep(value, tell, isKey = false) {
-    this.isOfKeys = isKey && (this.unkept === null || this.isOfKeys);
-    this.turn += 1;
-    this.unkept = { ...value, turn: this.turn };
-    if (this.isLate) this.note();
-    if (!isKey) this.endPause();
-    if (this.isWriting) return;
-    this.isWriting = true;
-    for (let tried = null; this.unkept !== null && this.unkept !== tried;) {
-      if (this.isOfKeys) await this.pause();
-      tried = this.unkept;
-      tell(await this.write(tried, () => tell(null)));
-    }
-    this.isWriting = false;
+  // Goes on with the record that this tab left. One that was copied, or can't be read, stays as it is.
+  goOn() {
+    if (this.former !== null) this.name = this.former;
   }
 
-  pause() {
-    return new Promise((settle) => {
-      this.endPause = settle;
-      setTimeout(settle, AFTER_KEY);
-    });
+  // Writes a value at once, unless many are being written: of those that wait for them the last is. What is told is whether the browser took it, or null where
+  // it takes long.
+  keep(value, tell) {
+    this.unkept = value;
+    if (this.count < MOST_AT_ONCE) this.writeNext(tell);
   }
 
-  async write(value, tellLate) {
-    const timer = setTimeout(() => {
-      this.isLate = true;
-      this.note();
-      tellLate();
-    }, LATE);
-    this.now = value;
-    const isKept = await this.put(value).then(() => true, () => false);
+  async writeNext(tell) {
+    const value = this.unkept, timer = setTimeout(tell, LATE, null);
+    this.unkept = null;
+    this.count += 1;
+    const isKept = await this.write(value).then(() => true, () => false);
+    this.count -= 1;
     clearTimeout(timer);
-    Object.assign(this, { now: null, isLate: false });
-    if (isKept) this.wrote(value);
-    else this.note();
-    return isKept;
+    tell(isKept);
+    if (this.unkept !== null) this.writeNext(tell);
   }
 
-  // What closed tabs left stands in the value, and goes with the first that is kept.
-  put(value) {
-    return asked("readwrite", (store) => {
-      const request = store.put(value, this.name);
-      this.left.forEach((name) => store.delete(name));
-      return request;
-    });
+  // A page that is left is gone before it hears of an answer, so what is written is committed at once.
+  async write(value) {
+    const transaction = (this.database ?? (await this.opened())).transaction(STORE, "readwrite");
+    const done = new Promise((settle, refuse) => { transaction.oncomplete = settle; transaction.onabort = () => refuse(transaction.error); });
+    transaction.objectStore(STORE).put(value, this.name);
+    transaction.commit();
+    await done;
   }
 
-  wrote(value) {
-    this.there = value;
-    if (this.unkept === value) this.unkept = null;
-    if (this.unkept === null) forgetNote(this.name);
-    this.left.forEach(forgetNote);
-    // a tab that comes back finds its name free, and nothing under it, which is said there
-    this.left.forEach(giveBack);
-    giveBack(TAKING);
-    this.left = [];
-  }
-
-  // Whether the database has a part of a value, whatever comes of what is being written.
-  isThere(part) {
-    const hasIt = (value) => value !== null && (value.file === part || (value.past ?? []).includes(part));
-    return hasIt(this.there) && (this.now === null || hasIt(this.now));
-  }
-
-  // Notes what the database hasn't kept; whether there was room for all of it.
-  note() {
-    return this.unkept === null || noteDown(this.name, this.unkept, (part) => this.isThere(part));
-  }
-
-  // A browser may end this in the midst: until all is noted, it counts as not noted.
   leave() {
-    noteLeaving(this.unkept === null);
-    if (this.note()) noteLeaving(true);
+    noteName(this.name);
+    if (this.unkept !== null && this.database !== null) this.write(this.unkept).catch(() => {});
   }
 }

@@ -7,7 +7,7 @@ import { countOf } from "./closes.mjs";
 import { isFailure } from "./session-list.mjs";
 import { causeOf, framesOf, gameOf, isPlayed, shownOf, sourceOf, sourceOfFrames } from "./replaying.mjs";
 import { clocksOf, countOfOthers, partingOfOpen, rowsOf, runOfOpen, runWithFrames, runsOfNow, sessionOf } from "./suite.mjs";
-import { noFieldTold, shortened } from "./texts.mjs";
+import { shortened } from "./texts.mjs";
 import { there } from "./there.mjs";
 import { hasClock, isRefusedForClock } from "./ticks.mjs";
 /** @typedef {import("./state").State} State */
@@ -59,21 +59,7 @@ export function clockTold(state) {
   return isRefused ? { text: "A game with `realtime_interval` isn't played here, but a recording holds its ticks: play it without that line, with its ticks as recorded?", isAsked: true } : null;
 }
 
-const UNREADABLE = "What this browser kept of an earlier visit can't be read by this page. It stays where it is.";
-const NO_ROOM = "This browser had no room for all that was changed just before the page was left: an older file, or less to put back, may be here.";
-
-const WAITING = "What closed tabs left waits, since no more can be put back here: open this page in another tab to go on with it.";
-
-const GONE = "Nothing is kept of this tab's last visit: it was deleted, or another tab has taken it over, and can put it back.";
-
-const lackingTold = ({ isFile, past }) => `What this browser kept was deleted: of the last visit ${[isFile && "a sessions file", past > 0 && `${plural(past, "thing")} to put back`].filter(Boolean).join(" and ")} can't be read any more.`;
-
-// What is said of what was kept of earlier visits, or null.
-export function visitTold({ unreadable, isCut, waiting, whyNot, isGone = false, lacking = [] }) {
-  const fieldless = whyNot && noFieldTold("The text that this browser kept", whyNot);
-  const told = [fieldless, unreadable > 0 && UNREADABLE, isCut && NO_ROOM, waiting > 0 && WAITING, isGone && GONE, ...lacking.map(lackingTold)].filter(Boolean);
-  return told.length === 0 ? null : told.join(" ");
-}
+export const UNREADABLE = "What this browser kept of an earlier visit can't be read by this page. It stays where it is.";
 
 // What is promised of where the work is: whether the browser kept it, or null where that takes long.
 export function keepingTold(isKept) {
@@ -229,10 +215,7 @@ export function unlikenessTold(state, ending, isOfEngines) {
 // ---- what can be put back
 
 /** @param {import("./state").Work} work */
-function workTold({ own = null, inputs, name }) {
-  if (inputs.length > 0) return `a recording of ${plural(inputs.length, "input")}`;
-  return own === null ? `the name ${shortened(name)}` : `the text of ${gameOf(own).title}, as a recording's own`;
-}
+const workTold = ({ inputs, name }) => (inputs.length > 0 ? `a recording of ${plural(inputs.length, "input")}` : `the name ${shortened(name)}`);
 
 /** @param {import("./state").Lost} lost */
 function lostTold({ text, work, file }) {

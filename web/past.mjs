@@ -1,12 +1,11 @@
 // @ts-check
 // What can be put back: texts, recordings, names and sessions files that something else took the place of. The newest stands last.
 import { among, distinct } from "./text-map.mjs";
-import { there } from "./there.mjs";
 
 /** @typedef {import("./state").State} State */
 
-export const MOST_PAST = 60;
-const MOST_BYTES_PAST = 256 * 2 ** 20; // of texts and files that can be put back: each of them is held twice, as it is read and as it is kept
+export const MOST_PAST = 20;
+const MOST_BYTES_PAST = 2 ** 24; // of texts and files that can be put back, since all is written at each change
 
 export const isSameList = (one, other) => one === other || (one.length === other.length && one.every((item, place) => item === other[place]));
 
@@ -27,13 +26,13 @@ function textsBelow(past, text) {
 const isOverAny = ({ work, text }) => text === undefined && work !== undefined && work.own === null;
 
 // Things that can be put back, each recording with the text that it is played over: as they can be put back anywhere.
-export function withTexts(past, text) {
+function withTexts(past, text) {
   const texts = textsBelow(past, text);
   return past.map((lost, place) => (isOverAny(lost) ? { ...lost, text: texts[place] } : lost));
 }
 
 // The same where this text is at hand no more: those that would be played over it still are.
-export function leavingText(past, text) {
+function leavingText(past, text) {
   const last = past.findLastIndex((lost) => lost.text !== undefined || isOverAny(lost));
   return last < 0 || past[last].text !== undefined ? past : past.map((lost, place) => (place === last ? { ...lost, text } : lost));
 }
@@ -82,15 +81,6 @@ function isRecordingLost(before, after) {
   return !after.past.some(isIn);
 }
 
-// Whether a recording's own text is nowhere any more: one that can't stand in the field has no other place.
-/** @param {State} before @param {State} after */
-function isOwnTextLost({ work: { own = null }, text }, after) {
-  if (own === null || own === text) return false;
-  /** @type {(it: { text?: string, work?: import("./state").Work }, entries: { source: string }[]) => boolean} */
-  const isIn = ({ text: there, work }, entries) => there === own || work?.own === own || entries.some(({ source }) => source === own);
-  return !isIn(after, after.file?.entries ?? []) && !after.past.some((lost) => isIn(lost, lost.file?.entriesAtHand ?? []));
-}
-
 function isNameLost({ work: { name } }, after) {
   if (name === "" || name === after.work.name || (after.file?.entries ?? []).some((entry) => entry.name === name)) return false;
   return !after.past.some((it) => it.work?.name === name);
@@ -120,7 +110,7 @@ function isFileLost(before, after) {
 // What of one state isn't there any more in the next: { text, work, file, isUnsaved }, each only where it is lost; null where nothing is.
 /** @param {State} before @param {State} after */
 export function lostIn(before, after) {
-  const isFile = isFileLost(before, after), isWork = isRecordingLost(before, after) || isOwnTextLost(before, after) || isNameLost(before, after);
+  const isFile = isFileLost(before, after), isWork = isRecordingLost(before, after) || isNameLost(before, after);
   const lost = {
     // a recording comes back with the text that it was made over
     ...(isTextLost(before, after) || (isWork && before.text !== after.text) ? { text: before.text } : {}),
@@ -130,31 +120,18 @@ export function lostIn(before, after) {
   return Object.keys(lost).length === 0 ? null : lost;
 }
 
-const numberOf = ({ number = 0 }) => number;
-
-// Things that were lost now, behind others: each has a number, by which it is known which were lost first, wherever they stand.
-export function lostNow(things, past) {
-  const last = past.reduce((most, it) => Math.max(most, numberOf(it)), 0);
-  return things.map((lost, place) => ({ ...lost, number: last + 1 + place }));
-}
-
 const roomOfWork = ({ own, name, inputs }) => (own?.length ?? 0) + name.length + inputs.length;
 /** @param {import("./state").Lost} lost */
 const bytesOf = ({ text = "", work, file }) => text.length + (work ? roomOfWork(work) : 0) + (file?.bytes.length ?? 0);
 
-// Of things that can be put back the last that were lost, in their places: as many as stay beside others, and as have room; one in any case where there are
-// no others. Those behind one that has no room may have some, unless they may be played over its text.
-export function lastLost(past, others = []) {
-  const order = [...past.keys()].sort((one, other) => numberOf(past[other]) - numberOf(past[one]) || other - one), stays = new Set();
-  let bytes = others.reduce((sum, it) => sum + bytesOf(it), 0);
-  for (const place of order) {
-    const count = others.length + stays.size, lost = past[place], more = bytesOf(lost), hasRoom = count === 0 || bytes + more <= MOST_BYTES_PAST;
-    if (count === MOST_PAST || (!hasRoom && lost.text !== undefined)) break;
-    if (!hasRoom) continue;
-    bytes += more;
-    stays.add(place);
+// The last of things that can be put back: as many as there is room for, and one in any case.
+export function lastLost(past) {
+  let first = past.length;
+  for (let bytes = 0; first > 0 && past.length - first < MOST_PAST; first -= 1) {
+    bytes += bytesOf(past[first - 1]);
+    if (bytes > MOST_BYTES_PAST && first < past.length) break;
   }
-  return stays.size === past.length ? past : past.filter((_, place) => stays.has(place));
+  return first === 0 ? past : past.slice(first);
 }
 
 // What can be put back in the next state, where that has another text at hand.
@@ -172,7 +149,7 @@ function lettingGo(past) {
 export function remembering(before, after) {
   const lost = lostIn(before, after), past = pastBelow(before, after);
   if (lost === null) return past === after.past ? after : { ...after, past };
-  return { ...after, past: lettingGo(lastLost([...(lost.text === undefined ? past : after.past), ...lostNow([lost], after.past)])) };
+  return { ...after, past: lettingGo(lastLost([...(lost.text === undefined ? past : after.past), lost])) };
 }
 
 // The recordings that a state would have had once the keys that wait were played, each as it was before a key cut it, and the last.
@@ -192,16 +169,6 @@ function recordingsOf({ work, queue }) {
 /** @type {(state: State, inputs: import("./state").Input[]) => State} */
 const withInputs = (state, inputs) => ({ ...state, work: { ...state.work, inputs } });
 
-// A state in whose recording the keys stand that wait, as if they had been played.
-/** @type {(state: State) => State} */
-export function withKeys(state) {
-  const recordings = recordingsOf(state);
-  /** @type {State} */
-  let next = { ...withInputs(state, there(recordings.pop())), queue: [] };
-  for (const inputs of recordings) next = remembering(withInputs(state, inputs), next);
-  return next;
-}
-
 // The next state where keys that wait won't be played: what they would have led to can be put back too, as if they had been.
 /** @param {State} before @param {State} after */
 export function rememberingKeys(before, after) {
@@ -217,5 +184,5 @@ export function behindAll(before, after) {
 /** @param {State} before @param {State} after */
 function behindThem(before, after) {
   const lost = lostIn(before, after);
-  return lost === null ? after : { ...after, past: lettingGo(lastLost([...lostNow(withTexts([lost], before.text), after.past), ...after.past])) };
+  return lost === null ? after : { ...after, past: lettingGo([...withTexts([lost], before.text), ...lastLost(after.past).slice(1 - MOST_PAST)]) };
 }

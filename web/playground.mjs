@@ -7,7 +7,7 @@ import { Ghost } from "./ghost.mjs";
 import { at, isMotionReduced, json } from "./elements.mjs";
 import { titlesOf } from "./findings.mjs";
 import { PASTED, download, handing, holdingDrops, takeFiles } from "./handing.mjs";
-import { keptOf, stateOfVisit } from "./kept-work.mjs";
+import { keptOf, stateFrom } from "./kept-work.mjs";
 import { Store } from "./keeping.mjs";
 import { listen } from "./listening.mjs";
 import { PLAYER, servePlayer, startEngine } from "./page-engine.mjs";
@@ -18,12 +18,12 @@ import { isFailure } from "./session-list.mjs";
 import { RECORDINGS, comparing, savedLater, withComparison, withOtherFile, withRecordings } from "./filing.mjs";
 import { mayRead, slowTold } from "./rehearsing.mjs";
 import { framesOf, isAtEnd, shownOf } from "./replaying.mjs";
-import { keepingTold, visitTold } from "./page-words.mjs";
+import { UNREADABLE, keepingTold } from "./page-words.mjs";
 import { say } from "./saying.mjs";
 import { linePointedAt, lookedAtActed, stageChosen } from "./staging.mjs";
 import { sessionOpened } from "./suite.mjs";
 import { there } from "./there.mjs";
-import { RECORDED_ORDER, cutBack, edited, inOrder, lookedAt, lookedAtInput, pressed, released, withGame, withRefusal, withoutRefusals } from "./work.mjs";
+import { RECORDED_ORDER, beginning, cutBack, edited, inOrder, lookedAt, lookedAtInput, pressed, released, withGame, withRefusal, withoutRefusals } from "./work.mjs";
 
 const FRAME_PAUSE = 160; // milliseconds between two frames when playing
 
@@ -204,19 +204,19 @@ class Playground {
   }
 
   // Keeps what was made by hand, where that has changed.
-  keep(state, isBusy, isKey) {
+  keep(state, isBusy) {
     const { text, order, work, queue, file, isUnsaved, past, tab, isTicked } = state, values = [text, order, work, queue, file, isUnsaved, past, tab, isTicked, isBusy];
     if (this.kept?.every((value, place) => value === values[place])) return;
     this.kept = values;
-    this.store.keep(keptOf(state, isBusy), (isKept) => say("promise", keepingTold(isKept)), isKey);
+    this.store.keep(keptOf(state, isBusy), (isKept) => say("promise", keepingTold(isKept)));
   }
 }
 
 async function start() {
   const release = holdingDrops(), example = json("example-game"), [engine, store] = await Promise.all([startEngine(), Store.open()]);
-  const { state, read, ...visit } = stateOfVisit(store.entries, example), told = visitTold({ ...visit, isCut: visit.isCut || store.isCut, isGone: store.isGone });
-  await store.goOn(read);
-  const page = new Playground(state, engine, store);
+  const state = store.value === undefined ? null : stateFrom(store.value, example), told = store.value !== undefined && state === null ? UNREADABLE : null;
+  if (state !== null) store.goOn();
+  const page = new Playground(state ?? beginning(example), engine, store);
   listen(page);
   takeFiles((name, bytes) => page.take(name, bytes), (why) => page.refuse(why), (begin) => page.during(begin), release());
   page.runner.update((now) => (told === null ? now : { ...now, told: { text: [told, now.told?.text].filter(Boolean).join(" "), close: null } }));

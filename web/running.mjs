@@ -13,8 +13,8 @@ const TYPING_PAUSE = 250; // milliseconds without a letter, after which what was
 
 export class Runner {
   // engine.play, engine.stages, engine.acted and engine.solution, each of (request, signal), and engine.playAll(bytes, { order, signal, progress }) are asked;
-  // draw(state, doing, isBusy, isKey) shows what there is, and keep(state, isPlaying, isKey) keeps it, where `isPlaying` is whether something is played that isn't over
-  // in a moment, and `isKey` whether a key led to it.
+  // draw(state, doing, isBusy, isKey) shows what there is, and keep(state, isPlaying) keeps it, where `isPlaying` is whether something is played that isn't over
+  // in a moment.
   constructor(state, { engine, draw, keep, pause = TYPING_PAUSE }) {
     /** @type {import("./state").State} */
     this.state = state;
@@ -87,7 +87,7 @@ export class Runner {
 
   show(isKey = false) {
     this.draw(this.state, this.doing, this.isBusy || this.coming > 0, isKey);
-    this.keep(this.state, this.isSlow, isKey);
+    this.keep(this.state, this.isSlow);
     if (!this.isBusy) this.waiting.splice(0).forEach((settle) => settle());
   }
 

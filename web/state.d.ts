@@ -98,9 +98,8 @@ export interface Difference {
   why: string | null;
 }
 
-/** What something else took the place of; the higher its number, the later. */
+/** What something else took the place of. */
 export interface Lost {
-  number?: number;
   text?: string;
   work?: Work;
   file?: SessionFile;

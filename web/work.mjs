@@ -3,11 +3,11 @@
 // knows the page or the engine. What the engine is wanted to play follows from the state, and its answer leads to the next (replaying.mjs, suite.mjs).
 import { levelsOf } from "./game.mjs";
 import { messagesAt } from "./messages.mjs";
-import { behindAll, isReplaced, leavingText, lostNow, rememberingKeys } from "./past.mjs";
+import { behindAll, isReplaced, rememberingKeys } from "./past.mjs";
 import { firstFrom } from "./recording.mjs";
 import { cutToPlayed, framesOf, gameOf, isAtEnd, isPlayed, sourceOf, takenOf } from "./replaying.mjs";
 import { MOST_INPUTS } from "./session-file.mjs";
-import { noFieldTold, whyNoField } from "./texts.mjs";
+import { whyNoField } from "./texts.mjs";
 import { there } from "./there.mjs";
 /** @typedef {import("./state").State} State */
 
@@ -183,28 +183,12 @@ function stillOpened(work, file, text) {
   return isOne ? work.opened : null;
 }
 
-// What is there of a text and its recording where the text isn't put into the field: the recording has it as its own, unless it has another one as that; then
-// the text alone can be put back. Where there is no recording, it is one that has nothing in it yet.
-/** @type {(lost: import("./state").Lost & { text: string }) => import("./state").Lost & { work: import("./state").Work, past: import("./state").Lost[] }} */
-export function besideField({ text, work = workOn(text), ...more }) {
-  return work.own === null ? { ...more, work: { ...work, own: text, opened: null }, past: [] } : { ...more, work, past: [{ text }] };
-}
-
-// What is said of what was put back where its text isn't put into the field, or its file isn't read, or null.
-function toldOfBack(whyNot, file) {
-  const unread = file?.whyUnread ?? null, sentences = [whyNot !== null && noFieldTold("The text that was put back", whyNot), unread !== null && `Not read: ${unread}. Saved, the file is as it was.`].filter(Boolean);
-  return sentences.length === 0 ? null : { text: sentences.join(" "), close: null };
-}
-
 // Puts back what was lost last.
 /** @param {State} state */
 export function putBack(state) {
   const last = state.past.at(-1);
   if (last === undefined) return state;
-  const { text: lostText } = last, why = lostText === undefined ? null : whyNoField(lostText);
-  const { past, ...lost } = why === null || lostText === undefined ? { ...last, past: [] } : besideField({ ...last, text: lostText });
-  const { text = state.text, work = state.work, file = state.file, isUnsaved = state.isUnsaved } = lost;
-  const below = state.past.slice(0, -1), open = { ...work, opened: stillOpened(work, file, text) }, told = toldOfBack(why, lost.file);
-  const next = { ...state, text, work: open, file, isUnsaved, past: [...(why === null ? below : leavingText(below, last.text)), ...lostNow(past, state.past)], looked: null, queue: [], ...AFRESH, told };
-  return behindAll(state, next);
+  const { text = state.text, work = state.work, file = state.file, isUnsaved = state.isUnsaved } = last, why = last.file?.whyUnread ?? null;
+  const open = { ...work, opened: stillOpened(work, file, text) }, told = why === null ? null : { text: `Not read: ${why}. Saved, the file is as it was.`, close: null };
+  return behindAll(state, { ...state, text, work: open, file, isUnsaved, past: state.past.slice(0, -1), looked: null, queue: [], ...AFRESH, told });
 }

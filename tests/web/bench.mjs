@@ -2,7 +2,7 @@
 // The page without a browser: its state, played by the module in Node, with what is drawn left out. For the tests of the page's logic.
 import { readFileSync } from "node:fs";
 import { comparing, withComparison } from "../../web/filing.mjs";
-import { keptOf, stateOfVisit } from "../../web/kept-work.mjs";
+import { keptOf, stateFrom } from "../../web/kept-work.mjs";
 import { KeptOpen } from "../../web/kept-open.mjs";
 import { actedBy, playedBy, solutionBy, stagesBy } from "../../web/page-engine.mjs";
 import { atOnce } from "../../web/pieces.mjs";
@@ -60,8 +60,7 @@ export class Bench {
 
   // Leaves the page, and visits it again.
   async reload() {
-    const { state } = stateOfVisit([{ name: "work", value: structuredClone(this.kept) }], this.state.example);
-    this.begin(state);
+    this.begin(stateFrom(structuredClone(this.kept), this.state.example));
     await this.runner.idle();
   }
 }

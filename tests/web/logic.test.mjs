@@ -6,7 +6,6 @@ import { Ending, endingTold, obstacleTold, partingOf, partingTold } from "../../
 import { handed, takeEach } from "../../web/handing.mjs";
 import { lostIn } from "../../web/past.mjs";
 import { meaningOf } from "../../web/keys.mjs";
-import { packed, unpacked } from "../../web/packing.mjs";
 import { MOST_OF_LINES, playedInParts } from "../../web/parts.mjs";
 import { Labels, readCells, widthOf } from "../../web/level-text.mjs";
 import { framesIn, readingRuns, runsOf } from "../../web/lines.mjs";
@@ -79,17 +78,6 @@ test("a file is played in as few parts as the engine takes, and their lines are 
   const failing = { playAll: async () => ({ fault: "bad-level 4", lines: null }) };
   assert.equal((await playedInParts(failing, parts.slice(1), 300, asked)).fault, "bad-level 115");
   assert.equal((await playedInParts(failing, parts.slice(0, 1), 300, asked)).fault, "bad-level 4");
-});
-
-test("a file whose sessions share a text is kept small, and each byte comes back", () => {
-  const game = `title A\n${"x".repeat(2000)}\u00e9`, entries = Array.from({ length: 2000 }, (_, number) => `["s${number}", [${JSON.stringify(game)}, [${number % 4}] , "b:0,"]]`);
-  const file = new SessionFile("f.json", bytesOf(`[ ${entries.join(",\n")}\n]\n`)), kept = packed(file);
-  assert.ok(JSON.stringify(kept).length < 120_000 && file.bytes.length > 4_000_000);
-  assert.deepEqual([Buffer.from(unpacked(structuredClone(kept))).equals(file.bytes), kept.texts.length, packed(file) === kept], [true, 1, true]);
-  const small = new SessionFile("f.json", bytesOf(FILE));
-  assert.deepEqual(packed(small), { name: "f.json", bytes: small.bytes });
-  const apart = new SessionFile("f.json", bytesOf(JSON.stringify(Array.from({ length: 40 }, (_, number) => ["s", [`${number}${"x".repeat(3000)}`, [], "b:0,"]]))));
-  assert.equal(packed(apart).bytes, apart.bytes);
 });
 
 test("a changed level leaves all else letter by letter", () => {

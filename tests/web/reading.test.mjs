@@ -140,17 +140,11 @@ test("how far what comes is read is said where it takes long", () => {
   assert.deepEqual([null, { isSlow: false }, { what: "Comparing sessions", isSlow: true, done: 3, total: 70 }].map((reading) => readingTold(reading)?.text ?? null), [null, null, "Comparing sessions: 3 of 70."]);
 });
 
-// A text of a game that a browser lays out for minutes: by a line of letters beyond ASCII (the fifth of it), or by the number of its lines.
-const MARKED = `title A game\n\n\n\n(${"a\u0301".repeat(4097)})\n${GAME}`, MANY_LINES = `${GAME}${"\n".repeat(32_768)}`;
-const OF_A_LINE = "has more than 4,096 letters beyond printable ASCII on line 5, which a browser may take minutes to lay out";
-const OF_ALL = "has more than 32,768 letters beyond printable ASCII, which a browser may take minutes to lay out";
-const OF_LONG_LINES = "has many letters beyond printable ASCII on very long lines, which a browser may take minutes to lay out";
 const OF_A_RETURN = `has a carriage return within line ${GAME.split("\n").length}, which a field shows as the end of a line`;
-const OF_LINES = "has more than 32,768 lines, which a browser may take minutes to lay out";
 
-it("a text that a browser would lay out for minutes comes not to hand", () => {
+it("a text that the field can't have comes not to hand", () => {
   const TOO_LONG = "is longer than a game's text may be";
-  for (const [source, why] of [[`${GAME}\n`, null], [`title ${"x".repeat(1_048_576)}`, TOO_LONG], [`title ${"\u20ac".repeat(400_000)}`, TOO_LONG], [MARKED, OF_A_LINE], [MANY_LINES, OF_LINES], [`${GAME}x\ry`, OF_A_RETURN]]) {
+  for (const [source, why] of [[`${GAME}\n`, null], [`title ${"x".repeat(1_048_576)}`, TOO_LONG], [`title ${"\u20ac".repeat(400_000)}`, TOO_LONG], [`${GAME}x\ry`, OF_A_RETURN]]) {
     const isTaken = why === null;
     const found = [{ name: "a", source, inputs: [], level: "", index: 0 }], begun = beginning(GAME), opened = withOtherFile(begun, fileOf(found));
     assert.deepEqual([opened, withRecordings(begun, found)].map(({ text }) => text === source), [isTaken, isTaken]);
@@ -159,23 +153,15 @@ it("a text that a browser would lay out for minutes comes not to hand", () => {
   }
 });
 
-test("it is told of a text why it isn't put into the field, at its bounds", () => {
-  const cases = [["", null], [GAME, null], [`${"a\u0301".repeat(4096)}\n`.repeat(8), null], [`${`${"a\u0301".repeat(4096)}\n`.repeat(8)}\u0301`, OF_ALL], ["a\t\n".repeat(32_767), null], ["ab\t".repeat(4097), OF_A_LINE.replace("line 5", "line 1")], [`${"a".repeat(500_000)}${"\u05d0".repeat(532)}`, null], [`${"a".repeat(500_000)}${"\u05d0".repeat(537)}`, OF_LONG_LINES], [`${"a".repeat(8_192 - 4_096)}${"\u05d0".repeat(4096)}\n`.repeat(8), null], [`${"a".repeat(130_000)}${"\u05d0".repeat(1_000)}\n`.repeat(3), OF_LONG_LINES], ["x".repeat(1_048_576), null],
-    ["\n".repeat(32_767), null], ["\r\n".repeat(32_767), null], ["\n".repeat(32_768), OF_LINES], ["\r".repeat(32_768), OF_LINES], [MANY_LINES, OF_LINES], [MARKED, OF_A_LINE],
-    [`\n\r\n\n\r${"a \u05d0 1 ".repeat(4097)}`, OF_A_LINE], ["x".repeat(1_048_577), "is longer than a game's text may be"],
+test("it is told of a text why it isn't put into the field", () => {
+  const cases = [["", null], [GAME, null], ["\r\n".repeat(100_000), null], ["x".repeat(1_048_576), null], ["x".repeat(1_048_577), "is longer than a game's text may be"],
     ["a\r\nb\r\r\nc", "has a carriage return within line 2, which a field shows as the end of a line"], ["a\nb\n\r", "has a carriage return within line 3, which a field shows as the end of a line"]];
   for (const [text, why] of cases) assert.equal(whyNoField(text), why);
 });
 
-test("a game that a browser would lay out for minutes is not opened, and it is said which line it is", () => {
-  for (const [text, why] of [[MARKED, OF_A_LINE], [MANY_LINES, OF_LINES]]) {
-    assert.throws(() => handed("g.txt", new TextEncoder().encode(text)), new Refusal(`g.txt ${why}: play it by the command, or edit it`));
-  }
-});
-
-test("what is pasted into a field is left to it, but for a text that a browser would lay out there for minutes", () => {
+test("what is pasted into a field is left to it, but for a text that is too long to be played", () => {
   const field = { matches: (words) => words === "textarea, input" }, level = { matches: () => false }, long = "x".repeat(2 ** 20 + 1);
-  assert.deepEqual([["x", field], ["", field], [long, field], [MARKED, field], ["x", level], ["", level], ["x", {}]].map((words) => isTyped(...words)), [true, true, false, false, false, true, false]);
+  assert.deepEqual([["x", field], ["", field], [long, field], ["x", level], ["", level], ["x", {}]].map((words) => isTyped(...words)), [true, true, false, false, true, false]);
 });
 
 test("an answer with a level whose text is very long is handed over as none", () => {

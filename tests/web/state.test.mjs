@@ -4,8 +4,8 @@ import assert from "node:assert/strict";
 import test from "node:test";
 import { Ending } from "../../web/comparing.mjs";
 import { findingsIn, searching } from "../../web/console.mjs";
-import { keptOf, stateFrom, stateOfVisit } from "../../web/kept-work.mjs";
-import { endTold, faultOfText, othersTold, ownTold, putBackTold, statusOf, stepTold, tabTold, toldOfLevel, unlikenessTold, verdictOf, visitTold } from "../../web/page-words.mjs";
+import { keptOf, stateFrom } from "../../web/kept-work.mjs";
+import { endTold, faultOfText, othersTold, ownTold, putBackTold, statusOf, stepTold, tabTold, toldOfLevel, unlikenessTold, verdictOf } from "../../web/page-words.mjs";
 import { SessionFile } from "../../web/session-file.mjs";
 import { accepted, followed, namesakeOf, removed, savedAs, savedLater, withOtherFile, withRecordings } from "../../web/filing.mjs";
 import { lastLost } from "../../web/past.mjs";
@@ -267,9 +267,6 @@ it("keys that wait are put back with the recording that they were pressed for", 
   }
   // what they lead to is no loss
   assert.deepEqual([waiting.past, pressed(waiting, 4).past], [[], []]);
-  // as of a tab that is closed
-  const closed = { name: "other", value: structuredClone(keptOf(waiting, false)) }, own = { name: "work", value: structuredClone(keptOf(beginning(GAME), false)) };
-  assert.deepEqual(stateOfVisit([own, closed], GAME).state.past.map(({ work }) => work?.inputs), [[3, 1, 0], [3, 2, "undo"]]);
 });
 
 it("what a key would cut that waits can be put back too, where it isn't played", async () => {
@@ -554,82 +551,24 @@ it("what can't be read, or has another version, leaves a page that works", async
   const strange = [null, 1, "", {}, [], { version: 3 }, { ...kept, version: 9 }, { ...kept, text: 5 }, { ...kept, work: null }, { ...kept, work: { ...kept.work, inputs: [9] } }, { ...kept, past: 3 },
     { ...kept, file: { name: 1, bytes: new Uint8Array([1]) } }, { ...kept, order: "up" }, { source: "title", index: 0, inputs: null }];
   for (const [place, value] of strange.entries()) assert.equal(stateFrom(value, GAME), null, `${place}`);
-  const { state, read: names, unreadable } = stateOfVisit([{ name: "one", value: strange[4] }, { name: "two", value: kept }], GAME);
-  assert.deepEqual([state.work.inputs, names, unreadable], [PUSHING, ["two"], 1]);
-  assert.deepEqual(stateOfVisit([{ name: "one", value: {} }], GAME).state, beginning(GAME));
 });
 
-// A text of a game that a browser lays out for minutes.
-const MARKED = `${OTHER}(${"a\u0301".repeat(4097)})\n`;
-const NO_FIELD = /^The text that [a-z ]+ has more than 4,096 letters beyond printable ASCII on line [0-9]+, which a browser may take minutes to lay out\. It isn't put into the field/;
-
-it("of more than 60 things that were lost those go first that were lost first, wherever they stand", async () => {
-  const bench = await played(2, 1, 0, 2, 2, 3, 3, 1), last = bench.state.work.inputs, past = Array.from({ length: 60 }, (_, number) => ({ number: number + 1, text: `${GAME}(${number})` }));
+it("of more than 20 things that were lost those stay that were lost last, and what was put back last is lost last", async () => {
+  const bench = await played(2, 1, 0, 2, 2, 3, 3, 1), past = Array.from({ length: 20 }, (_, number) => ({ text: `${GAME}(${number})` }));
   bench.begin({ ...bench.state, past });
   const titles = () => bench.state.past.map(({ text, work }) => work?.inputs.length ?? Number(text.slice(GAME.length + 1, -1)));
   await bench.act(putBack);
-  // what stood there is lost last, and stands first
-  assert.deepEqual([titles()[0], titles().length], [8, 60]);
+  assert.deepEqual([titles()[0], titles().slice(1)], [8, Array.from({ length: 19 }, (_, number) => number)]);
   await bench.act(withGame, `${GAME}(x)`);
-  assert.deepEqual([bench.state.past.length, bench.state.past.some(({ work }) => work?.inputs === last)], [60, true]);
-  const texts = bench.state.past.flatMap(({ text }) => text ?? []);
-  assert.deepEqual([0, 1, 59].map((number) => texts.includes(`${GAME}(${number})`)), [false, true, true]);
+  // a text with the recording of 8 inputs over it
+  assert.deepEqual(titles(), [...Array.from({ length: 19 }, (_, number) => number), 8]);
 });
 
-test("what can be put back has 256 MiB, and the last that was lost in any case", () => {
-  const lost = (number, size) => ({ number, file: { bytes: { length: size * 2 ** 20 } } }), numbers = (...sizes) => lastLost(sizes.map(([number, size]) => lost(number, size))).map(({ number }) => number);
-  assert.deepEqual(numbers([4, 100], [1, 1], [2, 100], [3, 56]), [4, 2, 3]);
-  assert.deepEqual(numbers([4, 100], [1, 1], [2, 100], [3, 55]), [4, 1, 2, 3]);
-  assert.deepEqual(numbers([2, 257], [1, 1]), [2]);
-  // what is small stays though something large behind it has no room, unless it may be played over the text of that
-  assert.deepEqual(numbers([1, 1], [2, 100], [3, 200], [4, 100]), [1, 2, 4]);
-  const [one, two, three] = [lost(1, 1), { ...lost(2, 200), text: GAME }, lost(3, 100)];
-  assert.deepEqual(lastLost([one, two, three]), [three]);
-});
-
-it("a text that was kept, and that a browser would lay out for minutes, is played as the recording's own, and the field begins with the example", async () => {
-  const bench = await played(1, 0);
-  const { kept } = bench, of = (value) => stateOfVisit([{ name: "work", value: structuredClone(value) }], GAME);
-  const { state, whyNot, read: names, unreadable } = of({ ...kept, text: MARKED });
-  assert.deepEqual([state.text, state.work, state.past, names, unreadable], [GAME, { ...kept.work, own: MARKED, opened: null }, [], ["work"], 0]);
-  assert.match(visitTold({ unreadable, isCut: false, waiting: 0, whyNot }), NO_FIELD);
-  bench.begin(state);
-  await bench.runner.idle();
-  assert.deepEqual([isPlayed(bench.state), framesOf(bench.state).length], [true, 3]);
-  const beside = of({ ...kept, text: MARKED, work: { ...kept.work, own: BROKEN } }).state;
-  assert.deepEqual([beside.text, beside.work.own, beside.past.map(({ text }) => text)], [GAME, BROKEN, [MARKED]]);
-  assert.deepEqual([of(kept).whyNot, visitTold({ ...of(kept), isCut: false })], [null, null]);
-});
-
-it("a text that is put back, and that a browser would lay out for minutes, comes back as a recording's own, and nothing is lost", async () => {
-  const bench = await played(1), lost = { text: MARKED, work: { ...bench.state.work, inputs: [2, 1] } };
-  const back = async (past) => {
-    bench.begin({ ...bench.state, past });
-    await bench.act(putBack);
-    const { text, work: { own, inputs }, told, past: others } = bench.state;
-    assert.match(told.text, NO_FIELD);
-    return { text, own, inputs, others: others.map((it) => it.work?.inputs ?? it.text) };
-  };
-  assert.deepEqual(await back([{ text: MARKED }]), { text: GAME, own: MARKED, inputs: [], others: [[1]] });
-  assert.deepEqual(await back([lost]), { text: GAME, own: MARKED, inputs: [2, 1], others: [] });
-  assert.deepEqual(await back([{ ...lost, work: { ...lost.work, own: BROKEN } }]), { text: GAME, own: BROKEN, inputs: [2, 1], others: [[2, 1], MARKED] });
-});
-
-it("a text that had to stand as a recording's own is put back, whatever took its place, and is left to another tab", async () => {
-  const { kept } = await played(), of = (...entries) => stateOfVisit(entries.map((value, number) => ({ name: `${number}`, value: structuredClone(value) })), GAME).state;
-  for (const act of [(state) => edited(state, `${GAME}x`), (state) => withGame(state, OTHER), (state) => withOtherFile(state, fileOf([["one", [OTHER, [1], "background:0,", 0]]])), (state) => sessionOpened(withOtherFile(state, fileOf(DAY)), 1)]) {
-    const bench = new Bench(of({ ...kept, text: MARKED }));
-    await bench.act(act);
-    assert.notEqual(bench.state.work.own, MARKED);
-    assert.match(putBackTold(bench.state), /the text of Another Simple Block Pushing Game, as a recording's own$/);
-    await bench.act(edited, `${GAME}y`);
-    await bench.act(putBack);
-    if (bench.state.work.own !== MARKED) await bench.act(putBack);
-    assert.deepEqual([bench.state.work.own, isPlayed(bench.state)], [MARKED, true]);
-  }
-  const visit = new Bench(of({ ...kept, text: MARKED }));
-  await visit.runner.idle();
-  assert.deepEqual(of({ ...kept, text: OTHER }, visit.kept).past.map(({ work }) => work.own), [MARKED]);
+test("what can be put back has 16 MiB, and the last that was lost in any case", () => {
+  const sizes = (...all) => lastLost(all.map((size) => ({ file: { bytes: { length: size * 2 ** 20 } } }))).map(({ file }) => file.bytes.length / 2 ** 20);
+  assert.deepEqual(sizes(1, 10, 6), [10, 6]);
+  assert.deepEqual(sizes(1, 11, 6), [6]);
+  assert.deepEqual(sizes(1, 17), [17]);
 });
 
 const titled = (title) => GAME.replace(/title .*/, `title ${title}`);
@@ -663,14 +602,6 @@ it("a recording comes back over the text that it was made over, whatever took it
   await three.act(begunAnew);
   for (const input of [3, 3]) await three.act(pressed, input);
   assert.deepEqual(await putBackAll(three, 3), [["T", [1, 1, 1]], ["A", [0]], ["T", [3, 3]]]);
-});
-
-it("what a closed tab left comes back over its own text, also over the example", async () => {
-  const one = new Bench(), other = await played(1, 2);
-  await other.act(begunAnew);
-  await one.act(withGame, titled("A"));
-  const bench = new Bench(stateOfVisit([{ name: "one", value: one.kept }, { name: "other", value: other.kept }], GAME).state);
-  assert.deepEqual(await putBackAll(bench, 1), [[titleOf(GAME), [1, 2]]]);
 });
 
 it("a text can be put back of which an edit leaves little, and none of which it leaves the most", async () => {
@@ -733,18 +664,10 @@ it("a recording is found in a file of thousands, though their text is nearly its
   assert.deepEqual(past.at(-1).work.inputs, [1, 2, 3, 0]);
 });
 
-it("of thousands of recordings over one text that text is kept once, and the file is there again byte for byte", async () => {
-  const bench = new Bench(), entries = Array.from({ length: 3000 }, (_, number) => [`s${number}`, [BROKEN, [number % 4], "background:0,", 0]]), file = fileOf(entries);
-  bench.runner.update((state) => ({ ...withOtherFile(state, file), isHeld: true }));
-  assert.ok(JSON.stringify(bench.kept).length < file.bytes.length / 5);
-  const { state } = stateOfVisit([{ name: "work", value: structuredClone(bench.kept) }], GAME);
-  assert.deepEqual([Buffer.from(state.file.bytes).equals(file.bytes), state.file.entries.length], [true, 3000]);
-});
-
 it("a file that an earlier page took, and this one can't read, is put back as it was: it isn't played, and what it would come to isn't said", async () => {
   const bench = new Bench(), wrong = [["wrong", [GAME, [0, 0], "background:0,", 0], "solvd"]], why = 'mine.json, session 0: its further element "solvd" is nearly "solved", and would demand nothing';
   const kept = { ...keptOf(withOtherFile(bench.state, fileOf(DAY)), false), file: { name: "mine.json", bytes: bytesOf(wrong) } };
-  const { state } = stateOfVisit([{ name: "work", value: structuredClone(kept) }], GAME);
+  const state = stateFrom(structuredClone(kept), GAME);
   assert.deepEqual([state.file, statusOf(state).text, putBackTold(state)], [null, `The sessions file that was open isn't read any more: ${why}. Put back has it, as it was.`, "Puts back mine.json, which isn't read"]);
   bench.begin(state);
   await bench.runner.idle();
@@ -763,47 +686,6 @@ it("where the engine tells of other sessions than the file has, nothing is said 
   const { lines } = bench.state.suite, asked = playedAgain({ ...bench.state, file: fileOf([DAY[0]]) });
   const { runs, why } = suiteCame(asked, asked, { fault: null, lines, unsolved: new Set() }, 1).suite;
   assert.deepEqual([runs, why], [null, "mine.json is not played: the engine tells of 2 sessions, and 1 are read."]);
-});
-
-it("what an earlier page kept without a version is read", async () => {
-  const bytes = bytesOf(DAY), former = { name: "former.json", bytes: bytesOf([]) };
-  const state = stateFrom({ source: BROKEN, index: 1, inputs: [0], name: "old", opened: 0, order: "columns", file: { name: "f.json", bytes }, former, isUnsaved: true }, GAME);
-  assert.deepEqual([state.text, state.work, state.file.entries.length, state.past.length], [BROKEN, { own: null, index: 1, inputs: [0], name: "old", opened: 0 }, DAY.length, 1]);
-});
-
-it("what a closed tab left can be put back in the one that goes on", async () => {
-  const one = await played(1, 2), other = await played(3);
-  await other.act(edited, BROKEN);
-  const bench = new Bench(stateOfVisit([{ name: "one", value: one.kept }, { name: "other", value: other.kept }], GAME).state);
-  await bench.runner.idle();
-  assert.deepEqual(bench.state.work.inputs, [1, 2]);
-  await bench.act(putBack);
-  assert.deepEqual([bench.state.text, bench.state.work.inputs], [BROKEN, [3]]);
-  await bench.act(putBack);
-  assert.deepEqual([bench.state.text, bench.state.work.inputs], [GAME, [1, 2]]);
-});
-
-// A value of the store with a sessions file of another tab, as it is with so many bytes.
-function keptWithFile(kept, bytes) {
-  const file = new TextEncoder().encode(`${JSON.stringify([["one", [GAME, [bytes % 4], "background:0,", 0]]]).slice(0, -1).padEnd(bytes - 1)}]`);
-  return { ...kept, file: { name: `${bytes}.json`, bytes: file }, isUnsaved: true };
-}
-
-it("what closed tabs left takes the room of 256 MiB that is left beside what can be put back, and waits where there is none", async () => {
-  const { kept } = await played(1), big = 60 * 2 ** 20, entries = [0, 1, 2, 3, 4, 5].map((number) => ({ name: `${number}`, value: keptWithFile(kept, big + number) }));
-  const { state, read: names, waiting } = stateOfVisit(entries, GAME);
-  assert.deepEqual([state.past.map(({ file }) => file?.bytes.length), names, waiting], [[1, 2, 3, 4].map((number) => big + number), ["0", "1", "2", "3", "4"], 1]);
-});
-
-it("what a closed tab left waits whole where there isn't room for all of it, and what stood in it was lost last, whatever numbers the others have", async () => {
-  const one = await played(1), other = await played(2), pastOf = (count) => Array.from({ length: count }, (_, number) => ({ number: number + 7, text: `${GAME}(${number})` }));
-  const visit = (count) => {
-    other.begin({ ...other.state, past: pastOf(count) });
-    return stateOfVisit([{ name: "one", value: one.kept }, { name: "other", value: structuredClone(other.kept) }], GAME);
-  };
-  assert.deepEqual([visit(60).state.past, visit(60).read, visit(60).waiting], [[], ["one"], 1]);
-  const { past } = visit(59).state;
-  assert.deepEqual([past.length, past.at(-1).work.inputs, past.map(({ number }) => number)], [60, [2], Array.from({ length: 60 }, (_, number) => number + 1)]);
 });
 
 it("a visit after one that ended while a file was played is held, unless that took but a moment", async () => {

@@ -41,9 +41,9 @@
   });
 
   async function kept() {
-    const database = await asked(indexedDB.open("saxtegun", 1));
+    const database = await asked(indexedDB.open("saxtegun"));
     try {
-      return await asked(database.transaction("kept").objectStore("kept").get(sessionStorage.getItem("saxtegun-tab")));
+      return (await asked(database.transaction("kept").objectStore("kept").index("kept").openCursor(null, "prev")))?.value;
     } finally {
       database.close();
     }
