@@ -3,7 +3,6 @@
 // python/saxtegun/differences.py.
 import { before, descriptionOf, settingsOf } from "./descriptions.mjs";
 import { Labels, readCells } from "./level-text.mjs";
-import { TextMap, distinct } from "./text-map.mjs";
 import { shortened } from "./texts.mjs";
 import { there } from "./there.mjs";
 
@@ -51,18 +50,18 @@ function rowsIn(words) {
 class Members {
   constructor(game) {
     this.game = game;
-    this.known = new TextMap();
+    this.known = new Map();
   }
 
   of(name) {
-    if (!this.known.has(name)) this.known.set(name, distinct(this.game.members(name)));
+    if (!this.known.has(name)) this.known.set(name, [...new Set(this.game.members(name))]);
     return this.known.get(name);
   }
 }
 
 // The properties of one layer in a row, [{ name, line, members, beside }], with the objects that each other name of the row stands for.
 function propertiesIn(row, line, members) {
-  const { game } = members, named = distinct(row).map((name) => ({ name, its: members.of(name) })), layersOf = (its) => new Set(its.map((it) => game.layers.get(it)));
+  const { game } = members, named = [...new Set(row)].map((name) => ({ name, its: members.of(name) })), layersOf = (its) => new Set(its.map((it) => game.layers.get(it)));
   const others = row.includes(GAP_OF_A_ROW) ? [] : named.filter(({ its }) => its.length > 0).slice(0, MOST_BESIDE);
   return named.filter(({ name, its }) => game.isProperty(name) && its.length > 1 && layersOf(its).size === 1)
     .map(({ name, its }) => ({ name, line, members: its, beside: others.filter((it) => it.name !== name).map((it) => it.its) }));
@@ -124,7 +123,7 @@ function cellsIn(words) {
 class Layers {
   constructor(game) {
     this.game = game;
-    this.known = new TextMap();
+    this.known = new Map();
   }
 
   of(name) {
@@ -181,7 +180,7 @@ function startTold(source, frames) {
 
 // How often each name stands in a level.
 function namesMet(text) {
-  const labels = new Labels(), counts = new Map(), met = new TextMap();
+  const labels = new Labels(), counts = new Map(), met = new Map();
   for (const label of readCells(text, labels) ?? []) counts.set(label, (counts.get(label) ?? 0) + 1);
   for (const [label, count] of counts) for (const name of labels.names[label]) met.set(name, (met.get(name) ?? 0) + count);
   return met;

@@ -3,8 +3,7 @@
 // twin of what python/saxtegun/explanations.py and culprits.py say.
 import { before, descriptionOf, settingsOf } from "./descriptions.mjs";
 import { nearest } from "./nearest.mjs";
-import { TextMap, among, distinct, firstsOf } from "./text-map.mjs";
-import { fold, shortened } from "./texts.mjs";
+import { firstsOf, fold, shortened } from "./texts.mjs";
 import { there } from "./there.mjs";
 import { CLOCK } from "./ticks.mjs";
 
@@ -63,13 +62,13 @@ export function causeTold(cause) {
 
 // The first words of a stranger behind the words of a fault, or nothing.
 function quoted(words, tell = (word) => `\`${shortened(word)}\``) {
-  const all = distinct(words), told = all.slice(0, WORDS_TOLD).map(tell);
+  const all = [...new Set(words)], told = all.slice(0, WORDS_TOLD).map(tell);
   const more = all.length > WORDS_TOLD ? ` and ${all.length - WORDS_TOLD} more` : "";
   return told.length > 0 ? `: ${told.join(", ")}${more}` : "";
 }
 
 // All names, as they are compared.
-const namesIn = ({ objects, legend }) => distinct([...objects.flatMap(({ names }) => names), ...legend.map(({ left }) => left[0])].map(fold));
+const namesIn = ({ objects, legend }) => [...new Set([...objects.flatMap(({ names }) => names), ...legend.map(({ left }) => left[0])].map(fold))];
 
 // The words of a line, which are told in small letters, as they are written there.
 function asWritten({ lines }, { line, words }) {
@@ -101,7 +100,7 @@ function unknownTold(told, number) {
 }
 
 function unknownLooked(told, number) {
-  const names = namesIn(told), there = among(names), isKnown = (word) => there.has(word) || RULE_WORDS.has(word) || COMMAND.test(word);
+  const names = namesIn(told), there = new Set(names), isKnown = (word) => there.has(word) || RULE_WORDS.has(word) || COMMAND.test(word);
   return quoted(wordsAt(told, number).filter((word) => !isKnown(fold(word))), (word) => {
     const near = nearest(fold(word), names);
     return `\`${shortened(word)}\`${near === null ? "" : ` (near: \`${shortened(near)}\`)`}`;
@@ -110,14 +109,14 @@ function unknownLooked(told, number) {
 
 // Tells of a name what it is in the end, behind its synonyms: "object", or a name joined by "and" or by "or".
 function kinds({ objects, legend }) {
-  const ofObjects = among(objects.flatMap(({ names }) => names).map(fold)), rights = firstsOf(legend.map(({ left, right }) => [fold(left[0]), right.map(fold)]));
-  const known = new TextMap(); // what is found out is kept for all synonyms on the way
+  const ofObjects = new Set(objects.flatMap(({ names }) => names).map(fold)), rights = firstsOf(legend.map(({ left, right }) => [fold(left[0]), right.map(fold)]));
+  const known = new Map(); // what is found out is kept for all synonyms on the way
   return (name) => {
-    const way = [], passed = new TextMap();
+    const way = [], passed = new Set();
     let word = name;
     while (!known.has(word) && !ofObjects.has(word) && rights.get(word)?.length === 1 && !passed.has(word)) {
       way.push(word);
-      passed.set(word, true);
+      passed.add(word);
       [word] = rights.get(word);
     }
     const kind = known.get(word) ?? (ofObjects.has(word) ? "object" : rights.get(word)?.[1]);
@@ -136,9 +135,9 @@ function glyphsTold(told, number) {
 
 // The names of a line that are there already, in it or above it.
 function againTold({ objects, legend }, number) {
-  const known = new TextMap(), lines = [...objects.map(({ line, names }) => [line, names]), ...legend.map(({ line, left }) => [line, left])];
+  const known = new Set(), lines = [...objects.map(({ line, names }) => [line, names]), ...legend.map(({ line, left }) => [line, left])];
   for (const [line, words] of lines.sort(([one], [other]) => one - other)) {
-    const again = words.filter((word) => known.size === known.set(fold(word), true).size);
+    const again = words.filter((word) => known.size === known.add(fold(word)).size);
     if (line === number) return quoted(again);
   }
   return "";

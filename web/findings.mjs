@@ -6,7 +6,6 @@ import { plural } from "./elements.mjs";
 import { entriesOfLevels, titleOf } from "./game.mjs";
 import { eachInPieces } from "./pieces.mjs";
 import { isSolvedWanted } from "./session-file.mjs";
-import { TextMap, distinct, firstsOf } from "./text-map.mjs";
 import { fold, isTooLong, withoutEnd } from "./texts.mjs";
 import { there } from "./there.mjs";
 
@@ -43,13 +42,13 @@ const endless = (text) => (isTooLong(text) ? text : withoutEnd(text.replaceAll("
 // The titles of texts and the numbers of their levels, each text read once, since many recordings may be of one.
 class Titles {
   constructor() {
-    this.known = new TextMap();
+    this.known = new Map();
   }
 
   // Reads the texts of recordings; whether it came to the end.
   /** @type {(recordings: { source: string }[], ...words: import("./pieces.mjs").Heard) => Promise<boolean>} */
   async read(recordings, ...words) {
-    return eachInPieces(distinct(recordings.map(({ source }) => source)).filter((source) => source !== ""), (source) => this.of(source), ...words);
+    return eachInPieces([...new Set(recordings.map(({ source }) => source))].filter((source) => source !== ""), (source) => this.of(source), ...words);
   }
 
   // A text by { title, numbers }: of each entry of LEVELS the number of the level that is there, or comes next.
@@ -81,8 +80,8 @@ export const ownName = (recording) => new Titles().nameOf(recording);
 // Names of which no two are alike. Each keeps the number that it got last, so that many of one name aren't counted anew.
 class Names {
   constructor(taken) {
-    this.taken = firstsOf(taken.map((name) => [name, true]));
-    this.numbers = new TextMap();
+    this.taken = new Set(taken);
+    this.numbers = new Map();
   }
 
   // Takes a name that no other has: itself, or with a number.
@@ -93,7 +92,7 @@ class Names {
       free = `${name} (${number})`;
     }
     this.numbers.set(name, number);
-    this.taken.set(free, true);
+    this.taken.add(free);
     return free;
   }
 }
@@ -101,9 +100,9 @@ class Names {
 // Recordings, each found by what it is, whatever its name.
 class Known {
   constructor(entries) {
-    this.keys = new TextMap(); // of each, whether it must be solved
-    this.texts = new TextMap(); // the number of each text, of which one may be that of many recordings
-    this.numbers = new TextMap();
+    this.keys = new Map(); // of each, whether it must be solved
+    this.texts = new Map(); // the number of each text, of which one may be that of many recordings
+    this.numbers = new Map();
     entries.forEach((it) => this.take(it));
   }
 

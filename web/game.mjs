@@ -2,8 +2,7 @@
 // How a game looks, of what the engine has read of its text: objects with their colours, sprites and layers. The twin of python/saxtegun/games.py, but that
 // nothing is drawn of a text that is refused: it has no layers here.
 import { descriptionOf, settingsOf } from "./descriptions.mjs";
-import { firstsOf } from "./text-map.mjs";
-import { fold, shortened } from "./texts.mjs";
+import { firstsOf, fold, shortened } from "./texts.mjs";
 
 const PALETTE = new Map(Object.entries({
   black: "#000000", white: "#ffffff", grey: "#9d9d9d", darkgrey: "#697175", lightgrey: "#cccccc", gray: "#9d9d9d",

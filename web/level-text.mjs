@@ -1,6 +1,5 @@
 // @ts-check
 // Level texts, read as docs/sessions.md has them: cells as labels of sets of names. The twin of python/saxtegun/levels.py.
-import { TextMap } from "./text-map.mjs";
 import { fold } from "./texts.mjs";
 
 const MOST_DIGITS = 9; // more cells than any level has
@@ -10,8 +9,8 @@ export const MOST_OF_A_LEVEL = 2 ** 20; // letters of a level's text that the pa
 export class Labels {
   constructor() {
     this.names = [];
-    this.byNames = new TextMap();
-    this.byText = new TextMap();
+    this.byNames = new Map();
+    this.byText = new Map();
   }
 
   // The number of the set of names that a text spells.

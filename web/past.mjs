@@ -1,6 +1,5 @@
 // @ts-check
 // What can be put back: texts, recordings, names and sessions files that something else took the place of. The newest stands last.
-import { among, distinct } from "./text-map.mjs";
 
 /** @typedef {import("./state").State} State */
 
@@ -51,13 +50,13 @@ function alike(one, other, isEnd) {
   return count;
 }
 
-const distinctLinesOf = (text) => distinct(text.split("\n").map((line) => line.trim()).filter((line) => line !== ""));
+const distinctLinesOf = (text) => new Set(text.split("\n").map((line) => line.trim()).filter((line) => line !== ""));
 
 // Whether an edit leaves less than half of a text, as where all of it is replaced: neither half of its letters at its begin and its end, nor half of its lines.
 export function isReplaced(text, by) {
   if (2 * (alike(text, by, false) + alike(text, by, true)) >= text.length) return false;
-  const lines = distinctLinesOf(text), left = among(distinctLinesOf(by));
-  return 2 * lines.filter((line) => left.has(line)).length < lines.length;
+  const lines = distinctLinesOf(text), left = distinctLinesOf(by);
+  return 2 * [...lines].filter((line) => left.has(line)).length < lines.size;
 }
 
 /** @param {State} before @param {State} after */
@@ -86,18 +85,10 @@ function isNameLost({ work: { name } }, after) {
   return !after.past.some((it) => it.work?.name === name);
 }
 
-const FEW_LEFT = 8; // texts that are looked for one by one
-
-// Whether one of some texts isn't among others. Mostly both lists begin and end alike, and little is left to look for.
+// Whether one of some texts isn't among others.
 function isOneMissing(texts, others) {
-  const most = Math.min(texts.length, others.length);
-  let head = 0, tail = 0;
-  while (head < most && texts[head] === others[head]) head += 1;
-  while (tail < most - head && texts[texts.length - 1 - tail] === others[others.length - 1 - tail]) tail += 1;
-  const left = texts.slice(head, texts.length - tail);
-  if (left.length <= FEW_LEFT) return left.some((text) => !others.includes(text));
-  const there = among(others);
-  return left.some((text) => !there.has(text));
+  const there = new Set(others);
+  return texts.some((text) => !there.has(text));
 }
 
 /** @param {State} before @param {State} after */

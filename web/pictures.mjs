@@ -1,7 +1,7 @@
 // @ts-check
 // What stands in cells, as pixels, from the look of their game: { ground, objects }. The ground is a colour; each object is [name, layer, colours, sprite],
 // where a colour that is null is transparent, and a sprite is 25 letters (a digit for a colour, or "." for none), or "" for a block of the first colour.
-import { firstsOf } from "./text-map.mjs";
+import { firstsOf } from "./texts.mjs";
 import { there } from "./there.mjs";
 
 export const SIDE = 5; // pixels of a sprite

@@ -8,7 +8,6 @@ import { keptOf } from "./kept-work.mjs";
 import { readingRuns } from "./lines.mjs";
 import { MOST_SESSIONS, Refusal, SessionFile } from "./session-file.mjs";
 import { rowsOf } from "./suite.mjs";
-import { distinct } from "./text-map.mjs";
 import { there } from "./there.mjs";
 import { Clocks } from "./ticks.mjs";
 import { beginning } from "./work.mjs";
@@ -68,7 +67,7 @@ export async function rehearse({ name, bytes, text, former }, live, often = OFTE
       const next = stateBehind(read, name, state);
       await take(next);
       // these are read once their sessions are opened
-      for (const source of distinct(next.file.entries.map((entry) => entry.source).filter((it) => it.length > LONG))) {
+      for (const source of new Set(next.file.entries.map((entry) => entry.source).filter((it) => it.length > LONG))) {
         live();
         look(source);
       }

@@ -2,7 +2,6 @@
 // A sessions file as docs/sessions.md has it: its entries, and its bytes, of which a change leaves all else letter by letter. The twin of
 // python/saxtegun/sessions.py.
 import { elementsOf } from "../engine/saxtegun.mjs";
-import { TextMap } from "./text-map.mjs";
 import { shortened } from "./texts.mjs";
 import { there } from "./there.mjs";
 
@@ -248,7 +247,7 @@ const sizeOf = (text) => new TextEncoder().encode(text).length;
 class PlayedTexts {
   constructor(game, played) {
     this.played = played;
-    this.known = new TextMap();
+    this.known = new Map();
     this.game = this.of(game);
   }
 

@@ -10,6 +10,13 @@ const MOST_LETTERS = 200; // of a text of a stranger that is read in a line amon
 // A name as names are compared: the case of ASCII letters is ignored, and of no others.
 export const fold = (text) => text.replace(/[A-Z]/g, (letter) => letter.toLowerCase());
 
+// The map of pairs of a text and a value; of two with one text the first stays.
+export function firstsOf(pairs) {
+  const map = new Map();
+  for (const [text, value] of pairs) if (!map.has(text)) map.set(text, value);
+  return map;
+}
+
 // Whether a text is longer than one that is played.
 export const isTooLong = (text) => text.length > MOST_OF_A_SOURCE || (3 * text.length > MOST_OF_A_SOURCE && new TextEncoder().encode(text).length > MOST_OF_A_SOURCE);
 

@@ -3,7 +3,6 @@
 // wanted: each answer says so.
 import { descriptionOf, settingsOf } from "./descriptions.mjs";
 import { eachInPieces } from "./pieces.mjs";
-import { TextMap, distinct } from "./text-map.mjs";
 
 export const CLOCK = "realtime_interval";
 const WORD = new RegExp(CLOCK, "i"); // the case of ASCII letters alone is ignored by it
@@ -33,12 +32,12 @@ export function withoutClock(source) {
 export class Clocks {
   constructor(without = withoutClock) {
     this.without = without;
-    this.known = new TextMap();
+    this.known = new Map();
   }
 
   // Reads texts that aren't known yet; whether it came to the end.
   async read(sources, signal) {
-    const unknown = distinct(sources).filter((source) => !this.known.has(source)), hasWord = (source) => WORD.test(source);
+    const unknown = [...new Set(sources)].filter((source) => !this.known.has(source)), hasWord = (source) => WORD.test(source);
     unknown.filter((source) => !hasWord(source)).forEach((source) => this.known.set(source, source));
     return eachInPieces(unknown.filter(hasWord), (source) => this.known.set(source, this.without(source)), signal);
   }
