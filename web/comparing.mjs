@@ -5,7 +5,6 @@ import { differing, isOfOneSize } from "./levels.mjs";
 import { Labels, MOST_OF_A_LEVEL, readCells, readLevel } from "./level-text.mjs";
 import { cut, plural } from "./elements.mjs";
 import { inputTold } from "./faults.mjs";
-import { atOnce } from "./pieces.mjs";
 import { Refusal } from "./session-file.mjs";
 import { there } from "./there.mjs";
 
@@ -28,13 +27,11 @@ function isSameFrame(one, other) {
   return one !== undefined && other !== undefined && one.at === other.at && one.kind === other.kind && isSameLevel(one.level, other.level);
 }
 
-// Looks where two runs part, as work in pieces: { frame, kind }; null where they are the same. Where only their closes differ, the frame is the one behind
-// the last.
-/** @returns {Generator<number[], import("./state").Parting | null>} */
-export function* partingIn(one, other) {
+// Where two runs part: { frame, kind }; null where they are the same. Where only their closes differ, the frame is the one behind the last.
+/** @returns {import("./state").Parting | null} */
+export function partingOf(one, other) {
   const count = Math.max(one.frames.length, other.frames.length);
   for (let frame = 0; frame < count; frame += 1) {
-    yield [frame, count];
     const [left, right] = [one.frames.at(frame), other.frames.at(frame)];
     if (isSameFrame(left, right)) continue;
     if (left === undefined || right === undefined) return { frame, kind: "end" };
@@ -42,8 +39,6 @@ export function* partingIn(one, other) {
   }
   return one.close === other.close && one.cause === other.cause ? null : { frame: count, kind: "close" };
 }
-
-export const partingOf = (one, other) => atOnce(partingIn(one, other));
 
 // A cause that another engine wrote may have any length.
 const closeTold = ({ close, cause }) => (cause === null ? close : `${close} (${cut(cause, MOST_OF_A_CAUSE)})`);

@@ -1,8 +1,7 @@
 // @ts-check
 // Recordings in any text: what an editor's console prints, with whatever stands around it, or published test data. The twin of
 // python/saxtegun/recording_search.py, which holds what is looked for; both are held to the texts of tests/forms.
-import { LAST_LETTER, ROUNDS, WHITE_SPACE, behindSpace, endOfEscaped, endOfText, replacing, tokenAt, unescaping } from "./javascript.mjs";
-import { atOnce } from "./pieces.mjs";
+import { LAST_LETTER, ROUNDS, WHITE_SPACE, behindSpace, endOfEscaped, endOfText, tokenAt, unescaped } from "./javascript.mjs";
 import { faultOf, restOf } from "./session-file.mjs";
 import { there } from "./there.mjs";
 
@@ -21,8 +20,6 @@ const FROM_128 = "\u20ac\x81\u201a\u0192\u201e\u2026\u2020\u2021\u02c6\u2030\u01
 const MOST_DEPTH = 8; // an entry holds a body, which holds its inputs; behind one that is cut off another may begin
 const LEAST_LETTERS = 9; // of anything that is taken or skipped by name
 const LEAST_READ = 100_000; // letters of what is quoted are read in vain at most, beside four times those of the text
-const OF_A_STEP = 64; // places where a recording may begin that are looked at in a step
-const TOKENS_OF_A_STEP = 10_000; // of one list
 const MOST_OF_A_HEAD = 4000; // letters of a source in which its first heading is looked for, where it is cut off
 const HEADING = /objects/giu;
 
@@ -41,7 +38,7 @@ function letterOfHtml(whole, decimal, hexadecimal, ...names) {
   return number === 0 || number > LAST_LETTER || (number >= 0xd800 && number < 0xe000) ? "\ufffd" : String.fromCodePoint(number);
 }
 
-const fromHtml = (text) => replacing(text, HTML_LETTER, letterOfHtml);
+const fromHtml = (text) => text.replace(HTML_LETTER, letterOfHtml);
 
 // How many lines end between two places. Nothing is looked for beyond the second.
 function feedsIn(text, low, high) {
@@ -73,55 +70,44 @@ class Search {
     return this.line;
   }
 
-  // Searches as work in pieces: so many letters of how many are searched.
-  *run() {
-    for (let at = 0, count = 0; ; count += 1) {
-      if (count % OF_A_STEP === 0) yield [at, this.text.length];
+  run() {
+    for (let at = 0; ;) {
       BEGIN.lastIndex = at;
       const begin = BEGIN.exec(this.text);
       if (begin === null) return this;
       const { list, html, escaped } = there(begin.groups);
-      if (list !== undefined) at = yield* this.readList(begin.index);
+      if (list !== undefined) at = this.readList(begin.index);
       else if (this.isInner) at = begin.index + begin[0].length;
       else if (html !== undefined) {
-        yield* this.readInner(begin.index, yield* this.working(begin.index, fromHtml(this.text.slice(begin.index))));
+        this.readInner(begin.index, fromHtml(this.text.slice(begin.index)));
         return this;
-      } else at = yield* this.readQuoted(begin.index, escaped !== undefined);
+      } else at = this.readQuoted(begin.index, escaped !== undefined);
     }
   }
 
-  // What some work at a place comes to, with a step of the search for each of its own.
-  *working(at, work) {
-    let step = work.next();
-    for (; !step.done; step = work.next()) yield [at, this.text.length];
-    return step.value;
-  }
-
   // Searches a text that was quoted; whether something was in it.
-  *readInner(at, text) {
-    const inner = new Search(text, this.lineOf(at), true), work = inner.run(), { found, skipped } = inner;
-    while (!work.next().done) yield [at, this.text.length];
+  readInner(at, text) {
+    const { found, skipped } = new Search(text, this.lineOf(at), true).run();
     for (const it of found) this.found.push(it);
     for (const it of skipped) this.skipped.push(it);
     return found.length + skipped.length > 0;
   }
 
   // Reads what was quoted or escaped once; where the search goes on.
-  *readQuoted(at, isEscaped) {
+  readQuoted(at, isEscaped) {
     if (this.left < 0) return at + 1;
     const end = isEscaped ? endOfEscaped(this.text, at) : endOfText(this.text, at);
     this.left -= Math.abs(end) - at;
     if (end - at < LEAST_LETTERS) return at + 1;
-    const text = yield* this.working(at, unescaping(isEscaped ? this.text.slice(at, end) : this.text.slice(at + 1, end - 1)));
-    return text !== null && (yield* this.readInner(at, text)) ? end : at + 1;
+    const text = unescaped(isEscaped ? this.text.slice(at, end) : this.text.slice(at + 1, end - 1));
+    return text !== null && this.readInner(at, text) ? end : at + 1;
   }
 
   // Reads the list that begins at a place, as far as it goes; where the search goes on.
-  *readList(begin) {
+  readList(begin) {
     /** @type {{ at: number, items: unknown[] }[]} */
     const lists = [];
-    for (let at = begin, count = 1; ; count += 1) {
-      if (count % TOKENS_OF_A_STEP === 0) yield [at, this.text.length];
+    for (let at = begin; ;) {
       const token = tokenAt(this.text, at);
       if (token === null || (token.kind === "[" && lists.length === MOST_DEPTH)) {
         this.tellCut(lists, at);
@@ -186,11 +172,8 @@ class Search {
   }
 }
 
-// The recordings of a text, { line, name, source, inputs, level, index }, and what was skipped in it, { line, what }: "compiler", "cut-off", or a fault. They
-// are looked for as work in pieces.
-export function* searching(text) {
-  const { found, skipped } = yield* new Search(text).run();
+// The recordings of a text, { line, name, source, inputs, level, index }, and what was skipped in it, { line, what }: "compiler", "cut-off", or a fault.
+export function findingsIn(text) {
+  const { found, skipped } = new Search(text).run();
   return { found, skipped };
 }
-
-export const findingsIn = (text) => atOnce(searching(text));

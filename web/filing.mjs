@@ -1,10 +1,10 @@
 // @ts-check
 // Changes of the sessions file in the state of the page: sessions are saved, accepted and removed, another file is opened, or another engine's lines.
-import { partingIn } from "./comparing.mjs";
+import { partingOf } from "./comparing.mjs";
 import { plural } from "./elements.mjs";
 import { addedTold, toAdd } from "./findings.mjs";
-import { readingRuns } from "./lines.mjs";
 import { isBeginningOf, isSameList, remembering, rememberingKeys } from "./past.mjs";
+import { eachInPieces } from "./pieces.mjs";
 import { framesOf, isPlayed, sourceOf } from "./replaying.mjs";
 import { MOST_SESSIONS, Refusal, SessionFile, isSolvedWanted } from "./session-file.mjs";
 import { isOther, runWithFrames, runsOfNow, sessionOpened } from "./suite.mjs";
@@ -125,12 +125,12 @@ export function withOtherFile(state, file, isUnsaved = false) {
 }
 
 // Adds recordings that were found in a text: those that aren't there yet. What was skipped beside them is told.
-/** @param {State} state @param {Entry[]} recordings @param {object[]} skipped @param {{ nameOf: (recording: Entry) => string }} [titles] */
-export function withRecordings(state, recordings, skipped = [], titles = undefined) {
+/** @param {State} state @param {Entry[]} recordings @param {object[]} skipped */
+export function withRecordings(state, recordings, skipped = []) {
   if (recordings.length > 4 * MOST_SESSIONS) throw new Refusal(`there are ${recordings.length.toLocaleString("en")} recordings: more than 65,536 sessions have no room here`);
   const one = theOneText({ entries: recordings }), isUntouched = state.text.trim() === "" || state.text === state.example;
   const text = state.file === null && isUntouched ? one ?? state.text : state.text, former = state.file ?? SessionFile.empty(RECORDINGS);
-  const found = toAdd(recordings, former.entries, text, titles);
+  const found = toAdd(recordings, former.entries, text);
   if (former.entries.length + found.added.length > MOST_SESSIONS) throw new Refusal(`with them ${former.name} would have more than 65,536 sessions`);
   const file = former.withAll(found.added), saved = addedTold(found, file.name, skipped);
   if (found.added.length === 0) return { ...state, tab: "sessions", told: null, saved };
@@ -145,31 +145,16 @@ function theOneText({ entries }) {
 
 // ---- another engine
 
-// Compares how the sessions went with the lines of another engine, as work in pieces: { name, suite, others, partings }.
-/** @param {State} state */
-export function* comparing(state, name, text) {
+// Compares how the sessions went with the runs of another engine, in pieces: { name, suite, others, partings }, or null where that was stopped.
+/** @type {(state: State, name: string, others: object[], signal: AbortSignal, progress?: (...told: number[]) => void) => Promise<any>} */
+export async function comparing(state, name, others, signal, progress) {
   const runs = runsOfNow(state), { file, suite } = state, partings = [];
   if (runs === null) throw new Refusal(`${name} has lines: open and play the sessions file first that they are of`);
-  const others = yield* readingRuns(text, runs.length);
   if (others.length !== runs.length) throw new Refusal(`${name} has ${plural(others.length, "session")}, and ${there(file).name} ${runs.length}`);
   const strange = others.findIndex((run, number) => run.name !== runs[number].name);
   if (strange >= 0) throw new Refusal(`session ${strange} has another name in ${name}`);
-  for (const other of others) {
-    yield [partings.length, runs.length];
-    partings.push(yield* partingOfSession(suite, partings.length, other, runs.length));
-  }
-  return { name, suite, others, partings };
-}
-
-// Where a session of an answer parts from another run. So far as all of `count` are compared is told, and not how far this one is.
-function* partingOfSession(suite, number, other, count) {
-  const work = partingIn(runWithFrames(suite, number), other);
-  let step = work.next();
-  while (!step.done) {
-    yield [number, count];
-    step = work.next();
-  }
-  return step.value;
+  const isWhole = await eachInPieces(others, (other) => partings.push(partingOf(runWithFrames(there(suite), partings.length), other)), signal, progress);
+  return isWhole ? { name, suite, others, partings } : null;
 }
 
 // Takes what a comparison came to, where the sessions still stand as they were compared, and opens the first that diverges.

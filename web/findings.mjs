@@ -4,7 +4,6 @@
 import { descriptionOf } from "./descriptions.mjs";
 import { plural } from "./elements.mjs";
 import { entriesOfLevels, titleOf } from "./game.mjs";
-import { eachInPieces } from "./pieces.mjs";
 import { isSolvedWanted } from "./session-file.mjs";
 import { fold, isTooLong, withoutEnd } from "./texts.mjs";
 import { there } from "./there.mjs";
@@ -45,12 +44,6 @@ class Titles {
     this.known = new Map();
   }
 
-  // Reads the texts of recordings; whether it came to the end.
-  /** @type {(recordings: { source: string }[], ...words: import("./pieces.mjs").Heard) => Promise<boolean>} */
-  async read(recordings, ...words) {
-    return eachInPieces([...new Set(recordings.map(({ source }) => source))].filter((source) => source !== ""), (source) => this.of(source), ...words);
-  }
-
   // A text by { title, numbers }: of each entry of LEVELS the number of the level that is there, or comes next.
   of(source) {
     if (!this.known.has(source)) {
@@ -68,14 +61,13 @@ class Titles {
   }
 }
 
-// The titles that recordings need for their names, or null where that was stopped.
-/** @type {(recordings: { source: string }[], ...words: import("./pieces.mjs").Heard) => Promise<Titles | null>} */
-export async function titlesOf(recordings, ...words) {
-  const titles = new Titles();
-  return (await titles.read(recordings, ...words)) ? titles : null;
-}
-
 export const ownName = (recording) => new Titles().nameOf(recording);
+
+// Recordings under their own names, where those without a text are of this one.
+export function withOwnNames(recordings, text) {
+  const titles = new Titles();
+  return recordings.map((it) => ({ ...it, name: titles.nameOf({ ...it, source: it.source || text }) }));
+}
 
 // Names of which no two are alike. Each keeps the number that it got last, so that many of one name aren't counted anew.
 class Names {
@@ -130,13 +122,13 @@ class Known {
 
 // What of some recordings is added to the entries of a file, under names that no other has, and how many are there already: { added, known }. Those of
 // the text at hand follow it.
-/** @param {any[]} recordings @param {any[]} entries @param {string} text @param {Pick<Titles, "nameOf">} titles */
-export function toAdd(recordings, entries, text, titles = new Titles()) {
+/** @param {any[]} recordings @param {any[]} entries @param {string} text */
+export function toAdd(recordings, entries, text) {
   const known = new Known(entries.map((it) => ({ ...it, source: it.source || text }))), names = new Names(entries.map(({ name }) => name)), added = [];
   for (const it of recordings) {
     const whole = { ...it, source: it.source || text };
     if (!known.take(whole)) continue;
-    added.push({ ...it, name: names.free(titles.nameOf(whole)), source: known.isSameText(whole.source, text) ? "" : it.source });
+    added.push({ ...it, name: names.free(it.name), source: known.isSameText(whole.source, text) ? "" : it.source });
   }
   return { added, known: recordings.length - added.length };
 }

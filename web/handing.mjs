@@ -1,12 +1,13 @@
 // @ts-check
 // Files that come into the page and leave it, by the hand of whoever sits before it.
-import { searching } from "./console.mjs";
+import { findingsIn } from "./console.mjs";
 import { at } from "./elements.mjs";
-import { allSkippedTold, nothingTold } from "./findings.mjs";
-import { atOnce } from "./pieces.mjs";
-import { MOST_SESSIONS, Refusal, codingOf, textOf } from "./session-file.mjs";
-import { MOST_OF_A_SOURCE, asInField, hasManyLists, whyNoField } from "./texts.mjs";
-/** @typedef {{ kind: string, text: string, bytes?: Uint8Array, found?: import("./session-file.mjs").Entry[], skipped?: object[] }} Handed */
+import { allSkippedTold, nothingTold, withOwnNames } from "./findings.mjs";
+import { runsIn } from "./lines.mjs";
+import { MOST_SESSIONS, Refusal, codingOf, sessionsIn, textOf } from "./session-file.mjs";
+import { MOST_OF_A_SOURCE, asInField, whyNoField } from "./texts.mjs";
+/** @typedef {import("./session-file.mjs").Entry} Entry */
+/** @typedef {{ kind: string, text?: string, bytes?: Uint8Array, entries?: Entry[], found?: Entry[], skipped?: object[], runs?: object[], why?: string }} Handed */
 
 const MOST_OF_A_FILE = 64 * 2 ** 20; // of a file that is read, as python/saxtegun/files.py has it
 
@@ -31,29 +32,23 @@ function entriesIn(text) {
 const isLines = (text) => text.trimStart()[0] === "{" && !text.includes('"source"');
 
 // Recordings with line feeds alone at the ends of lines. A text too long to be played also then stays as it is.
-function* inLines(recordings) {
-  const made = [];
-  for (const it of recordings) {
-    yield [made.length, recordings.length];
-    made.push(it.source.length > 2 * MOST_OF_A_SOURCE ? it : { ...it, source: it.source.replaceAll("\r\n", "\n") });
-  }
-  return made;
-}
+const inLines = (recordings) => recordings.map((it) => (it.source.length > 2 * MOST_OF_A_SOURCE ? it : { ...it, source: it.source.replaceAll("\r\n", "\n") }));
 
-// What bytes are taken for, { kind, text, bytes, found, skipped }: "sessions", "recordings" (found in a text), "lines", or a "game". Refused where they are none.
-// A long text is searched as work in pieces.
-/** @returns {Generator<number[], Handed>} */
-export function* handing(name, bytes) {
+// What bytes are taken for beside a text at hand: { kind: "sessions", bytes, entries }, { kind: "recordings", found, skipped } of a text, { kind: "lines", runs },
+// or { kind: "game", text }. Refused where they are none.
+/** @type {(name: string, bytes: any, atHand?: string) => Handed} */
+export function handed(name, bytes, atHand = "") {
   const long = tooLongTold(name, bytes.length);
   if (long !== null) throw new Refusal(long);
-  const coding = codingOf(bytes), text = textOf(bytes, name, coding), isWide = coding !== "utf-8", plain = text.replace(/^\ufeff+/, "");
-  if (/^\s*\[\s*\[/.test(plain) && hasManyLists(plain)) throw new Refusal(`${name} has more lists than 65,536 sessions have`);
-  const count = entriesIn(isWide ? plain : text);
+  const coding = codingOf(bytes), text = textOf(bytes, name, coding), isWide = coding !== "utf-8", plain = text.replace(/^\ufeff+/, ""), count = entriesIn(isWide ? plain : text);
   if (count !== null && count > MOST_SESSIONS) throw new Refusal(`${name} has more than 65,536 sessions`);
-  if (count !== null) return { kind: "sessions", text, bytes: isWide ? new TextEncoder().encode(plain) : bytes };
-  const { found, skipped } = yield* searching(plain);
-  if (found.length > 0) return { kind: "recordings", text, found: yield* inLines(found), skipped };
-  if (isLines(plain)) return { kind: "lines", text: plain };
+  if (count !== null) {
+    const own = isWide ? new TextEncoder().encode(plain) : bytes;
+    return { kind: "sessions", bytes: own, entries: sessionsIn(name, own) };
+  }
+  const { found, skipped } = findingsIn(plain);
+  if (found.length > 0) return { kind: "recordings", found: withOwnNames(inLines(found), atHand), skipped };
+  if (isLines(plain)) return { kind: "lines", runs: runsIn(plain) };
   if (skipped.length > 0) throw new Refusal(`no recording is left in ${name}: ${allSkippedTold(skipped)}`);
   const why = nothingTold(plain);
   if (why !== null) throw new Refusal(`${name}: ${why}`);
@@ -61,8 +56,6 @@ export function* handing(name, bytes) {
   if (whyNot !== null) throw new Refusal(`${name} ${whyNot}: play it by the command, or edit it`);
   return { kind: "game", text: plain };
 }
-
-export const handed = (...words) => atOnce(handing(...words));
 
 const NOT_IN_FILES = /[\\/:*?"<>|\p{Cc}\p{Cf}\p{Surrogate}]+/gu;
 const MOST_OF_A_NAME = 60; // letters

@@ -54,37 +54,6 @@ export function unescaped(text) {
   return isBad ? null : read;
 }
 
-const AT_ONCE = 2 ** 20; // letters of a text in which something is replaced without a rest
-const OF_A_REST = 10_000; // places between two rests
-
-// A text with what a pattern finds in it replaced, as work in pieces.
-export function* replacing(text, pattern, replaced) {
-  if (text.length <= AT_ONCE) return text.replace(pattern, replaced);
-  const places = new RegExp(pattern);
-  let read = "", at = 0, pieces = [];
-  for (let found = places.exec(text); found !== null; found = places.exec(text)) {
-    pieces.push(text.slice(at, found.index), replaced(...found));
-    at = places.lastIndex;
-    if (pieces.length < 2 * OF_A_REST) continue;
-    read += pieces.join("");
-    pieces = [];
-    yield at;
-  }
-  return read + pieces.join("") + text.slice(at);
-}
-
-// The same as `unescaped`, as work in pieces.
-export function* unescaping(text) {
-  if (text.length <= AT_ONCE) return unescaped(text);
-  let isBad = false;
-  const read = yield* replacing(text, ESCAPE, (escape) => {
-    const letter = letterOf(escape);
-    isBad ||= letter === null;
-    return letter ?? "";
-  });
-  return isBad ? null : read;
-}
-
 // Where a letter that is escaped ends.
 function behindEscape(text, at) {
   return text.startsWith("\r\n", at + 1) ? at + 3 : at + 1 + (text.codePointAt(at + 1) > 0xffff ? 2 : 1);

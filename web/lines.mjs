@@ -3,11 +3,10 @@
 import { CLOSES } from "./closes.mjs";
 import { plural } from "./elements.mjs";
 import { Refusal } from "./session-file.mjs";
-import { hasManyLists } from "./texts.mjs";
 
 export const KINDS = ["start", "move", "undo", "restart", "load", "tick", "over"];
 const BEFORE_OVER = ["move", "tick", "over"]; // of what kinds the frame is before one that shows that play is over
-export const MOST_READ = 2 ** 24; // bytes of lines that are read without giving the thread back: those of one frame, or of a run
+export const MOST_READ = 2 ** 24; // bytes of lines that are read at once: those of one frame, or of a run
 const NEW_LINE = 0x0a;
 const CLOSE_LETTER = 0x63; // a close begins with its cause or itself, and a frame with `at`
 
@@ -94,8 +93,6 @@ class FramesRead {
 export const framesIn = (bytes, run) => new FramesRead(bytes, run);
 
 function readLine(text, place) {
-  if (text.length > MOST_READ) throw new Refusal(`line ${place} has more than 16 MiB, and is not read`);
-  if (hasManyLists(text)) throw new Refusal(`line ${place} has more than 1,048,576 lists and objects, and is not read`);
   let line = null;
   try {
     line = JSON.parse(text);
@@ -135,12 +132,11 @@ function* linesOf(text) {
   }
 }
 
-// Reads the runs in lines that any engine wrote, each with its frames, as work in pieces: so many are wanted. Refused where they are no whole recording.
-export function* readingRuns(text, wanted) {
+// The runs in lines that any engine wrote, each with its frames. Refused where they are no whole recording.
+export function runsIn(text) {
   const runs = [];
   let frames = [], place = 0;
   for (const it of linesOf(text)) {
-    yield [runs.length, wanted];
     place += 1;
     const line = readLine(it, place);
     if (line.session !== runs.length) throw new Refusal(`line ${place}: session ${line.session} where session ${runs.length} is wanted`);

@@ -6,7 +6,7 @@ import { at } from "./elements.mjs";
 import { framesTold, handedOver, isLevelLonger, takenOver } from "./frames-of-lines.mjs";
 import { KeptOpen, ONE_MORE } from "./kept-open.mjs";
 import { MOST_OF_A_LEVEL } from "./level-text.mjs";
-import { readerIn, rehearse } from "./rehearsing.mjs";
+import { readFile, readerIn } from "./reading.mjs";
 import { MOST_INPUTS } from "./session-file.mjs";
 import { there } from "./there.mjs";
 import { playedText } from "./ticks.mjs";
@@ -182,7 +182,7 @@ export function servePlayer() {
     }
     if (data.file) {
       await engine;
-      await rehearse(data.file, () => globalThis.postMessage({ isRead: false })).then(() => globalThis.postMessage({ isRead: true }));
+      globalThis.postMessage(readFile(data.file));
       return;
     }
     hand(await answerTo(data).then(readableAnswer).catch(() => BROKEN));

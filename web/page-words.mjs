@@ -74,7 +74,7 @@ export function notesTold({ notes }) {
 }
 
 // How far something is read that came, where that takes long; or null.
-export const readingTold = (reading) => (reading?.isSlow ? { text: `${reading.what}: ${reading.done} of ${reading.total}.`, close: null } : null);
+export const readingTold = (reading) => (reading?.isSlow ? { text: `${reading.what}${reading.total > 0 ? `: ${reading.done} of ${reading.total}` : ""}.`, close: null } : null);
 
 const MOST_REFUSALS = 5; // that are told of files that came at once
 

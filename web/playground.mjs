@@ -5,18 +5,16 @@ import { Animation } from "./animating.mjs";
 import { Drawn } from "./drawn.mjs";
 import { Ghost } from "./ghost.mjs";
 import { at, isMotionReduced, json } from "./elements.mjs";
-import { titlesOf } from "./findings.mjs";
-import { PASTED, download, handing, holdingDrops, takeFiles } from "./handing.mjs";
+import { PASTED, download, holdingDrops, takeFiles } from "./handing.mjs";
 import { keptOf, stateFrom } from "./kept-work.mjs";
 import { Store } from "./keeping.mjs";
 import { listen } from "./listening.mjs";
 import { PLAYER, servePlayer, startEngine } from "./page-engine.mjs";
-import { inPieces } from "./pieces.mjs";
+import { readBeside } from "./reading.mjs";
 import { Runner } from "./running.mjs";
 import { Refusal, SessionFile } from "./session-file.mjs";
 import { isFailure } from "./session-list.mjs";
 import { RECORDINGS, comparing, savedLater, withComparison, withOtherFile, withRecordings } from "./filing.mjs";
-import { mayRead, slowTold } from "./rehearsing.mjs";
 import { framesOf, isAtEnd, shownOf } from "./replaying.mjs";
 import { UNREADABLE, keepingTold } from "./page-words.mjs";
 import { say } from "./saying.mjs";
@@ -153,11 +151,11 @@ class Playground {
   // Takes a file by what is in it. Whatever goes wrong, it is said that it was not opened.
   async take(name, bytes) {
     try {
-      const it = await this.runner.reading(`Reading ${name}`, (...words) => this.read(name, bytes, ...words));
+      const it = await this.runner.reading(`Reading ${name}`, (signal) => readBeside(this.state.text, name, bytes, this.engine.read, signal));
       if (it === null) throw new Refusal(`${name} was stopped while it was read`);
-      if (it.kind === "recordings") await this.add(it.found, it.skipped);
-      else if (it.kind === "sessions") this.taking(withOtherFile, new SessionFile(name, it.bytes), name === PASTED);
-      else if (it.kind === "lines") await this.compare(name, it.text);
+      if (it.kind === "recordings") this.taking(withRecordings, it.found, it.skipped);
+      else if (it.kind === "sessions") this.taking(withOtherFile, new SessionFile(name, it.bytes, it.entries), name === PASTED);
+      else if (it.kind === "lines") await this.compare(name, it.runs);
       else this.takeGame(it.text);
     } catch (error) {
       if (!(error instanceof Refusal)) console.error(error);
@@ -165,26 +163,12 @@ class Playground {
     }
   }
 
-  // Reads a file, once a worker has read it in time; null where it was stopped.
-  async read(name, bytes, signal, progress) {
-    const { state } = this, isReadable = await mayRead(name, bytes, state, this.engine.read, signal);
-    if (isReadable === false) throw new Refusal(slowTold(name, state.file));
-    return isReadable && inPieces(handing(name, bytes), signal, progress);
-  }
-
   // Compares another engine's lines with how the sessions went, once these are played.
-  async compare(name, text) {
+  async compare(name, runs) {
     await this.runner.idle();
-    const comparison = await this.runner.reading("Comparing sessions", (...words) => inPieces(comparing(this.state, name, text), ...words));
+    const comparison = await this.runner.reading("Comparing sessions", (...words) => comparing(this.state, name, runs, ...words));
     if (comparison === null) throw new Refusal(`${name} was stopped while it was compared`);
     this.taking(withComparison, comparison);
-  }
-
-  // Adds recordings, once the texts are read that they are of.
-  async add(recordings, skipped) {
-    const titles = await this.runner.reading("Reading the texts of recordings", (...words) => titlesOf(recordings, ...words));
-    if (titles === null) throw new Refusal("it was stopped while its texts were read");
-    this.taking(withRecordings, recordings, skipped, titles);
   }
 
   // Says why a file isn't opened, until something else is done by hand: what comes beside it says nothing of that.

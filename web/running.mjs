@@ -59,14 +59,14 @@ export class Runner {
   }
 
   // Reads something that came, by read(signal, progress), behind what came before; `what` says what is done. It is null where it was stopped.
-  /** @type {<Answer>(what: string, read: (...words: import("./pieces.mjs").Heard) => Promise<Answer>) => Promise<Answer>} */
+  /** @type {<Answer>(what: string, read: (signal: AbortSignal, progress: (...told: number[]) => void) => Promise<Answer>) => Promise<Answer>} */
   reading(what, read) {
     const answer = this.read.then(() => this.readNow(what, read));
     this.read = answer.catch(() => {});
     return answer;
   }
 
-  /** @type {<Answer>(what: string, read: (...words: import("./pieces.mjs").Heard) => Promise<Answer>) => Promise<Answer>} */
+  /** @type {<Answer>(what: string, read: (signal: AbortSignal, progress: (...told: number[]) => void) => Promise<Answer>) => Promise<Answer>} */
   async readNow(what, read) {
     /** @type {Doing} */
     const doing = { what, wanted: null, controller: new AbortController(), done: 0, total: 0, isSlow: false };

@@ -299,7 +299,7 @@ const hasIgnored = (entry) => Array.isArray(entry) && [...entry.slice(2), ...(Ar
 
 // The entries of a file.
 /** @type {(name: string, bytes: Uint8Array) => Entry[]} */
-function sessionsIn(name, bytes) {
+export function sessionsIn(name, bytes) {
   let values = null;
   try {
     values = JSON.parse(textOf(bytes, name));

@@ -4,7 +4,6 @@
 // What Unicode calls white space.
 const SPACE = /[\t-\r \x85\xa0\u1680\u2000-\u200a\u2028\u2029\u202f\u205f\u3000]/;
 export const MOST_OF_A_SOURCE = 1_048_576; // bytes of a text that is played
-const MOST_LISTS = 1_048_576; // of a text that is read as JSON: of 65,536 sessions each has three; with millions a browser would stand still for half a minute
 const MOST_LETTERS = 200; // of a text of a stranger that is read in a line among others
 
 // A name as names are compared: the case of ASCII letters is ignored, and of no others.
@@ -40,17 +39,4 @@ export function withoutEnd(text) {
   let end = text.length;
   while (end > 0 && SPACE.test(text[end - 1])) end -= 1;
   return text.slice(0, end);
-}
-
-// Whether a text has more lists and objects outside of its texts than are read at once.
-export function hasManyLists(text) {
-  if (text.length <= MOST_LISTS) return false;
-  let count = 0, isInText = false;
-  for (let at = 0; at < text.length; at += 1) {
-    const letter = text[at];
-    if (letter === "\\") at += 1;
-    else if (letter === '"') isInText = !isInText;
-    else if (!isInText && (letter === "[" || letter === "{") && (count += 1) > MOST_LISTS) return true;
-  }
-  return false;
 }

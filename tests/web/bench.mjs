@@ -1,11 +1,13 @@
 // @ts-check
 // The page without a browser: its state, played by the module in Node, with what is drawn left out. For the tests of the page's logic.
 import { readFileSync } from "node:fs";
-import { comparing, withComparison } from "../../web/filing.mjs";
+import { withComparison } from "../../web/filing.mjs";
 import { keptOf, stateFrom } from "../../web/kept-work.mjs";
+import { runsIn } from "../../web/lines.mjs";
+import { runWithFrames } from "../../web/suite.mjs";
 import { KeptOpen } from "../../web/kept-open.mjs";
 import { actedBy, playedBy, solutionBy, stagesBy } from "../../web/page-engine.mjs";
-import { atOnce } from "../../web/pieces.mjs";
+import { partingOf } from "../../web/comparing.mjs";
 import { Runner } from "../../web/running.mjs";
 import { beginning } from "../../web/work.mjs";
 import { module } from "./module.mjs";
@@ -28,7 +30,10 @@ export function closesOf(entries, order) {
 }
 
 // What comes of another engine's lines, at once.
-export const comparedWithLines = (state, name, text) => withComparison(state, atOnce(comparing(state, name, text)));
+export function comparedWithLines(state, name, text) {
+  const others = runsIn(text), { suite } = state;
+  return withComparison(state, { name, suite, others, partings: others.map((other, number) => partingOf(runWithFrames(suite, number), other)) });
+}
 
 export class Bench {
   constructor(state = beginning(GAME)) {

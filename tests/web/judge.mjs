@@ -1,14 +1,13 @@
 // @ts-check
 // Reads { entries, recordings } on standard input, values and lines, and writes of each what web/ finds wrong with it, or null.
 import { readFileSync } from "node:fs";
-import { readingRuns } from "../../web/lines.mjs";
-import { atOnce } from "../../web/pieces.mjs";
+import { runsIn } from "../../web/lines.mjs";
 import { faultOf } from "../../web/session-file.mjs";
 import "./module.mjs";
 
 function whyNoRecording(lines) {
   try {
-    atOnce(readingRuns(lines, 1));
+    runsIn(lines);
     return null;
   } catch (error) {
     return error.message;

@@ -8,9 +8,8 @@ import { lostIn } from "../../web/past.mjs";
 import { meaningOf } from "../../web/keys.mjs";
 import { MOST_OF_LINES, playedInParts } from "../../web/parts.mjs";
 import { Labels, readCells, widthOf } from "../../web/level-text.mjs";
-import { framesIn, readingRuns, runsOf } from "../../web/lines.mjs";
+import { framesIn, runsIn, runsOf } from "../../web/lines.mjs";
 import { likeness, nearest } from "../../web/nearest.mjs";
-import { atOnce } from "../../web/pieces.mjs";
 import { firstFrom, joined, markOf, windowAround } from "../../web/recording.mjs";
 import { Refusal, SessionFile, refusalTold } from "../../web/session-file.mjs";
 import { findingsIn } from "../../web/console.mjs";
@@ -147,10 +146,8 @@ test("lines are cut into runs, and frames are read where they are wanted", () =>
   assert.deepEqual([frames.length, framesIn(lines, runs[1]).length, framesIn(lines, runs[1]).at(0)], [2, 0, undefined]);
 });
 
-const readRuns = (text) => atOnce(readingRuns(text, 0));
-
 test("lines of another engine are read the same, and refused where they are none", () => {
-  const [one, two] = readRuns(LINES);
+  const [one, two] = runsIn(LINES);
   assert.deepEqual([one.close, one.frames.length, two.cause], ["differs", 2, "BadRule:3"]);
   for (const [text, message] of [
     ["no\n", "line 1: no line of a recording"], ['{"session":0,"close":"won"}\n', "line 1: neither a frame nor a close"],
@@ -158,7 +155,7 @@ test("lines of another engine are read the same, and refused where they are none
     [`${frame(0, 0, "start", "", 0)}${frame(1, 1, "over", "", 0)}`, "line 2: not frame 1 of its session"], [`${frame(0, 0, "start", "", 0)}${frame(0, 1, "start", "", 0)}`, "line 2: not frame 1 of its session"], [frame(0, 0, "start", "", 0), "the lines end within session 0, which has no close"],
     ['{"close":"passed","frames":1,"name":"one","session":0}\n', "line 1: no close of a session of 0 frames"], [frame(0, 0, "start", "", 3), "line 1: session 3 where session 0 is wanted"],
     ['{"close":"stopped","frames":0,"name":"one","session":0}\n', "line 1: no close of a session of 0 frames"],
-  ]) assert.throws(() => readRuns(text), (error) => error instanceof Refusal && error.message === message, text);
+  ]) assert.throws(() => runsIn(text), (error) => error instanceof Refusal && error.message === message, text);
 });
 
 const run = (frames, close = "passed", cause = null) => ({ frames: frames.map(([at, kind, level]) => ({ at, kind, level })), close, cause });
@@ -288,7 +285,7 @@ const wide = (text, isBig) => Uint8Array.from([...text].flatMap((letter) => (isB
 
 test("a file is taken for what stands in it", () => {
   const recording = '["a",["OBJECTS",[0],"b:0,"]]';
-  assert.deepEqual(["[]", `[${recording}]`, `so: ${recording},`, '{"at":0', "title A\nOBJECTS\n"].map(kindOf), ["sessions", "sessions", "recordings", "lines", "game"]);
+  assert.deepEqual(["[]", `[${recording}]`, `so: ${recording},`, '{"cause":"memory","close":"refused","frames":0,"name":"","session":0}', "title A\nOBJECTS\n"].map(kindOf), ["sessions", "sessions", "recordings", "lines", "game"]);
   assert.deepEqual([wide(`[${recording}]`, false), wide(`[${recording}]`, true), wide("LEVELS\n", true)].map(kindOf), ["sessions", "sessions", "game"]);
 });
 

@@ -4,14 +4,12 @@ import assert from "node:assert/strict";
 import test from "node:test";
 import { readBy } from "../../web/descriptions.mjs";
 import { comparing, withComparison, withOtherFile, withRecordings } from "../../web/filing.mjs";
-import { titlesOf, toAdd } from "../../web/findings.mjs";
-import { handed, handing, isTyped } from "../../web/handing.mjs";
-import { MOST_READ, framesIn, readingRuns, runsOf } from "../../web/lines.mjs";
+import { handed, isTyped } from "../../web/handing.mjs";
+import { MOST_READ, framesIn, runsIn, runsOf } from "../../web/lines.mjs";
 import { clockTold, readingTold, tabTold, verdictOf } from "../../web/page-words.mjs";
 import { readableAnswer } from "../../web/page-engine.mjs";
-import { atOnce, inPieces } from "../../web/pieces.mjs";
 import { remembering } from "../../web/past.mjs";
-import { mayRead, readerIn, rehearse, slowTold } from "../../web/rehearsing.mjs";
+import { readBeside, readFile, readerIn } from "../../web/reading.mjs";
 import { MOST_SESSIONS, Refusal, SessionFile, refusalTold } from "../../web/session-file.mjs";
 import { differenceOf, rowsOf, sessionOpened } from "../../web/suite.mjs";
 import { whyNoField } from "../../web/texts.mjs";
@@ -71,37 +69,15 @@ it("that many games with clocks are read before they are played can be stopped",
   }
 }));
 
-it("the texts of recordings are read before these are added, which then have the same names", () => counted(async (count) => {
-  const found = recordings(), titles = await titlesOf(found, signal), bench = new Bench();
-  assert.equal(count.read, MANY);
-  assert.deepEqual(toAdd(found, [], "", titles), toAdd(found, [], ""));
-  count.read = 0;
-  assert.equal(withRecordings(bench.state, found, [], titles).file.entries[7].name, "Own 7, level 1");
-  assert.equal(count.read, 0);
-}));
-
-it("what comes is read one behind the other, and nothing is left where that is stopped or fails", async () => {
-  const bench = new Bench(), begun = [];
-  await bench.runner.idle();
-  const stopped = bench.runner.reading("", (asked) => { begun.push(1); return new Promise((settle) => asked.addEventListener("abort", () => settle(null))); });
-  const failing = bench.runner.reading("", async () => { begun.push(2); throw new Error("no"); }), last = bench.runner.reading("", async () => begun.push(3));
-  await moved();
-  assert.deepEqual([begun, bench.runner.isBusy], [[1], true]);
-  bench.runner.stopPlay();
-  assert.equal(await stopped, null);
-  await assert.rejects(failing);
-  assert.deepEqual([await last, begun, bench.runner.isBusy, bench.state.isHeld], [3, [1, 2, 3], false, false]);
-});
-
 it("another engine's lines are compared in pieces, up to where each session parts, and only with the sessions that they were compared with", async () => {
   const bench = new Bench(), entries = [0, 1, 2].map(() => ({ source: GAME, inputs: [0, 1, 2], level: "", index: 0 }));
   await bench.act(withOtherFile, fileOf(entries));
   const { state } = bench, { suite } = state, lines = new TextDecoder().decode(suite.lines);
-  const stopping = new AbortController(), steps = (text, { signal: asked } = new AbortController(), progress) => inPieces(comparing(state, "theirs", text), asked, progress);
+  const stopping = new AbortController(), steps = (text, { signal: asked } = new AbortController(), progress = () => {}) => comparing(state, "theirs", runsIn(text), asked, progress);
   assert.equal(await steps(lines, stopping, () => stopping.abort()), null);
   // of the page's own lines nothing is read behind the frame at which a session parts
   const broken = new TextEncoder().encode(lines.replaceAll(/"at":[23],.*/g, (line) => "x".repeat(line.length))), others = lines.replaceAll(/("at":1.*"level":")./g, "$1?");
-  const found = await inPieces(comparing({ ...state, suite: { ...suite, lines: broken } }, "theirs", others), signal);
+  const found = await comparing({ ...state, suite: { ...suite, lines: broken } }, "theirs", runsIn(others), signal, () => {});
   assert.deepEqual(found.partings, [0, 1, 2].map(() => ({ frame: 1, kind: "level" })));
   assert.throws(() => withComparison(state, found), { message: "the sessions of f.json were changed while theirs was compared with them" });
   const comparison = await steps(others);
@@ -111,17 +87,10 @@ it("another engine's lines are compared in pieces, up to where each session part
   assert.throws(() => withComparison(bench.state, comparison), /were changed/);
 });
 
-test("a frame or a line that has more than is read at once is refused, and what stands beside it is read", () => {
+test("a frame that has more than is read at once is refused, and what stands beside it is read", () => {
   const lineOf = (frame, level) => `{"at":${frame},"frame":${frame},"kind":"${frame === 0 ? "start" : "move"}","level":"${level}","session":0}\n`, long = "x".repeat(MOST_READ);
   const text = `${lineOf(0, long)}${lineOf(1, "a:0,")}{"close":"differs","frames":2,"name":"a","session":0}\n`, lines = new TextEncoder().encode(text), frames = framesIn(lines, runsOf(lines)[0]);
   for (const at of [0, 0, 1]) assert.throws(() => { if (frames.at(at).level === "a:0,") throw new Error("it is there"); }, { message: at === 0 ? "a frame has more than 16 MiB here, and is not read" : "it is there" });
-  assert.throws(() => atOnce(readingRuns(text, 1)), { message: "line 1 has more than 16 MiB, and is not read" });
-});
-
-test("a line of millions of lists is not read", () => {
-  const lineOf = (count) => `{"session":0,"frame":0,"at":0,"kind":"start","level":"[[","x":${"[".repeat(count - 1)}${"]".repeat(count - 1)}}\n{"session":0,"name":"","close":"passed","frames":1}\n`;
-  assert.equal(atOnce(readingRuns(lineOf(2 ** 20), 1)).length, 1);
-  assert.throws(() => atOnce(readingRuns(lineOf(2 ** 20 + 1), 1)), { message: "line 1 has more than 1,048,576 lists and objects, and is not read" });
 });
 
 it("of more lines than are wanted none are held, and where those of one session are more than a worker's share, one plays after the other", async () => {
@@ -200,27 +169,14 @@ test("an answer whose levels take more room than the page has for them is handed
   }
 });
 
-test("a text in which recordings are looked for is searched in pieces, which can be stopped", async () => {
-  for (const piece of ['["a",', '"[\\"', '[&quot;']) {
-    const bytes = new TextEncoder().encode(piece.repeat(2000)), stopping = new AbortController(), told = [];
-    assert.equal(await inPieces(handing("f", bytes), stopping.signal, (...words) => { told.push(words); stopping.abort(); }), null);
-    assert.deepEqual(told, [[0, bytes.length]]);
-    const steps = [], isRead = () => { for (const step of handing("f", bytes)) steps.push(step); };
-    assert.throws(isRead, Refusal);
-    assert.ok(steps.length > 1 && steps.every(([done, all]) => done <= all && all === bytes.length), piece);
-  }
-  assert.equal((await inPieces(handing("f", new TextEncoder().encode(GAME)), signal)).kind, "game");
-});
-
 test("JSON that begins otherwise than sessions do is not read as such, whatever it has many of", (t) => {
   const read = [], parse = JSON.parse;
   t.mock.method(JSON, "parse", (text, ...words) => {
     read.push(text);
     return parse(text, ...words);
   });
-  const others = ['[0,[],{}]', ' \n[ {"a":[]}]', '["",[]]', '{"a":[[],[]]}'], sessions = ["[]", " [ ]", '\n[ ["a",["",[],""]]]'];
-  for (const text of others.slice(0, 3)) assert.throws(() => handed("f", new TextEncoder().encode(text)), Refusal);
-  assert.equal(handed("f", new TextEncoder().encode(others[3])).kind, "lines");
+  const others = ['[0,[],{}]', ' \n[ {"a":[]}]', '["",[]]'], sessions = ["[]", " [ ]", '\n[ ["a",["",[],""]]]'];
+  for (const text of others) assert.throws(() => handed("f", new TextEncoder().encode(text)), Refusal);
   for (const text of sessions) assert.equal(handed("f", new TextEncoder().encode(text)).kind, "sessions");
   assert.deepEqual([...others, ...sessions].filter((text) => read.includes(text)), sessions);
 });
@@ -229,9 +185,6 @@ test("no more sessions come into the page than the engine plays", () => {
   const bytesOf = (count) => new TextEncoder().encode(JSON.stringify(new Array(count).fill(["", ["", [], ""]])));
   assert.equal(handed("f.json", bytesOf(MOST_SESSIONS)).kind, "sessions");
   assert.throws(() => handed("f.json", bytesOf(MOST_SESSIONS + 1)), { message: "f.json has more than 65,536 sessions" });
-  const listsOf = (count) => new TextEncoder().encode(`[["a\\"[[[[",["[[",[],""${",[]".repeat(count - 4)}]]]`);
-  assert.equal(handed("f.json", listsOf(16 * MOST_SESSIONS)).kind, "sessions");
-  assert.throws(() => handed("f.json", listsOf(16 * MOST_SESSIONS + 1)), { message: "f.json has more lists than 65,536 sessions have" });
   const added = (count) => Array.from({ length: count }, (_, index) => ({ name: "a", source: "", inputs: [], level: "", index })), full = withRecordings(beginning(GAME), added(MOST_SESSIONS - 1));
   assert.equal(withRecordings(full, added(MOST_SESSIONS)).file.entries.length, MOST_SESSIONS);
   assert.throws(() => withRecordings(full, added(MOST_SESSIONS + 1)), { message: "with them recordings.json would have more than 65,536 sessions" });
@@ -267,68 +220,41 @@ it("sessions that were changed since they were compared count as compared no lon
   assert.deepEqual([compared, changed].map((state) => verdictOf(state, null)), [{ text: "Compared with theirs: 2 the same, 0 diverge.", close: "passed" }, { text: "Not played yet.", close: null }]);
 });
 
-// ---- a long file is read by a worker before
+// ---- a long file is read by a worker
 
 const bytesOf = (value) => new TextEncoder().encode(typeof value === "string" ? value : JSON.stringify(value));
 
-it("a file is read in a rehearsal to its end, whatever it is", async () => {
-  const sessions = [["one", [GAME, [0, 1], ""]], ["two", ["", [2], ""]]], recorded = JSON.stringify(["Test", [GAME, [0, 1], "background:0,", 0]]);
-  const former = { name: "former.json", bytes: bytesOf([["one", ["", [3], ""]]]) };
-  for (const bytes of [bytesOf(sessions), bytesOf(`printed: ${recorded}`), bytesOf(GAME), bytesOf('{"session": 0}\n'), bytesOf(Array(65_537).fill(["", ["", [], ""]])), new Uint8Array([255, 216, 255])]) {
-    for (const before of [null, former]) await rehearse({ name: "file", bytes, text: GAME, former: before }, () => {});
-  }
-  // before each of the steps a word is given, as of the lines of another engine, where that takes long; and what is no refusal is thrown
-  let words = 0;
-  const long = `(${"x".repeat(70_000)})\n${GAME}`;
-  await rehearse({ name: "file", bytes: bytesOf([["one", [long, [0], ""]], ["two", [long, [1], ""]], ["three", ["", [2], ""]]]), text: GAME, former }, () => { words += 1; }, Infinity);
-  assert.equal(words, 2);
-  words = 0;
-  const lines = Array.from({ length: 3 }, (_, session) => `{"close":"passed","frames":0,"name":"one","session":${session}}\n`).join("");
-  await rehearse({ name: "lines", bytes: bytesOf(lines), text: GAME, former }, () => { words += 1; }, -1);
-  assert.ok(words >= 3);
-  const given = words;
-  await rehearse({ name: "lines", bytes: bytesOf(lines), text: GAME, former }, () => { words += 1; }, Infinity);
-  assert.equal(words, given + 1);
-  await assert.rejects(rehearse({ name: "file", bytes: null, text: GAME, former: null }, () => {}), TypeError);
+it("a worker tells what a file is taken for, and why it isn't", () => {
+  const sessions = [["one", [GAME, [0, 1], ""]], ["two", ["", [2], ""]]], recorded = JSON.stringify(["", ["", [0, 1], "background:0,", 0]]), ofFile = (value) => readFile({ name: "file", bytes: bytesOf(value), text: GAME });
+  assert.deepEqual(there(ofFile(sessions).entries).map(({ name, inputs }) => [name, inputs]), [["one", [0, 1]], ["two", [2]]]);
+  // without a name of its own, and over the text at hand
+  assert.deepEqual(there(ofFile(`printed: ${recorded}`).found).map(({ name, inputs }) => [name, inputs]), [["Simple Block Pushing Game, level 1", [0, 1]]]);
+  assert.deepEqual([ofFile(GAME).text, ofFile('{"close":"refused","cause":"memory","frames":0,"name":"","session":0}\n').runs?.length], [GAME, 1]);
+  assert.deepEqual([ofFile('{"session": 0}\n'), ofFile([["one", 5]])], [{ kind: "refused", why: "line 1: neither a frame nor a close" }, { kind: "refused", why: "file, session 0: it is no list of a name and a list" }]);
+  assert.throws(() => readFile({ name: "file", bytes: null, text: GAME }), TypeError);
 });
 
-class Reading extends IdleWorker {
-  tell(isRead) {
-    this.onmessage({ data: { isRead } });
-  }
-}
-
-test("a worker that reads a file to its end says so, one that gives no word for long is ended, and so is one that is stopped", async (t) => {
+test("a worker that reads a file hands it over, one that takes long is ended, and so is one that is stopped", async (t) => {
   t.mock.timers.enable({ apis: ["setTimeout"] });
-  const workers = [], begin = () => workers[workers.push(new Reading()) - 1], read = readerIn(begin, "the module", 50), stopping = new AbortController();
-  const whole = read("a file", signal), silent = read("another", signal), broken = read("a third", signal), stopped = read("a fourth", stopping.signal);
-  assert.deepEqual(workers[0].asked, [{ module: "the module" }, { file: "a file" }]);
-  // until its first word a worker has longer, since it has to begin
-  t.mock.timers.tick(29_000);
-  workers.slice(0, 2).forEach((worker) => worker.tell(false));
-  for (let word = 0; word < 4; word += 1) {
-    t.mock.timers.tick(20);
-    workers[0].tell(false);
-  }
-  assert.deepEqual([await silent, workers[0].isEnded, workers[1].isEnded], [false, false, true]);
-  workers[0].tell(true);
+  const workers = [], begin = () => workers[workers.push(new IdleWorker()) - 1], read = readerIn(begin, "the module", 50), stopping = new AbortController();
+  const whole = read({ name: "a" }, signal), slow = read({ name: "b" }, signal), broken = read({ name: "c" }, signal), stopped = read({ name: "d" }, stopping.signal), refused = read({ name: "e" }, signal);
+  assert.deepEqual(workers[0].asked, [{ module: "the module" }, { file: { name: "a" } }]);
+  workers[0].onmessage({ data: { kind: "game" } });
   workers[2].onerror({ preventDefault: () => {} });
   stopping.abort();
-  assert.deepEqual([await whole, await broken, await stopped, workers.map(({ isEnded }) => isEnded)], [true, false, false, [true, true, true, true]]);
+  workers[4].onmessage({ data: { kind: "refused", why: "it is none" } });
+  t.mock.timers.tick(50);
+  assert.deepEqual([await whole, await stopped], [{ kind: "game" }, null]);
+  const why = (name) => ({ message: `${name} keeps its reader busy for over 5 seconds: play it by the command` });
+  await Promise.all([assert.rejects(slow, why("b")), assert.rejects(broken, why("c")), assert.rejects(refused, { message: "it is none" })]);
+  assert.ok(workers.every(({ isEnded }) => isEnded));
 });
 
-test("only a long file is read so, and one that is stopped is told apart from one that may not be read", async () => {
-  const asked = [], answering = (answer) => async (file) => { asked.push(file); return answer; }, stopping = new AbortController();
-  const state = { text: "a text", file: null }, withFile = { text: "a text", file: new SessionFile("f.json", bytesOf([])) }, long = new Uint8Array(65_536);
-  assert.equal(await mayRead("short", new Uint8Array(65_535), state, answering(false), signal), true);
-  assert.deepEqual(asked, []);
-  assert.deepEqual([await mayRead("long", long, state, answering(true), signal), await mayRead("long", long, withFile, answering(false), signal)], [true, false]);
-  assert.deepEqual(asked, [{ name: "long", bytes: long, text: "a text", former: null }, { name: "long", bytes: long, text: "a text", former: { name: "f.json", bytes: bytesOf([]) } }]);
-  stopping.abort();
-  assert.equal(await mayRead("long", long, state, answering(false), stopping.signal), null);
-  const slow = "keeps its reader busy for over 3 seconds, in which the page would stand still";
-  for (const short of [null, { name: "open.json", bytes: new Uint8Array(65_535) }]) assert.equal(slowTold("x.json", short), `x.json ${slow}: play it by the command`);
-  assert.equal(slowTold("x.json", { name: "open.json", bytes: long }), `x.json ${slow}: play it by the command, or, if its recordings are to be added to open.json, close that first`);
+test("only a long file is read by a worker", async () => {
+  const asked = [], read = async (file) => asked.push(file), long = new Uint8Array(65_536);
+  assert.equal((await readBeside(GAME, "short", bytesOf("[]"), read, signal)).kind, "sessions");
+  await readBeside(GAME, "long", long, read, signal);
+  assert.deepEqual(asked, [{ name: "long", bytes: long, text: GAME }]);
 });
 
 // ---- what a session has beside what is played
@@ -358,9 +284,9 @@ it("a long file that was lost keeps its bytes alone, and is read again once it i
   }
 });
 
-it("the texts of recordings get line feeds as they are read, in steps, but for those too long to be played", () => {
+it("the texts of recordings get line feeds as they are read, but for those too long to be played", () => {
   const entryOf = (source) => JSON.stringify(["Test", [source, [0], "background:0,", 0]]), long = "\r\n".repeat(1_048_577), text = `printed ${[GAME.replaceAll("\n", "\r\n"), long].map(entryOf).join("\n and ")}`;
-  const { found } = there(atOnce(handing("console", new TextEncoder().encode(text))));
+  const { found } = handed("console", new TextEncoder().encode(text));
   assert.deepEqual(there(found).map(({ source }) => source === long || source === GAME), [true, true]);
 });
 
