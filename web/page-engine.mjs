@@ -20,9 +20,7 @@ const FEW = 131_072; // bytes of a sessions file that one worker plays
 const SOON = 400; // milliseconds that it may take for it
 const MOMENT = 30; // milliseconds for which inputs are looked through before it is told what came of it
 const GRACE = 100; // milliseconds that a worker has to end what isn't wanted any more
-const MOST_FRAMES = 2 ** 19; // that the page takes at once, of 65,536 inputs eight each; with millions it would stand still for long
-const MOST_STAGES_OF_AN_INPUT = 2 ** 16; // that it takes, of 500 ticks 131 each
-const MOST_IN_STAGES = 2 ** 19; // headings and lines of all stages of an input
+const MOST_TAKEN = 2 ** 19; // frames, stages, and headings and lines of these, that the page takes at once; with millions it would stand still for long
 const MOST_ROOM_OF_LEVELS = 2 ** 28; // bytes of their texts as a browser holds them, in the worker and in the page: a tab has some 4 GiB
 const IDLE = 200; // milliseconds without a question, after which a session is opened for the keys that may come; behind a key it is opened at once
 
@@ -48,9 +46,8 @@ const roomOfLevels = (items) => items.reduce((sum, item) => sum + (item.size ?? 
 // An answer as it is handed to the page, which takes what it is handed, and reads the texts of levels, on its own thread: one that takes it long is none.
 export function readableAnswer(answer) {
   const { frames = [], stages = [] } = answer, isLong = (shown) => isLevelLonger(shown, MOST_OF_A_LEVEL);
-  if (frames.length > MOST_FRAMES || stages.length > MOST_STAGES_OF_AN_INPUT) return noAnswer("memory");
+  if (stages.reduce((sum, { headings = [], lines = [] }) => sum + 1 + headings.length + lines.length, frames.length) > MOST_TAKEN) return noAnswer("memory");
   if (frames.some(isLong) || stages.some(isLong)) return noAnswer("long-level");
-  if (stages.reduce((sum, { headings = [], lines = [] }) => sum + headings.length + lines.length, 0) > MOST_IN_STAGES) return noAnswer("memory");
   return roomOfLevels(frames) + roomOfLevels(stages) > MOST_ROOM_OF_LEVELS ? noAnswer("memory") : answer;
 }
 

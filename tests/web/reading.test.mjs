@@ -144,7 +144,7 @@ test("an answer with a level whose text is very long is handed over as none", ()
 });
 
 test("an answer with more frames or stages than the page takes in a moment is handed over as none", () => {
-  for (const [name, most] of Object.entries({ frames: 2 ** 19, stages: 2 ** 16 })) {
+  for (const [name, most] of Object.entries({ frames: 2 ** 19, stages: 2 ** 19 })) {
     const answerOf = (count) => ({ [name]: new Array(count).fill({ at: 0, kind: "start", level: "a:0," }), cause: null, fault: null }), whole = answerOf(most);
     assert.equal(readableAnswer(whole), whole);
     const { frames, stages, cause, fault } = readableAnswer(answerOf(most + 1));
@@ -154,9 +154,9 @@ test("an answer with more frames or stages than the page takes in a moment is ha
 
 test("an answer with more headings and lines in its stages than the page takes in a moment is handed over as none", () => {
   const heading = [0, 0, "a", "right"], answerOf = (count) => ({ stages: [{ stage: "movement", headings: new Array(2 ** 18).fill(heading) }, { stage: "end", lines: new Array(count).fill(7) }], fault: null });
-  const whole = answerOf(2 ** 18);
+  const whole = answerOf(2 ** 18 - 2);
   assert.equal(readableAnswer(whole), whole);
-  assert.deepEqual([readableAnswer(answerOf(2 ** 18 + 1)).stages, readableAnswer(answerOf(2 ** 18 + 1)).fault], [[], "memory"]);
+  assert.deepEqual([readableAnswer(answerOf(2 ** 18 - 1)).stages, readableAnswer(answerOf(2 ** 18 - 1)).fault], [[], "memory"]);
 });
 
 test("an answer whose levels take more room than the page has for them is handed over as none", () => {
