@@ -2,9 +2,10 @@
 // How two runs of a session part, and how the level that a session reached differs from the recorded one. The twin of python/saxtegun/divergence.py
 // and of what explanations.py says of the end.
 import { differing, isOfOneSize } from "./levels.mjs";
-import { Labels, MOST_OF_A_LEVEL, readCells, readLevel } from "./level-text.mjs";
+import { Labels, readCells, readLevel } from "./level-text.mjs";
 import { cut, plural } from "./elements.mjs";
 import { inputTold } from "./faults.mjs";
+import { MOST_OF_A_LEVEL } from "./limits.mjs";
 import { Refusal } from "./session-file.mjs";
 import { there } from "./there.mjs";
 

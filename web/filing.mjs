@@ -3,10 +3,11 @@
 import { partingOf } from "./comparing.mjs";
 import { plural } from "./elements.mjs";
 import { addedTold, toAdd } from "./findings.mjs";
+import { MOST_SESSIONS } from "./limits.mjs";
 import { isBeginningOf, isSameList, remembering, rememberingKeys } from "./past.mjs";
 import { eachInPieces } from "./pieces.mjs";
 import { framesOf, isPlayed, sourceOf } from "./replaying.mjs";
-import { MOST_SESSIONS, Refusal, SessionFile, isSolvedWanted } from "./session-file.mjs";
+import { Refusal, SessionFile, isSolvedWanted } from "./session-file.mjs";
 import { isOther, runWithFrames, runsOfNow, sessionOpened } from "./suite.mjs";
 import { whyNoField } from "./texts.mjs";
 import { there } from "./there.mjs";

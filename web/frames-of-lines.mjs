@@ -1,9 +1,9 @@
 // @ts-check
 // The frames of a recording as its lines tell them. A recording may have tens of thousands, so a level is read from its line once it is asked for, and the
 // worker hands the page the lines, with where the frames stand in them.
+import { MOST_OF_A_RECORDING } from "./limits.mjs";
 import { KINDS, endOfLine } from "./lines.mjs";
 
-const MOST_TOLD = 2 ** 28; // bytes of lines of which frames are told; a page has no room for more
 const [ZERO, NINE] = [0x30, 0x39];
 // What stands before the number of inputs, between the two numbers, and between them and the kind.
 const [AT, NUMBER, KIND] = ['{"at":', ',"frame":', ',"kind":"'].map((words) => words.length);
@@ -48,7 +48,7 @@ function frameIn(lines, begin, end) {
 /** @typedef {import("../engine/saxtegun").Close | null} Close */
 /** @type {(answer: { lines: Uint8Array, fault: string | null }) => { frames: FrameOfLines[], close: Close, fault: string | null }} */
 export function framesTold({ lines, fault }) {
-  if (fault !== null || lines.length > MOST_TOLD) return { frames: [], close: null, fault: fault ?? "memory" };
+  if (fault !== null || lines.length > MOST_OF_A_RECORDING) return { frames: [], close: null, fault: fault ?? "memory" };
   const frames = [];
   let close = null;
   for (let begin = 0, end; begin < lines.length; begin = end + 1) {

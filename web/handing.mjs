@@ -3,13 +3,13 @@
 import { findingsIn } from "./console.mjs";
 import { at } from "./elements.mjs";
 import { allSkippedTold, nothingTold, withOwnNames } from "./findings.mjs";
+import { MOST_OF_A_FILE, MOST_OF_A_SOURCE, MOST_SESSIONS } from "./limits.mjs";
 import { runsIn } from "./lines.mjs";
-import { MOST_SESSIONS, Refusal, codingOf, sessionsIn, textOf } from "./session-file.mjs";
-import { MOST_OF_A_SOURCE, asInField, whyNoField } from "./texts.mjs";
+import { Refusal, codingOf, sessionsIn, textOf } from "./session-file.mjs";
+import { asInField, whyNoField } from "./texts.mjs";
 /** @typedef {import("./session-file.mjs").Entry} Entry */
 /** @typedef {{ kind: string, text?: string, bytes?: Uint8Array, entries?: Entry[], found?: Entry[], skipped?: object[], runs?: object[], why?: string }} Handed */
 
-const MOST_OF_A_FILE = 64 * 2 ** 20; // of a file that is read, as python/saxtegun/files.py has it
 
 const unreadableTold = (name) => `${name} can't be read`;
 

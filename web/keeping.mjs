@@ -6,7 +6,7 @@ const ORDER = "kept"; // by which records stand in the order in which they were 
 const TAB = "saxtegun-tab"; // where a page that is left notes the name of its record, for a reload; a copy of a tab that is open finds none there
 const MOST_RECORDS = 20; // of the tabs that kept something last
 const MOST_OF_OPENING = 15_000; // milliseconds that the database may take until the page begins without what it has, which stays there
-const MOST_AT_ONCE = 8; // values that are handed to the database before it has written one
+const MOST_WRITES = 8; // values that are handed to the database before it has written one
 const LATE = 2000; // milliseconds that the database may take before it is said that it hasn't kept the last changes
 
 function settled(request) {
@@ -92,7 +92,7 @@ export class Store {
   // it takes long.
   keep(value, tell) {
     this.unkept = value;
-    if (this.count < MOST_AT_ONCE) this.writeNext(tell);
+    if (this.count < MOST_WRITES) this.writeNext(tell);
   }
 
   async writeNext(tell) {

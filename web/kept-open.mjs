@@ -1,7 +1,7 @@
 // @ts-check
 // A session that the player's worker keeps open behind what it played last, so that a key costs a press and not the whole recording.
+import { MOST_INPUTS } from "./limits.mjs";
 import { isPlayOf } from "./replaying.mjs";
-import { MOST_INPUTS } from "./session-file.mjs";
 import { there } from "./there.mjs";
 import { playedText } from "./ticks.mjs";
 

@@ -1,7 +1,8 @@
 // @ts-check
 // A state as it is kept between visits, and back. What is kept has a version; what can't be read is no state.
+import { MOST_INPUTS } from "./limits.mjs";
 import { lastLost } from "./past.mjs";
-import { MOST_INPUTS, Refusal, SessionFile } from "./session-file.mjs";
+import { Refusal, SessionFile } from "./session-file.mjs";
 import { beginning } from "./work.mjs";
 /** @typedef {import("./state").State} State */
 

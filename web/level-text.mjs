@@ -3,7 +3,6 @@
 import { fold } from "./texts.mjs";
 
 const MOST_DIGITS = 9; // more cells than any level has
-export const MOST_OF_A_LEVEL = 2 ** 20; // letters of a level's text that the page reads, for which it takes a second at worst, and some do it six times; levels for people have some thousand
 
 // Numbers for sets of names, the same for the same set.
 export class Labels {

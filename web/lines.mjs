@@ -2,11 +2,11 @@
 // The lines of a recording, as docs/sessions.md has them, cut into runs: what they say of each session.
 import { CLOSES } from "./closes.mjs";
 import { plural } from "./elements.mjs";
+import { MOST_AT_ONCE } from "./limits.mjs";
 import { Refusal } from "./session-file.mjs";
 
 export const KINDS = ["start", "move", "undo", "restart", "load", "tick", "over"];
 const BEFORE_OVER = ["move", "tick", "over"]; // of what kinds the frame is before one that shows that play is over
-export const MOST_READ = 2 ** 24; // bytes of lines that are read at once: those of one frame, or of a run
 const NEW_LINE = 0x0a;
 const CLOSE_LETTER = 0x63; // a close begins with its cause or itself, and a frame with `at`
 
@@ -81,7 +81,7 @@ class FramesRead {
   }
 
   read([begin, end]) {
-    if (end - begin > MOST_READ) {
+    if (end - begin > MOST_AT_ONCE) {
       this.rewind();
       throw new Refusal("a frame has more than 16 MiB here, and is not read");
     }

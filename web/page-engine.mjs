@@ -5,9 +5,8 @@ import { readBy } from "./descriptions.mjs";
 import { at } from "./elements.mjs";
 import { framesTold, handedOver, isLevelLonger, takenOver } from "./frames-of-lines.mjs";
 import { KeptOpen, ONE_MORE } from "./kept-open.mjs";
-import { MOST_OF_A_LEVEL } from "./level-text.mjs";
+import { MOST_INPUTS, MOST_OF_A_LEVEL, MOST_OF_A_RECORDING, MOST_TAKEN } from "./limits.mjs";
 import { readFile, readerIn } from "./reading.mjs";
-import { MOST_INPUTS } from "./session-file.mjs";
 import { there } from "./there.mjs";
 import { playedText } from "./ticks.mjs";
 
@@ -20,8 +19,6 @@ const FEW = 131_072; // bytes of a sessions file that one worker plays
 const SOON = 400; // milliseconds that it may take for it
 const MOMENT = 30; // milliseconds for which inputs are looked through before it is told what came of it
 const GRACE = 100; // milliseconds that a worker has to end what isn't wanted any more
-const MOST_TAKEN = 2 ** 19; // frames, stages, and headings and lines of these, that the page takes at once; with millions it would stand still for long
-const MOST_ROOM_OF_LEVELS = 2 ** 28; // bytes of their texts as a browser holds them, in the worker and in the page: a tab has some 4 GiB
 const IDLE = 200; // milliseconds without a question, after which a session is opened for the keys that may come; behind a key it is opened at once
 
 // The module, which stands in the page compressed.
@@ -48,14 +45,14 @@ export function readableAnswer(answer) {
   const { frames = [], stages = [] } = answer, isLong = (shown) => isLevelLonger(shown, MOST_OF_A_LEVEL);
   if (stages.reduce((sum, { headings = [], lines = [] }) => sum + 1 + headings.length + lines.length, frames.length) > MOST_TAKEN) return noAnswer("memory");
   if (frames.some(isLong) || stages.some(isLong)) return noAnswer("long-level");
-  return roomOfLevels(frames) + roomOfLevels(stages) > MOST_ROOM_OF_LEVELS ? noAnswer("memory") : answer;
+  return roomOfLevels(frames) + roomOfLevels(stages) > MOST_OF_A_RECORDING ? noAnswer("memory") : answer;
 }
 
 // What the engine makes of a recording: { frames, cause, isSolved }. A fault of the engine is a cause that begins with `engine:`.
 /** @type {(engine: Engine, asked: Asked & { from: number }) => { frames: object[], cause: string | null, isSolved: boolean }} */
 export function playedBy(engine, { source, index, order, inputs, from, isTicked }) {
   const played = inputs.length >= MOST_INPUTS ? inputs : [...inputs, ONE_MORE], text = playedText(source, isTicked);
-  const whole = () => framesTold(engine.replay(JSON.stringify([["", [text, played, "", index]]]), { order, most: MOST_ROOM_OF_LEVELS }));
+  const whole = () => framesTold(engine.replay(JSON.stringify([["", [text, played, "", index]]]), { order, most: MOST_OF_A_RECORDING }));
   /** @type {{ frames: { at: number, kind: string }[], close: { cause?: string } | null, fault: string | null }} */
   const { frames, close, fault } = from === 0 ? whole() : engine.frames({ source: text, index, inputs: played }, { order, from });
   if (fault !== null) return refusedPlay(fault);

@@ -1,6 +1,7 @@
 // @ts-check
 // Sessions that are more than the engine takes in one file: they are played in parts, whose lines are joined as if they were one.
 import { numbered } from "../engine/saxtegun.mjs";
+import { MOST_OF_LINES } from "./limits.mjs";
 import { rest } from "./pieces.mjs";
 
 function joinedBytes(pieces) {
@@ -30,7 +31,6 @@ async function numberedInPieces(lines, first, signal) {
 // A fault that names a session of a part.
 const faultOfPart = (fault, first) => fault.replace(/(?<= )[0-9]+$/, (number) => String(first + Number(number)));
 
-export const MOST_OF_LINES = 2 ** 29; // bytes of all sessions that the page holds: twice as they are joined, and as often beside those of what was played before
 
 // An answer of the engine, whose lines were too many where memory was short.
 const answerOf = (answer) => (answer.fault === "memory" ? { ...answer, fault: "long-lines" } : answer);

@@ -1,10 +1,9 @@
 // @ts-check
 // What can be put back: texts, recordings, names and sessions files that something else took the place of. The newest stands last.
+import { MOST_BYTES_PAST, MOST_PAST } from "./limits.mjs";
 
 /** @typedef {import("./state").State} State */
 
-export const MOST_PAST = 20;
-const MOST_BYTES_PAST = 2 ** 24; // of texts and files that can be put back, since all is written at each change
 
 export const isSameList = (one, other) => one === other || (one.length === other.length && one.every((item, place) => item === other[place]));
 

@@ -2,10 +2,10 @@
 // A long file is read by a worker, so that the page answers meanwhile, and doesn't begin with what it would stand still for.
 import { Game } from "./game.mjs";
 import { handed } from "./handing.mjs";
+import { MOST_OF_READING } from "./limits.mjs";
 import { Refusal } from "./session-file.mjs";
 
 const LONG = 65_536; // bytes of a file that is read so: none of fewer takes long
-const MOST_OF_READING = 5000; // milliseconds that the worker may take
 
 // The texts of games that the page reads where a file is opened.
 /** @type {(read: import("./handing.mjs").Handed) => any[]} */

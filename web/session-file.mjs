@@ -2,6 +2,7 @@
 // A sessions file as docs/sessions.md has it: its entries, and its bytes, of which a change leaves all else letter by letter. The twin of
 // python/saxtegun/sessions.py.
 import { elementsOf } from "../engine/saxtegun.mjs";
+import { MOST_BYTES_PLAYED, MOST_INPUTS } from "./limits.mjs";
 import { shortened } from "./texts.mjs";
 import { there } from "./there.mjs";
 
@@ -18,9 +19,6 @@ const IN_A_LIST = { 0x7b: 0x5b, 0x7d: 0x5d, 0x3a: 0x2c }; // what stands in a li
 // Why a file has no answer, in a sentence.
 export class Refusal extends Error {}
 
-export const MOST_INPUTS = 65_536;
-export const MOST_SESSIONS = 65_536; // that come into the page: the engine plays no more, and each key would take seconds beside millions
-const MOST_BYTES = 16_777_216; // of a file that the engine plays
 const SHORT_FILE = 131_072; // bytes of one in which sessions are looked for, though it isn't open
 
 const isInput = (value) => WORDS.includes(value) || (Number.isInteger(value) && value >= 0 && value <= 4);
@@ -397,7 +395,7 @@ export class SessionFile {
     let size = Infinity;
     this.entries.forEach((entry, number) => {
       const pieces = texts.piecesOf(entry), length = texts.sizeOf(entry, pieces);
-      if (size + length > MOST_BYTES) {
+      if (size + length > MOST_BYTES_PLAYED) {
         parts.push(new Part(number));
         size = 2;
       }

@@ -2,10 +2,11 @@
 // The sessions of the file in the state of the page: how they closed over the text at hand, which of them is open, and what was seen of it.
 import { Ending, obstacleTold, partingOf } from "./comparing.mjs";
 import { ONE_MORE } from "./kept-open.mjs";
-import { MOST_READ, framesIn, isOverIn, runsOf } from "./lines.mjs";
+import { MOST_AT_ONCE, MOST_INPUTS } from "./limits.mjs";
+import { framesIn, isOverIn, runsOf } from "./lines.mjs";
 import { isSameList } from "./past.mjs";
 import { framesOf, gameOf, isAtEnd, isPlayed, sourceOf } from "./replaying.mjs";
-import { MOST_INPUTS, Refusal, SessionFile, isSolvedWanted, refusalTold } from "./session-file.mjs";
+import { Refusal, SessionFile, isSolvedWanted, refusalTold } from "./session-file.mjs";
 import { isFailure } from "./session-list.mjs";
 import { there } from "./there.mjs";
 import { Clocks, hasClock, isRefusedForClock, playedText } from "./ticks.mjs";
@@ -109,7 +110,7 @@ function changeOf({ good, suite }, number) {
   if (suite.runs === null || former === undefined || good === suite || good.order !== suite.order || good.isTicked !== suite.isTicked || good.runs[number].close !== "passed") return null;
   if (former.name !== entry.name || former.index !== entry.index || !isSameList(former.inputs, entry.inputs)) return null;
   const runs = [runWithFrames(good, number), runWithFrames(suite, number)];
-  if (runs.some(({ begin, end }) => end - begin > MOST_READ)) return null;
+  if (runs.some(({ begin, end }) => end - begin > MOST_AT_ONCE)) return null;
   const parting = partingKnown(...runs), [before, now] = runs.map(({ frames }) => frames.at(parting?.frame ?? 0));
   return parting === null || parting.kind === "close" ? null : { ...parting, at: (now ?? before).at };
 }

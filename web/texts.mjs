@@ -1,10 +1,9 @@
 // @ts-check
 // Texts of games and of strangers letter by letter, as the engine tells letters apart.
+import { MOST_LETTERS, MOST_OF_A_SOURCE } from "./limits.mjs";
 
 // What Unicode calls white space.
 const SPACE = /[\t-\r \x85\xa0\u1680\u2000-\u200a\u2028\u2029\u202f\u205f\u3000]/;
-export const MOST_OF_A_SOURCE = 1_048_576; // bytes of a text that is played
-const MOST_LETTERS = 200; // of a text of a stranger that is read in a line among others
 
 // A name as names are compared: the case of ASCII letters is ignored, and of no others.
 export const fold = (text) => text.replace(/[A-Z]/g, (letter) => letter.toLowerCase());

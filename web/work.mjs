@@ -2,11 +2,11 @@
 // The state of the page, which is never changed, and what can be done with a text and a recording: functions from a state to the next. Nothing here
 // knows the page or the engine. What the engine is wanted to play follows from the state, and its answer leads to the next (replaying.mjs, suite.mjs).
 import { levelsOf } from "./game.mjs";
+import { MOST_INPUTS } from "./limits.mjs";
 import { messagesAt } from "./messages.mjs";
 import { behindAll, isReplaced, rememberingKeys } from "./past.mjs";
 import { firstFrom } from "./recording.mjs";
 import { cutToPlayed, framesOf, gameOf, isAtEnd, isPlayed, sourceOf, takenOf } from "./replaying.mjs";
-import { MOST_INPUTS } from "./session-file.mjs";
 import { whyNoField } from "./texts.mjs";
 import { there } from "./there.mjs";
 /** @typedef {import("./state").State} State */

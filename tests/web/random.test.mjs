@@ -4,7 +4,7 @@
 import assert from "node:assert/strict";
 import test from "node:test";
 import { isDeepStrictEqual } from "node:util";
-import { MOST_PAST } from "../../web/past.mjs";
+import { MOST_PAST } from "../../web/limits.mjs";
 import { SessionFile } from "../../web/session-file.mjs";
 import { accepted, followed, namesakeOf, removed, savedAs, withOtherFile } from "../../web/filing.mjs";
 import { isPlayed, sourceOf } from "../../web/replaying.mjs";

@@ -5,12 +5,13 @@ import test from "node:test";
 import { readBy } from "../../web/descriptions.mjs";
 import { comparing, withComparison, withOtherFile, withRecordings } from "../../web/filing.mjs";
 import { handed, isTyped } from "../../web/handing.mjs";
-import { MOST_READ, framesIn, runsIn, runsOf } from "../../web/lines.mjs";
+import { MOST_AT_ONCE, MOST_SESSIONS } from "../../web/limits.mjs";
+import { framesIn, runsIn, runsOf } from "../../web/lines.mjs";
 import { clockTold, readingTold, tabTold, verdictOf } from "../../web/page-words.mjs";
 import { readableAnswer } from "../../web/page-engine.mjs";
 import { remembering } from "../../web/past.mjs";
 import { readBeside, readFile, readerIn } from "../../web/reading.mjs";
-import { MOST_SESSIONS, Refusal, SessionFile, refusalTold } from "../../web/session-file.mjs";
+import { Refusal, SessionFile, refusalTold } from "../../web/session-file.mjs";
 import { differenceOf, rowsOf, sessionOpened } from "../../web/suite.mjs";
 import { whyNoField } from "../../web/texts.mjs";
 import { there } from "../../web/there.mjs";
@@ -88,7 +89,7 @@ it("another engine's lines are compared in pieces, up to where each session part
 });
 
 test("a frame that has more than is read at once is refused, and what stands beside it is read", () => {
-  const lineOf = (frame, level) => `{"at":${frame},"frame":${frame},"kind":"${frame === 0 ? "start" : "move"}","level":"${level}","session":0}\n`, long = "x".repeat(MOST_READ);
+  const lineOf = (frame, level) => `{"at":${frame},"frame":${frame},"kind":"${frame === 0 ? "start" : "move"}","level":"${level}","session":0}\n`, long = "x".repeat(MOST_AT_ONCE);
   const text = `${lineOf(0, long)}${lineOf(1, "a:0,")}{"close":"differs","frames":2,"name":"a","session":0}\n`, lines = new TextEncoder().encode(text), frames = framesIn(lines, runsOf(lines)[0]);
   for (const at of [0, 0, 1]) assert.throws(() => { if (frames.at(at).level === "a:0,") throw new Error("it is there"); }, { message: at === 0 ? "a frame has more than 16 MiB here, and is not read" : "it is there" });
 });
