@@ -333,7 +333,7 @@ class Asked(InARoom):
             ("print('x', end='')", "what it wrote is no description"),
             ("print(); print()", "what it wrote is no description"),
             ("sys.stdout.buffer.write(b'\\xff\\n')", "what it wrote is no description"),
-            (f"print('{description_line('title x')} ')", "what it wrote is no description"),
+            (f"print('{description_line('title x')}x')", "what it wrote is no description"),
         ):
             with self.subTest(script):
                 self.stand_in(script)
@@ -367,27 +367,6 @@ class Asked(InARoom):
         self.assertEqual((game.objects, game.notes), ([], [why]))
         with self.assertRaises(Refused):
             titles_of(["title x"])
-
-
-MEMORY = """
-import sys
-from resource import RUSAGE_SELF, getrusage
-sys.path.insert(0, sys.argv[1])
-from saxtegun.descriptions import description_of
-told = description_of(eval(sys.argv[2]))
-print(sum(1 for it in told.lines), getrusage(RUSAGE_SELF).ru_maxrss // 1024)
-"""
-
-
-class Memory(unittest.TestCase):
-    def test_a_source_of_many_lines_takes_not_many_times_its_size(self) -> None:
-        """A MiB of line feeds, and of the shortest rules; in MiB, of which Python itself takes some 30."""
-        for source, count, most in ((r"'\n' * 2**20", 2**20 + 1, 150), (r"'OBJECTS\nRULES\n' + '[\n' * (2**19 - 9)", 2**19 - 8, 250)):
-            with self.subTest(source):
-                ran = subprocess.run([sys.executable, "-B", "-c", MEMORY, TOP / "python", source], stdout=subprocess.PIPE, check=True)
-                lines, mebibytes = map(int, ran.stdout.split())
-                self.assertEqual(lines, count)
-                self.assertLess(mebibytes, most)
 
 
 class EngineOfDescriptions(InARoom):

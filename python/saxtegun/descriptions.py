@@ -11,7 +11,7 @@ from bisect import bisect_left
 from contextlib import contextmanager
 from itertools import islice
 from pathlib import Path
-from typing import IO, Any, Callable, Dict, Iterable, Iterator, List, NamedTuple, Optional, Sequence, Tuple
+from typing import IO, Any, Dict, Iterable, Iterator, List, NamedTuple, Optional, Sequence, Tuple
 
 from saxtegun.budget import EXPLAINING
 from saxtegun.commands import Refused, cut, fold
@@ -31,7 +31,6 @@ MOST_AT_ONCE, MOST_LETTERS_AT_ONCE = 1000, 2**21
 OUTLINES = "--outlines"  # behind the program that tells sources
 CANT_ASK = "the engine can't be asked what it reads of a source: "
 NONE_TOLD = "what it wrote is no description"
-JSON = json.JSONDecoder()
 
 
 class Undescribed(Refused):
@@ -189,101 +188,37 @@ def before(word: str, words: Sequence[str]) -> Sequence[str]:
     return words[: words.index(word)] if word in words else words
 
 
-class Reader:
-    """Reads the line of a description, which has no spaces, member by member, and lists item by item, as long as there is time."""
-
-    def __init__(self, text: str) -> None:
-        self.text, self.at = text, 0
-
-    def value(self) -> Any:
-        value, self.at = JSON.raw_decode(self.text, self.at)
-        return value
-
-    def mark(self, marks: str) -> str:
-        mark = self.text[self.at]
-        if mark not in marks:
-            raise ValueError(f"none of {marks} stands there")
-        self.at += 1
-        return mark
-
-    def items(self) -> Iterator[Any]:
-        """The items of the list that stands next."""
-        mark = self.mark("[")
-        if self.text[self.at] == "]":
-            mark = self.mark("]")
-        while mark != "]":
-            EXPLAINING.look()
-            yield self.value()
-            mark = self.mark(",]")
-
-    def members(self) -> Iterator[str]:
-        """The names of the members of the object that stands next; the value of each is read by whoever is given its name."""
-        mark = self.mark("{")
-        while mark != "}":
-            name = self.value()
-            self.mark(":")
-            yield name
-            mark = self.mark(",}")
-
-    def end(self) -> None:
-        if self.at != len(self.text):
-            raise ValueError("something stands behind it")
-
-
-class Shaping:
-    """Makes a description of the text of its line, member by member as they come: by their names in order. What is of another form ends it by an error of
-    any kind."""
-
-    def __init__(self, text: str) -> None:
-        self.reader = Reader(text)
-        self.lines = Lines()
-
-    def member(self, name: str) -> Any:
-        if name in ("fault", "program"):
-            return self.reader.value()
-        if name == "lines":
-            for it in self.reader.items():
-                self.lines.add(*it)
-            return self.lines
-        return [SHAPES[name](self.lines, it) for it in self.reader.items()]
-
-    def words(self, of: List[Tuple[int, List[str]]]) -> List[Words]:
-        return [Words(number, words, self.lines.text_of(number)) for number, words in EXPLAINING.each(of)]
-
-    def drawn(self, of: List[Tuple[int, Tuple[str, ...]]]) -> List[Drawn]:
-        return [Drawn(self.lines.behind(number, len(rows) or 1), rows) for number, rows in EXPLAINING.each(of)]
-
-    def description(self) -> Description:
-        found = {name: self.member(name) for name in self.reader.members()}
-        self.reader.end()
-        return Description(
-            None if found["fault"] is None else Fault(found["fault"]["code"], found["fault"]["line"]),
-            found["lines"], found["prelude"], found["objects"], found["legend"],
-            self.words(found["layers"]), self.words(found["rules"]), self.words(found["wins"]), self.drawn(found["levels"]),
-        )  # fmt: skip
-
-
 def paragraph_of(lines: Lines, it: Dict[str, Any]) -> Paragraph:
     count = 1 + bool(it["colours"]) + len(it["sprite"])
     return Paragraph(lines.behind(it["line"], count), it["names"], it["colours"], it["sprite"], it.get("layer"))
 
 
-# What is made of an item of each list; of those that may stand before the lines as much as can be without them.
-SHAPES: Dict[str, Callable[[Lines, Any], Any]] = {
-    "layers": lambda _, it: (it["line"], it["names"]),
-    "legend": lambda _, it: Definition(it["line"], it["left"], it["right"], it.get("kind"), tuple(it.get("members", ()))),
-    "levels": lambda _, it: (it["line"], tuple(it.get("rows", ()))),
-    "objects": paragraph_of,
-    "prelude": lambda _, it: Setting(it[0], fold(it[1]), it[2]),
-    "rules": lambda _, it: (it["line"], it["words"]),
-    "wins": lambda _, it: (it["line"], it["words"]),
-}
+def shaped(told: Dict[str, Any]) -> Description:
+    """A description of its values, as long as there is time. What is of another form ends it by an error of any kind."""
+    lines, each, fault = Lines(), EXPLAINING.each, told["fault"]
+    for it in each(told["lines"]):
+        lines.add(*it)
+
+    def words(name: str, of: str = "words") -> List[Words]:
+        return [Words(it["line"], it[of], lines.text_of(it["line"])) for it in each(told[name])]
+
+    return Description(
+        None if fault is None else Fault(fault["code"], fault["line"]),
+        lines,
+        [Setting(it[0], fold(it[1]), it[2]) for it in each(told["prelude"])],
+        [paragraph_of(lines, it) for it in each(told["objects"])],
+        [Definition(it["line"], it["left"], it["right"], it.get("kind"), tuple(it.get("members", ()))) for it in each(told["legend"])],
+        words("layers", "names"),
+        words("rules"),
+        words("wins"),
+        [Drawn(lines.behind(it["line"], len(it.get("rows", ())) or 1), tuple(it.get("rows", ()))) for it in each(told["levels"])],
+    )
 
 
 def read(text: str) -> Description:
     """The description of a line. Refused where it is none."""
     try:
-        return Shaping(text).description()
+        return shaped(json.loads(text))
     except (ValueError, TypeError, LookupError, AttributeError, OverflowError, RecursionError):
         raise Undescribed(NONE_TOLD) from None
 
