@@ -26,13 +26,13 @@ import sys
 import tempfile
 from argparse import ArgumentParser, Namespace
 from contextlib import contextmanager
-from typing import Any, Iterator, List, NoReturn, Optional
+from typing import Any, Iterator, List, Optional
 
 from saxtegun.commands import Refused, add_ticks, cut, plural, printable, say
 from saxtegun.explanations import cause_told, told
 from saxtegun.files import MARK, guard_places, locked, read_text, write_whole
 from saxtegun.games import game_of
-from saxtegun.keyboard import DRAW, keyboard, pass_over
+from saxtegun.keyboard import DRAW, keyboard
 from saxtegun.levels import Labels, in_rows, read_cells, width_of
 from saxtegun.levelsets import count_of_levels, entries_of_levels
 from saxtegun.lines import Run
@@ -45,8 +45,6 @@ from saxtegun.terminal import CLEAR, KEYS, Screen, fitted, lettered, screen_now
 
 USAGE = "play GAME.txt [--level N] [--save NAME SESSIONS.json] [--letters]"
 FULL = "save in another file"
-# What ends a process that doesn't hear it.
-ENDS = ("SIGINT", "SIGTERM", "SIGHUP", "SIGQUIT", "SIGUSR1", "SIGUSR2", "SIGALRM", "SIGVTALRM", "SIGPROF", "SIGXCPU")
 HELP = "arrows move, x acts, z undoes, r restarts, t ticks, q ends"
 
 
@@ -239,39 +237,20 @@ def press_keys(play: Play) -> None:
                 play.draw(word)
 
 
-def interrupt(number: int, frame: Any) -> NoReturn:
-    """Ends the play once, whatever else comes."""
-    on_signals(pass_over)
-    raise KeyboardInterrupt
-
-
-def on_signals(handler: Any) -> None:
-    """What Ctrl-C, Ctrl-\\, a window that is closed, and whatever else would end this do."""
-    for name in ENDS:
-        if hasattr(signal, name):
-            signal.signal(getattr(signal, name), handler)
-
-
 def main(given: Namespace) -> int:
     if sys.stdin is None:
         raise Refused("standard input is closed, so there are no keys")
     if given.save:
         guard_saving(*given.save)
     play = Play(given)
-    on_signals(interrupt)
     try:
-        try:
-            with play.kept_open():
-                press_keys(play)
-            given.save = given.save or place_offered(play)
-        finally:
-            on_signals(pass_over)
+        with play.kept_open():
+            press_keys(play)
+        given.save = given.save or place_offered(play)
     except KeyboardInterrupt:
         # what was played is saved as behind q
-        pass
+        signal.signal(signal.SIGINT, signal.SIG_IGN)
     finally:
-        # as Python ends it forgets its functions, and a signal that had one would end it
-        on_signals(signal.SIG_IGN)
         if given.save:
             play.save(*given.save)
         elif play.inputs:
