@@ -61,8 +61,6 @@ class Titles {
   }
 }
 
-export const ownName = (recording) => new Titles().nameOf(recording);
-
 // Recordings under their own names, where those without a text are of this one.
 export function withOwnNames(recordings, text) {
   const titles = new Titles();
