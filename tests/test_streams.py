@@ -33,13 +33,18 @@ for number, (name, (source, inputs, level, index)) in enumerate(json.load(open(s
         print(json.dumps({**line, "session": number}))
 sys.exit(1)
 """
-# Plays the example.
+# Plays the example, and says so as the program does where it can't write.
 PLAYER = f"""#!{sys.executable}
-import sys
+import os, sys
 sys.path.insert(0, "{Path(__file__).parent}")
 from day import lines_of_example
-sys.stdout.write(lines_of_example(open(sys.argv[-1], encoding="utf-8").read()))
-sys.stdout.flush()
+try:
+    sys.stdout.write(lines_of_example(open(sys.argv[-1], encoding="utf-8").read()))
+    sys.stdout.flush()
+except OSError:
+    sys.stderr.write("write-fault 0\\n")
+    sys.stderr.flush()
+    os._exit(2)
 sys.exit(1)
 """
 # What may stand in a line of a terminal.
