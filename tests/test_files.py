@@ -181,8 +181,8 @@ class Changes(OnSessions):
         """What was played isn't lost by that."""
         path = self.write("s.json", "[]\n")
         held = play.Play.__new__(play.Play)
-        held.inputs, held.last, held.index = [3], Frame(0, "start", "background:0,\n"), 0
-        with unittest.mock.patch.object(files, "MOST_SECONDS_LOCKED", 0.1), locked(str(path)):
+        held.source, held.inputs, held.last, held.index = "", [3], Frame(0, "start", "background:0,\n"), 0
+        with unittest.mock.patch.object(files, "MOST_SECONDS_LOCKED", 0.1), unittest.mock.patch.object(held, "is_solved", lambda: False), locked(str(path)):
             with self.assertRaisesRegex(Refused, "s.json can't be written: another has held its folder for 0.1 s"):
                 write_again(str(path), "[]\n", "x")
             shown = io.StringIO()
