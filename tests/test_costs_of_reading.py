@@ -155,7 +155,7 @@ def acted(size: int) -> None:
 def hung_from(size: int) -> None:
     """Draws a level of as many cells as each has names as the source of what is played."""
     run = Run(0, "a", "stopped", "loop-limit", [Frame(0, "start", level_of(size, size).replace("a0 ", "background "))])
-    source = HEAD + "COLLISIONLAYERS\nBackground\nPlayer\n" + TAIL
+    source = HEAD + "LEGEND\nCOLLISIONLAYERS\nBackground\nPlayer\n" + TAIL
     rows = hangs.rows_before(run, source, "columns")
     assert rows is not None
     source_from(source, rows, frozenset())
