@@ -141,10 +141,6 @@ class Compare(OnEngines):
         self.assert_refused(run("compare", "--sources", old, old, sessions, "--program", one), "no close of a session of 0 frames")
         path = self.room / "one.lines"
         self.assert_refused(run("compare", path, path), "no close of a session of 0 frames")
-        for words in ((), ("--game", old)):
-            answer = run("lines", sessions, "--program", one, *words)
-            self.assertEqual((answer.status, answer.out.encode()), (2, lines))
-            self.assertIn("2 sessions that the program closes as played have no frame", answer.errors)
 
     def test_our_own_engine_is_told_where_it_is_one_that_was_named(self) -> None:
         sessions, ours = self.sessions([3]), self.engine("none")
