@@ -17,6 +17,7 @@ import unittest
 from typing import Dict, List, Optional, Sequence, Tuple
 from unittest import mock
 
+from test_processes import hear_signals
 from test_test import OfAGame
 from tool import TOP, environment, plays, run
 from saxtegun.games import Game
@@ -102,7 +103,7 @@ class DayOfPlaying(OfAGame):
 
     def playing(self, *words: object) -> subprocess.Popen[bytes]:
         command = [sys.executable, TOP / "saxtegun", "play", self.game, *words]
-        return subprocess.Popen(list(map(str, command)), stdin=subprocess.PIPE, stdout=subprocess.PIPE, stderr=subprocess.PIPE, env=environment(), bufsize=0)
+        return subprocess.Popen(list(map(str, command)), stdin=subprocess.PIPE, stdout=subprocess.PIPE, stderr=subprocess.PIPE, env=environment(), bufsize=0, preexec_fn=hear_signals)
 
     def wait_for(self, ran: subprocess.Popen[bytes], words: bytes) -> None:
         assert ran.stdout is not None
@@ -133,6 +134,7 @@ class Window:
         self.pid, self.end = pty.fork()
         if self.pid == 0:
             self.resize(columns, rows, 0)
+            hear_signals()
             os.execvpe("bash", ["bash", "--norc", "-c", f"set -m; {command}"], {**environment(), "TERM": "xterm-256color", "COLORTERM": "", "NO_COLOR": "", **changed})
 
     def resize(self, columns: int, rows: int, end: Optional[int] = None) -> None:

@@ -259,15 +259,9 @@ class Believed(OnSessions):
             self.assertIn("session 4 is closed as passed, and its last level says otherwise", answer.errors)
 
     def test_a_program_that_says_nothing_has_not_played(self) -> None:
-        for verb in ("test", "explain", "accept", "lines"):
+        for verb in ("test", "explain", "accept"):
             answer = run(verb, TOP / "examples/block-pushing.json", "--program", self.program(""))
             self.assertEqual((answer.status, answer.out), (2, ""))
-
-    def test_lines_that_end_early_are_no_success(self) -> None:
-        lines = self.lines.read_text(encoding="utf-8").splitlines(keepends=True)
-        answer = run("lines", TOP / "examples/block-pushing.json", "--program", self.program("".join(lines[:-18])))
-        self.assertEqual(answer.status, 2)
-        self.assertIn("the program closed 4 sessions of 5", answer.errors)
 
 
 # An engine that waits for a file, and so plays as long as a test wants.
