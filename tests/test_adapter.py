@@ -99,7 +99,7 @@ def node(*words: object, stdin: bytes = b"") -> subprocess.CompletedProcess[byte
     return subprocess.run([NODE, *map(str, words)], input=stdin, stdout=subprocess.PIPE, stderr=subprocess.PIPE)
 
 
-@unittest.skipUnless(NODE, "node is not there")
+@unittest.skipUnless(NODE, "Node is not there: dev/tools installs it")
 class Adapter(OnSessions):
     def test_the_example_is_played_as_by_hand(self) -> None:
         for words, stdin in (((EXAMPLE,), b""), (("--workers", "2", "--order=columns", "--", EXAMPLE), b""), ((), EXAMPLE.read_bytes())):
@@ -159,7 +159,7 @@ class Adapter(OnSessions):
         self.assertIn("sessions.json was not played: the engine failed: this engine plays one game alone", answer.errors.splitlines()[-1])
 
 
-@unittest.skipUnless(NODE, "node is not there")
+@unittest.skipUnless(NODE, "Node is not there: dev/tools installs it")
 class AnotherEngine(OnSessions):
     """An engine that isn't ours in shape: rows of numbers, promises, exceptions."""
 
@@ -190,14 +190,14 @@ class AnotherEngine(OnSessions):
 
 
 @plays
-@unittest.skipUnless(NODE, "node is not there")
+@unittest.skipUnless(NODE, "Node is not there: dev/tools installs it")
 class DayOfTheAdapter(OnSessions):
     def test_the_example_is_played_as_by_the_program(self) -> None:
         answer = run("compare", "--engines", PROGRAM, ENGINE, EXAMPLE)
         self.assertEqual((answer.status, answer.out, answer.errors), (0, "5 sessions: 5 the same, 0 diverge\n", ""))
 
 
-@unittest.skipUnless(NODE, "node is not on the path")
+@unittest.skipUnless(NODE, "Node is not on the path: dev/tools installs it")
 class Stages(unittest.TestCase):
     def told(self, *words: object, source: str = "a game") -> Tuple[int, str, str]:
         file = json.dumps([["a", [source, [3, 3], ""]]]).encode()

@@ -206,7 +206,7 @@ class InACi(unittest.TestCase):
         self.assertEqual(self.uploaded(runner), ["junit.xml", "report.html"])
         self.assertIn("a recording that has gone stale", (runner.room / "GITHUB_STEP_SUMMARY").read_text(encoding="utf-8"))
 
-    @unittest.skipUnless(shutil.which("node", path="/usr/bin:/bin"), "there is no Node on the path of a runner")
+    @unittest.skipUnless(shutil.which("node", path="/usr/bin:/bin"), "Node is not on the path of a runner: dev/tools installs it")
     def test_the_action_without_a_version_plays_by_its_own_module(self) -> None:
         runner = self.runner(env={"GITHUB_ACTION_PATH": str(self.clone)})
         (taken, _, _), (played, out, errors), (gathered, _, _) = self.act(runner, version="")
@@ -273,7 +273,7 @@ class InACi(unittest.TestCase):
             self.assertEqual(set(it) - set(self.action["inputs"]), set())
             self.assertEqual((it["version"], len(it["sha256"])), (self.version, 64))
 
-    @unittest.skipUnless(shutil.which("jq"), "jq reads the closes")
+    @unittest.skipUnless(shutil.which("jq"), "jq is not there, which reads the closes: dev/tools installs it")
     def test_the_commands_that_compare_closes_are_red_where_one_changes(self) -> None:
         commands = next(it for it in commands_of_page() if "closes.expected" in it)
         runner = self.runner()

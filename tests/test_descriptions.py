@@ -464,7 +464,7 @@ class EngineOfLevelsAndFiles(DayOfLevelsAndFiles):
     @classmethod
     def setUpClass(cls) -> None:
         if os.environ.get("SAXTEGUN_PROGRAM") == "none" or not (TOP / "engine/out/saxtegun.wasm").is_file():
-            raise unittest.SkipTest("the module is not built")
+            raise unittest.SkipTest("the module is not built: engine/build")
 
     names = {it: value for it, value in os.environ.items() if it != "SAXTEGUN_MODULE"}
 

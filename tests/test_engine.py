@@ -27,7 +27,7 @@ IS_DESCRIBING = IS_BUILT and b"saxtegun_description" in (ENGINE / "out" / "saxte
 DESCRIPTIONS = sorted((TOP / "conformance/descriptions").glob("*.json"))
 
 
-@unittest.skipUnless(COMPILER, "there is no C compiler")
+@unittest.skipUnless(COMPILER, "there is no C compiler: dev/tools installs one")
 class TheC(InARoom):
     """The heap against a list of blocks, the arithmetic against the compiler's own."""
 
@@ -122,7 +122,7 @@ class OnStages(InARoom):
         self.assertEqual(ran.returncode, 0, ran.stdout.decode(errors="replace"))
 
 
-@unittest.skipUnless(NODE, "there is no node")
+@unittest.skipUnless(NODE, "Node is not there: dev/tools installs it")
 class TheStages(OnStages):
     """The stages of an input where no module is there, and the command line of engine/stages.mjs."""
 
@@ -140,7 +140,7 @@ class TheStages(OnStages):
         self.assertEqual(self.tell("0", "1", module=self.room / "empty.wasm"), (2, "", "no-stages\n"))
 
 
-@unittest.skipUnless(NODE, "there is no node")
+@unittest.skipUnless(NODE, "Node is not there: dev/tools installs it")
 class TheModule(InARoom):
     """Which module the command lines of engine/ take: in a clone none is built."""
 
@@ -163,7 +163,7 @@ class TheModule(InARoom):
         return subprocess.run(command, env={**os.environ, "SAXTEGUN_MODULE": module}, stdout=subprocess.PIPE, stderr=subprocess.PIPE, check=False)
 
 
-@unittest.skipUnless(NODE, "there is no node")
+@unittest.skipUnless(NODE, "Node is not there: dev/tools installs it")
 class OpenSessions(unittest.TestCase):
     """Tests the glue of open sessions, without a module and over the one that is built; the second name begins with Engine, by which ./check finds it."""
 
@@ -175,7 +175,7 @@ class OpenSessions(unittest.TestCase):
         self.pass_the_glue(SAXTEGUN_MODULE="/nonexistent/module.wasm")
 
 
-@unittest.skipUnless(NODE and IS_BUILT, "there is no node, or the module is not built")
+@unittest.skipUnless(NODE and IS_BUILT, "Node is not there, which dev/tools installs, or the module is not built: engine/build")
 class EngineOpenSessions(OpenSessions):
     """The same over the module."""
 
@@ -183,7 +183,7 @@ class EngineOpenSessions(OpenSessions):
         self.pass_the_glue()
 
 
-@unittest.skipUnless(NODE, "there is no node")
+@unittest.skipUnless(NODE, "Node is not there: dev/tools installs it")
 class TheSolutions(InARoom):
     """The glue of solutions where no module is there, and the command line of engine/solve.mjs."""
 
@@ -209,7 +209,7 @@ class TheSolutions(InARoom):
         self.assertEqual(self.solve("9", "9", module=self.room / "empty.wasm"), (2, "", "no-solutions\n"))
 
 
-@unittest.skipUnless(NODE and IS_BUILT, "there is no node, or the module is not built")
+@unittest.skipUnless(NODE and IS_BUILT, "Node is not there, which dev/tools installs, or the module is not built: engine/build")
 class EngineSolutions(TheSolutions):
     """The same over the module; the name begins with Engine, by which ./check finds it."""
 
@@ -223,7 +223,7 @@ class EngineSolutions(TheSolutions):
         self.assertEqual(self.solve("9", "9", file=b"[0]"), (2, "", "bad-entry 0\n"))
 
 
-@unittest.skipUnless(NODE and IS_BUILT, "there is no node, or the module is not built")
+@unittest.skipUnless(NODE and IS_BUILT, "Node is not there, which dev/tools installs, or the module is not built: engine/build")
 class EngineStages(OnStages, OnCases):
     """The stages that the module gives; the name begins with Engine, by which ./check finds it."""
 
@@ -257,7 +257,7 @@ class OnDescriptions(InARoom):
         return self.room / "game.txt"
 
 
-@unittest.skipUnless(NODE, "there is no node")
+@unittest.skipUnless(NODE, "Node is not there: dev/tools installs it")
 class TheDescriptions(OnDescriptions):
     """The description of a source where no module is there, and the command line of engine/describe.mjs."""
 
@@ -281,7 +281,7 @@ class TheDescriptions(OnDescriptions):
         self.assertEqual([path.stem for path, case in zip(DESCRIPTIONS, cases) if set(case) != {"rule", "source", "told"} or not case["rule"].endswith(".")], [])
 
 
-@unittest.skipUnless(NODE and IS_DESCRIBING, "there is no node, or the module is not built or gives no descriptions")
+@unittest.skipUnless(NODE and IS_DESCRIBING, "Node is not there, which dev/tools installs, or the module is not built or gives no descriptions: engine/build")
 class EngineDescriptions(OnDescriptions):
     """The descriptions that the module gives; the name begins with Engine, by which ./check finds it."""
 
@@ -306,7 +306,7 @@ class InNode(InARoom):
         self.assertEqual(ran.returncode, 0, ran.stdout.decode(errors="replace"))
 
 
-@unittest.skipUnless(NODE, "there is no node")
+@unittest.skipUnless(NODE, "Node is not there: dev/tools installs it")
 class TheExample(InNode):
     """The script of the page of docs/engine.md, over an engine of the test's own."""
 
@@ -314,7 +314,7 @@ class TheExample(InNode):
         self.pass_in_node("example.test.mjs")
 
 
-@unittest.skipUnless(NODE and IS_BUILT, "there is no node, or the module is not built")
+@unittest.skipUnless(NODE and IS_BUILT, "Node is not there, which dev/tools installs, or the module is not built: engine/build")
 class EngineGlue(InNode):
     """The exports, the functions of the glue and their refusals; the name begins with Engine, by which ./check finds it."""
 

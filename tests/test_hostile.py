@@ -85,7 +85,7 @@ class DayOfKills(OfAGame):
         self.assertTrue(all(it.name.startswith(".saxtegun-") for it in self.room.iterdir() if it.name.startswith(".")))
 
 
-@unittest.skipUnless(NODE and MODULE, "there is no Node, or no module")
+@unittest.skipUnless(NODE and MODULE, "Node is not there, which dev/tools installs, or no module: engine/build")
 class Bare(unittest.TestCase):
     def test_wrong_calls_of_the_bare_module_return_or_trap(self) -> None:
         words = [NODE, TOP / "tests/engine/bare.mjs", str(SEED), str(CALLS), MODULE]

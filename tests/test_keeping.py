@@ -144,7 +144,7 @@ class KeepingAnywhere(unittest.TestCase):
     def test_there_is_a_browser(self) -> None:
         if not (BROWSERS and MODULE):
             print("there is no browser or no module: what the page keeps was not tried in a browser", file=sys.stderr)
-            self.skipTest("there is no browser or no module")
+            self.skipTest("there is no browser, which dev/tools installs, or no module: engine/build")
 
 
 for kind in BROWSERS if MODULE else []:

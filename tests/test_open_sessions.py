@@ -40,7 +40,7 @@ def in_node() -> str:
 NODE = in_node()
 
 
-@unittest.skipUnless(NODE, "no Node, or no module is released")
+@unittest.skipUnless(NODE, "Node is not there, which dev/tools installs, or no module is released")
 class OpenSessions(InARoom):
     """Each plays by the released module, whatever is built here."""
 

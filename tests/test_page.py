@@ -162,7 +162,7 @@ class It {
 const words = "// @ts-check";
 ''')
 
-    @unittest.skipUnless(NODE, "Node is not there")
+    @unittest.skipUnless(NODE, "Node is not there: dev/tools installs it")
     def test_node_reads_its_script(self) -> None:
         (self.room / "script.cjs").write_text(Elements(self.built()[0]).texts["script"], encoding="utf-8")
         ran = subprocess.run([NODE, "--check", self.room / "script.cjs"], stdout=subprocess.PIPE, stderr=subprocess.STDOUT, check=False)
@@ -222,7 +222,7 @@ def broken_forms(count: int) -> Iterator[str]:
         yield "".join(letters)
 
 
-@unittest.skipUnless(NODE, "Node is not there")
+@unittest.skipUnless(NODE, "Node is not there: dev/tools installs it")
 class Twins(unittest.TestCase):
     """The page reads games and tells faults as the command does: what Python says is what is wanted."""
 

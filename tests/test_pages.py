@@ -92,7 +92,7 @@ class Joined(unittest.TestCase):
     def test_nothing_of_modules_is_left(self) -> None:
         self.assertNotRegex(script_of("report.mjs"), r"(?m)^\s*(import|export)\b")
 
-    @unittest.skipUnless(shutil.which("node"), "Node is not there")
+    @unittest.skipUnless(shutil.which("node"), "Node is not there: dev/tools installs it")
     def test_node_reads_the_joined_script(self) -> None:
         with tempfile.TemporaryDirectory() as folder:
             script = Path(folder) / "script.js"
@@ -116,7 +116,7 @@ class Pages(unittest.TestCase):
 
 
 class Modules(unittest.TestCase):
-    @unittest.skipUnless(shutil.which("node"), "Node is not there")
+    @unittest.skipUnless(shutil.which("node"), "Node is not there: dev/tools installs it")
     def test_what_needs_no_browser_passes_in_node(self) -> None:
         ran = subprocess.run(["node", "--test", *sorted(WEB.glob("tests/*.test.mjs"))], stdout=subprocess.PIPE, stderr=subprocess.STDOUT)
         self.assertEqual(ran.returncode, 0, ran.stdout.decode())

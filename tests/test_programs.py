@@ -207,7 +207,7 @@ class Programs(InAFreshClone):
             self.assertEqual(errors, f"saxtegun {verb}: the program needs a newer C library than this machine has (GLIBC_2.34): play in Node, as docs/engine.md tells\n")
 
 
-@unittest.skipUnless(NODE and (TOP / "released").is_dir(), "there is no Node, or nothing is released")
+@unittest.skipUnless(NODE and (TOP / "released").is_dir(), "Node is not there, which dev/tools installs, or nothing is released")
 class Released(InAFreshClone):
     """The files of released/, which may be of an earlier commit: their sums, and that the functions of this one play by their module."""
 

@@ -93,7 +93,7 @@ class RandomPage(unittest.TestCase):
     def setUp(self) -> None:
         if not (BROWSERS and NODE and MODULE):
             print("there is no browser, no Node or no module: the page was not tried in a browser", file=sys.stderr)
-            self.skipTest("there is no browser, no Node or no module")
+            self.skipTest("there is no browser or no Node, which dev/tools installs, or no module: engine/build")
 
     def acts_in(self, kind: Type[AnyBrowser]) -> str:
         begun = time.monotonic()

@@ -32,7 +32,7 @@ class InAGitFolder(OfAGame):
     def setUp(self) -> None:
         super().setUp()
         if shutil.which("git") is None:
-            self.skipTest("there is no git")
+            self.skipTest("git is not there: dev/tools installs it")
         git(self.room, "init", "--quiet")
         self.commit()
 

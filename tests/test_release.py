@@ -47,7 +47,7 @@ def clone(folder: Union[str, Path], source: Path = TOP) -> Path:
     return Path(folder)
 
 
-@unittest.skipUnless(shutil.which("objdump"), "there is no objdump")
+@unittest.skipUnless(shutil.which("objdump"), "objdump is not there: dev/tools installs it")
 class Symbols(unittest.TestCase):
     def test_the_c_library_of_a_program_is_what_objdump_says(self) -> None:
         """Each program of this machine names a version as objdump lists it; a script has none."""
@@ -104,7 +104,7 @@ class PartsOfOthers(unittest.TestCase):
                         self.assertIn(line.strip(), text)
 
 
-@unittest.skipUnless((TOP / ".git").exists() and shutil.which("dpkg-deb"), "a release is made of a clone, with dpkg-deb")
+@unittest.skipUnless((TOP / ".git").exists() and shutil.which("dpkg-deb"), "a release is made of a clone, with dpkg-deb: dev/tools")
 class Release(unittest.TestCase):
     kept: tempfile.TemporaryDirectory[str]
     one: Path
@@ -205,7 +205,7 @@ class Release(unittest.TestCase):
         for path in (said["types"], said["exports"]["."]["default"], said["exports"]["./out/saxtegun.wasm"], *said["bin"].values()):
             self.assertIn(os.path.normpath(f"package/{path}"), content)
 
-    @unittest.skipUnless(shutil.which("node"), "there is no Node")
+    @unittest.skipUnless(shutil.which("node"), "Node is not there: dev/tools installs it")
     def test_the_package_for_node_is_imported_by_its_name(self) -> None:
         room = Path(self.kept.name) / "node"
         with tarfile.open(self.release / f"saxtegun-engine-{self.version}.tgz") as tar:

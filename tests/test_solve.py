@@ -208,7 +208,7 @@ class DayOfMending(OfLevels):
 
     def commit(self) -> None:
         if shutil.which("git") is None:
-            self.skipTest("there is no git")
+            self.skipTest("git is not there: dev/tools installs it")
         for words in (["init", "--quiet"], ["add", "--all"], ["-c", "user.name=a", "-c", "user.email=a@example", "commit", "--quiet", "--message", "a text"]):
             subprocess.run(["git", "-C", self.room, *words], check=True, stdout=subprocess.DEVNULL)
 

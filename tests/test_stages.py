@@ -38,7 +38,7 @@ STAGES, ENVIRONMENT = what_tells_stages()
 
 def tells_stages(tests: Tests) -> Tests:
     """Marks tests that ask for stages: they are left out where nothing tells these. Their names begin with Day, as those of tests that play."""
-    return unittest.skipUnless(STAGES, "nothing here tells stages, or no program is to play")(tests)
+    return unittest.skipUnless(STAGES, "nothing here tells stages, or no program is to play: dev/build pz_stager, dev/build pz_replayer")(tests)
 
 
 def compact(line: Any) -> str:

@@ -29,7 +29,7 @@ def scripts_of(folder: Path) -> List[Path]:
     return [it for it in sorted(folder.iterdir()) if it.is_file() and not it.suffix and it.read_bytes().startswith(b"#!/usr/bin/env python3\n")]
 
 
-@unittest.skipUnless(shutil.which("mypy"), "mypy is not there")
+@unittest.skipUnless(shutil.which("mypy"), "mypy is not there: dev/tools installs it")
 class Types(unittest.TestCase):
     room: str
 
@@ -78,7 +78,7 @@ KINDS = {"button": "Button", "canvas": "Canvas", "details": "Details", "form": "
 
 
 class TypesOfScripts(unittest.TestCase):
-    @unittest.skipUnless(shutil.which("tsc"), "tsc is not there")
+    @unittest.skipUnless(shutil.which("tsc"), "tsc is not there: dev/tools installs it")
     def test_the_types_of_the_modules_hold(self) -> None:
         for project in (TOP, TOP / "web"):
             with self.subTest(project):

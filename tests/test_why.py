@@ -275,7 +275,7 @@ class Programs(unittest.TestCase):
             self.assertRaisesRegex(Refused, "nothing here tells stages", programs.stages_words)
 
 
-    @unittest.skipUnless(shutil.which("node"), "there is no Node")
+    @unittest.skipUnless(shutil.which("node"), "Node is not there: dev/tools installs it")
     def test_without_a_program_it_is_the_module_in_node(self) -> None:
         words = {it: value for it, value in os.environ.items() if it != "SAXTEGUN_STAGES"}
         script = programs.TOP / "engine/replay.mjs"

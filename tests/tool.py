@@ -39,7 +39,7 @@ def case_named(name: str) -> Case:
 
 def plays(tests: Tests) -> Tests:
     """Marks tests that play: they are left out where the program is not there. Their names begin with Day, by which ./check finds them."""
-    return unittest.skipUnless(os.access(PROGRAM, os.X_OK), "the program is not built, and SAXTEGUN_PROGRAM names none")(tests)
+    return unittest.skipUnless(os.access(PROGRAM, os.X_OK), "the program is not built, and SAXTEGUN_PROGRAM names none: dev/build pz_replayer builds it")(tests)
 
 
 def environment() -> Dict[str, str]:
