@@ -103,7 +103,10 @@ class KeepingTests(MixedIn):
 
     def test_a_recording_with_its_name_and_a_file_with_what_can_be_put_back(self) -> None:
         self.page.hand("mine.json", DAY)
-        self.page.browser.until("document.getElementById('file-name').textContent", "mine.json")
+        self.page.browser.until("document.getElementById('file-name').textContent === 'mine.json' && document.getElementById('played').textContent !== ''", True)
+        # what differs is opened by then, and not beside the keys that come
+        self.page.wait()
+        self.page.value("(document.getElementById('new').click(), 1)")
         self.page.work("one", "ArrowLeft", "ArrowUp")
         self.page.value("(document.getElementById('new').click(), 1)")
         self.page.work("two", "ArrowUp")
